@@ -1,0 +1,10 @@
+pub mod Views
+pub mod Order
+pub mod Joins
+pub mod Held
+pub mod Tails
+pub mod Combine
+pub mod Sound
+pub mod Complete
+pub mod Single
+pub mod Runs

@@ -1,0 +1,12 @@
+-- Document 01's definitions, one file a subject, in its order.
+pub mod Location
+pub mod Blocks
+pub mod Places
+pub mod Rows
+pub mod Runs
+pub mod Causes
+pub mod Calls
+pub mod Recording
+pub mod BlockStream
+pub mod Program
+pub mod Starred
