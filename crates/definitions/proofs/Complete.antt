@@ -1,4 +1,4 @@
--- Wherever the query stands, the ends has a place. Assumes nothing.
+-- Wherever the query stands, the table has a place. Assumes nothing.
 use Prim.Native.Nat.{ℕ, suc, _+_, _≤_, _<_, min, max}
 use native.Mathlib.Nat.{not-suc-le-zero}
 use native.Mathlib.Omega.{arith}

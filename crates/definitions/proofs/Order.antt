@@ -1,10 +1,12 @@
 -- The order of locations, and sorted lists of them. Assumes nothing.
-use Prim.Native.Nat.{ℕ, suc, _+_, _≤_, _<_, compare, Ordering, Ordering·lt, Ordering·eq, Ordering·gt}
+use Prim.Native.Nat.{ℕ, zero, suc, _+_, _≤_, _<_, compare, Ordering, Ordering·lt, Ordering·eq, Ordering·gt}
+use native.Mathlib.Nat.{le-of-suc-le-suc, not-suc-le-zero}
 use native.Mathlib.Omega.{arith}
 use mathlib.Core.Path.{_≡_, refl, sym, ap, _∙_, subst}
 use mathlib.Core.Bool.{Bool, true, false}
 use mathlib.Core.Logic.{_⊎_, inl, inr}
 use mathlib.Core.List.{List, [], _∷_, _++_, List·Memᴰ as Mem, List·Memᴰ·head as here, List·Memᴰ·tail as later, List·Memᴰ·cases-cons as split, List·Memᴰ·not-nil as not-nil, Memᴰ·cast as cast}
+use lib.ListN.{length, getD}
 use lib.Dec.{leb, eqb, isLe, isEq}
 use borrow.Author.Tests.{leb-true, leb-false, eqb-true, eqb-false}
 use Rattle.definitions.specs.Location.{Location, order, or-else, placed, insert, normal, Sorted}
@@ -185,3 +187,9 @@ same-lists (l ∷ ls) (m ∷ ms) s t f g = both (same-lists ls ms (s .1) (t .1) 
 
     both : ls ≡ ms → l ∷ ls ≡ m ∷ ms
     both e = cc head
+
+-- an element at an index is a member
+pub mem-getD : (xs : List ℕ) (i : ℕ) → i < length xs → Mem (getD xs i 0) xs
+mem-getD [] i h = absurd (not-suc-le-zero h)
+mem-getD (x ∷ xs) zero h = here refl
+mem-getD (x ∷ xs) (suc i) h = later (mem-getD xs i (le-of-suc-le-suc h))

@@ -1,4 +1,4 @@
--- Every place of the ends is one where the query stands. Assumes nothing.
+-- Every place of the table is one where the query stands. Assumes nothing.
 use Prim.Native.Nat.{ℕ, suc, _+_, _≤_, _<_, min, max}
 use native.Mathlib.Omega.{arith}
 use mathlib.Core.Path.{_≡_, refl, sym, ap, _∙_, subst}

@@ -2,11 +2,12 @@
 use Prim.Native.Nat.{ℕ, _≤_, _<_}
 use native.Mathlib.Omega.{arith}
 use mathlib.Core.Path.{_≡_, refl}
-use mathlib.Core.Bool.{Bool, true, false, _&&_}
+use mathlib.Core.Bool.{Bool, true, false, _&&_, cond}
 use mathlib.Core.Logic.{_⊎_, inl, inr}
-use lib.Dec.{ltb, eqb}
-use borrow.Author.Tests.{ltb-true, ltb-false, eqb-true, eqb-false}
-use Rattle.definitions.specs.Location.{Location, Lives, meets, common}
+use mathlib.Core.Option.{Option, none, some}
+use lib.Dec.{ltb, leb, eqb}
+use borrow.Author.Tests.{ltb-true, ltb-false, leb-true, leb-false, eqb-true, eqb-false, lt-ltb}
+use Rattle.definitions.specs.Location.{Location, meets, common, overlap}
 use Rattle.definitions.specs.Rows.{goes-on}
 
 abbrev pub Eq : Bool → ℕ → ℕ → Type 0
@@ -30,6 +31,17 @@ lt a b = go (ltb a b) refl
     go : (o : Bool) → ltb a b ≡ o → Lt o a b
     go true e = ltb-true a b e
     go false e = ltb-false a b e
+
+abbrev pub Le : Bool → ℕ → ℕ → Type 0
+Le true a b = a ≤ b
+Le false a b = b < a
+
+pub le : (a b : ℕ) → Le (leb a b) a b
+le a b = go (leb a b) refl
+  where
+    go : (o : Bool) → leb a b ≡ o → Le o a b
+    go true e = leb-true a b e
+    go false e = leb-false a b e
 
 -- a < b or not, for a split in a proof
 pub lt-or-le : (a b : ℕ) → (a < b) ⊎ (b ≤ a)
@@ -64,3 +76,20 @@ join l e m = go (eqb (m .address) e) (ltb (l .created) (m .destroyed)) (ltb (m .
     go true true false p q r = λ x y z. omega arith
     go true false o₃ p q r = λ x y z. omega arith
     go false o₂ o₃ p q r = λ x _ _. p x
+
+-- what an overlap tells, and where there is one
+pub record Overlaps (l m x : Location) : Type 0 where
+  pub left : l .created < m .destroyed
+  pub right : m .created < l .destroyed
+  pub is : x ≡ common l m
+
+pub overlap-is : (l m x : Location) → overlap l m ≡ some x → Overlaps l m x
+overlap-is l m x e = go (ltb (l .created) (m .destroyed)) (ltb (m .created) (l .destroyed)) (lt (l .created) (m .destroyed)) (lt (m .created) (l .destroyed)) e
+  where
+    go : (o₁ o₂ : Bool) → Lt o₁ (l .created) (m .destroyed) → Lt o₂ (m .created) (l .destroyed) → cond (o₁ && o₂) (some (common l m)) none ≡ some x → Overlaps l m x
+    go true true h k f = record { left = h; right = k; is = cc }
+    go true false h k f = absurd (let z : _≡_ {A = ℕ} 0 1 = cc in omega arith)
+    go false o₂ h k f = absurd (let z : _≡_ {A = ℕ} 0 1 = cc in omega arith)
+
+pub overlap-some : (l m : Location) → l .created < m .destroyed → m .created < l .destroyed → overlap l m ≡ some (common l m)
+overlap-some l m h k = rw (lt-ltb (l .created) (m .destroyed) h, lt-ltb (m .created) (l .destroyed) k)

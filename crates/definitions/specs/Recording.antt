@@ -1,8 +1,9 @@
 -- Document 01: a recording is any list of record, finish and search calls on a newly opened index. Assumes nothing.
-use Prim.Native.Nat.{ℕ}
+use Prim.Native.Nat.{ℕ, _+_, _≤_, _<_}
 use mathlib.Core.List.{List, [], _∷_, List·Memᴰ}
+use lib.ListN.{length}
 use Rattle.definitions.specs.Blocks.{Block}
-use Rattle.definitions.specs.Calls.{Capacity, Recorded, fresh, recorded, finished-now}
+use Rattle.definitions.specs.Calls.{Capacity, Recorded, fresh, recorded, finished-now, data-limit, last-number}
 
 pub data Call : Type 0 where
   record-block : (kind : ℕ) → Block → Call
@@ -28,3 +29,9 @@ taken c ks = after-all c fresh ks .blocks
 -- a finished recording has at least one finish in it
 abbrev pub Finished : List Call → Type 0
 Finished ks = List·Memᴰ finish ks
+
+-- what passes the checks behind refusals 4, 5 and 6
+pub record Sound (b : Block) : Type 0 where
+  pub short : length (b .bytes) ≤ data-limit
+  pub alive : b .at .created < b .at .destroyed
+  pub below : b .at .address + length (b .bytes) ≤ last-number

@@ -4,9 +4,9 @@ use mathlib.Core.Path.{_≡_}
 use mathlib.Core.Logic.{_↔_}
 use mathlib.Core.List.{List, [], _∷_, List·Memᴰ}
 use lib.ListN.{length, getD}
-use Rattle.definitions.specs.Location.{Location, Lives}
+use Rattle.definitions.specs.Location.{Location, Lives, Sorted}
 use Rattle.definitions.specs.Blocks.{Block, pieces-of}
-use Rattle.definitions.specs.Rows.{rows}
+use Rattle.definitions.specs.Rows.{rows, Before}
 
 -- byte b is held at address a and tick t: a block has b at a and lives at t
 pub record Holds (bs : List Block) (b a t : ℕ) : Type 0 where
@@ -28,6 +28,11 @@ pub record LongestRun (bs : List Block) (q : List ℕ) (r : Location) : Type 0 w
   pub all : (t : ℕ) → Lives r t → Stands bs q (r .address) t
   pub ends : ¬ Stands bs q (r .address) (r .destroyed)
   pub begins : (t : ℕ) → suc t ≡ r .created → ¬ Stands bs q (r .address) t
+
+-- the rows of a query are exactly its longest runs, each once, by address and then first tick
+pub record RowsAreRuns (bs : List Block) (q : List ℕ) : Type 0 where
+  pub exactly : (r : Location) → List·Memᴰ r (rows (pieces-of bs) q) ↔ LongestRun bs q r
+  pub in-order : Sorted Before (rows (pieces-of bs) q)
 
 -- ── consistent ──
 

@@ -2,7 +2,7 @@
 use Prim.Native.Nat.{ℕ}
 use mathlib.Core.Path.{_≡_, refl}
 use mathlib.Core.List.{List, [], _∷_, _++_}
-use Rattle.definitions.specs.Location.{Location}
+use Rattle.definitions.specs.Location.{Location, normal}
 use Rattle.definitions.specs.Blocks.{Block, pieces}
 use Rattle.definitions.specs.Calls.{fresh}
 use Rattle.definitions.specs.Program.{Form, block, finish, find, Reply, taken, finished, place, end, refused, run, text, line, reply-line}
@@ -58,6 +58,10 @@ starred-right = (refl, (refl, (refl, (refl, (refl, (refl, (refl, (refl, (refl, (
 -- recording 8's pieces: cut from the front, the hindmost first
 pieces-from-the-front : pieces (bytes-at seventeen 200 1 2) ≡ bytes-at (16 ∷ []) 216 1 2 ∷ bytes-at (0 ∷ 1 ∷ 2 ∷ 3 ∷ 4 ∷ 5 ∷ 6 ∷ 7 ∷ 8 ∷ 9 ∷ 10 ∷ 11 ∷ 12 ∷ 13 ∷ 14 ∷ 15 ∷ []) 200 1 2 ∷ []
 pieces-from-the-front = refl
+
+-- the end is part of the order
+ends-are-ordered : normal (location 0 1 3 ∷ location 0 1 2 ∷ []) ≡ location 0 1 2 ∷ location 0 1 3 ∷ []
+ends-are-ordered = refl
 
 -- the sample's lines, in and out
 first-line : line (memory (0x61 ∷ 0x62 ∷ 0x63 ∷ []) 100 10 50) ≡ text "(block 1 100 10 50 (616263))"
