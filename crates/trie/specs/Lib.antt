@@ -1,0 +1,5 @@
+pub mod Trie
+pub mod Rule
+pub mod Local
+pub mod Build
+pub mod Example
