@@ -1,0 +1,1 @@
+//! Stand-in for a module that is not at hand.

@@ -1,0 +1,48 @@
+//! The published index as it is, driven by the forms of `places`: blocks are recorded, finish finalizes, find prints rows.
+//! No check of document 01 is made here: hand over only the blocks that were taken.
+#![allow(dead_code)]
+mod index;
+
+use dataflow::prelude::SpaceKind;
+use index::string_index::StringIndex;
+use index::{Index, SpacetimeBlock};
+use std::io::{self, BufRead};
+
+fn hex(s: &str) -> Vec<u8> {
+    (0..s.len() / 2).map(|i| u8::from_str_radix(&s[2 * i..2 * i + 2], 16).unwrap()).collect()
+}
+
+fn main() {
+    let mut idx = StringIndex::new(Vec::new());
+    for line in io::stdin().lock().lines() {
+        let line = line.unwrap();
+        let words: Vec<&str> = line.split(|c| " ()".contains(c)).filter(|w| !w.is_empty()).collect();
+        match words.first().copied() {
+            Some("block") if words[1] == "1" => {
+                let data = hex(words.get(5).copied().unwrap_or(""));
+                idx.record(SpacetimeBlock {
+                    space: SpaceKind::Memory,
+                    address: words[2].parse().unwrap(),
+                    len: data.len(),
+                    created_at: words[3].parse().unwrap(),
+                    destroyed_at: words[4].parse().unwrap(),
+                    data,
+                });
+                println!("(taken)");
+            }
+            Some("block") => println!("(taken)"),
+            Some("finish") => {
+                idx.finalize();
+                println!("(finished)");
+            }
+            Some("find") => {
+                let rows = idx.search(&hex(words.get(1).copied().unwrap_or("")));
+                for r in &rows {
+                    println!("(place {} {} {})", r.address, r.created_at, r.destroyed_at);
+                }
+                println!("(end {})", rows.len());
+            }
+            _ => println!("(refused 17)"),
+        }
+    }
+}
