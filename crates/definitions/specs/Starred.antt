@@ -55,6 +55,16 @@ Right (e ∷ es) = (run fresh (e .input) ≡ e .output) × Right es
 starred-right : Right starred
 starred-right = (refl, (refl, (refl, (refl, (refl, (refl, (refl, (refl, (refl, (refl, tt))))))))))
 
+-- equal addresses are looked up from the first on, in every list (docs/DIFFERENCES.md)
+abbrev pub equal-addresses : List Entry
+equal-addresses =
+    record { input = memory (0x61 ∷ []) 0 1 9 ∷ memory (0x62 ∷ []) 1 1 3 ∷ memory (0x62 ∷ []) 1 3 5 ∷ finish ∷ find (0x61 ∷ 0x62 ∷ []) ∷ []; output = answered (row 0 1 5 ∷ end 1 ∷ []) } ∷
+    record { input = memory (0x61 ∷ []) 0 1 3 ∷ memory (0x61 ∷ []) 0 3 5 ∷ memory (0x62 ∷ 0x63 ∷ []) 1 1 9 ∷ finish ∷ find (0x61 ∷ 0x62 ∷ 0x63 ∷ []) ∷ []; output = answered (row 0 1 5 ∷ end 1 ∷ []) } ∷
+    record { input = memory (0x61 ∷ []) 0 1 9 ∷ memory (0x62 ∷ 0x63 ∷ []) 1 1 3 ∷ memory (0x62 ∷ []) 1 3 9 ∷ finish ∷ find (0x61 ∷ 0x62 ∷ []) ∷ []; output = answered (row 0 1 9 ∷ end 1 ∷ []) } ∷ []
+
+equal-addresses-right : Right equal-addresses
+equal-addresses-right = (refl, (refl, (refl, tt)))
+
 -- recording 8's pieces: cut from the front, the hindmost first
 pieces-from-the-front : pieces (bytes-at seventeen 200 1 2) ≡ bytes-at (16 ∷ []) 216 1 2 ∷ bytes-at (0 ∷ 1 ∷ 2 ∷ 3 ∷ 4 ∷ 5 ∷ 6 ∷ 7 ∷ 8 ∷ 9 ∷ 10 ∷ 11 ∷ 12 ∷ 13 ∷ 14 ∷ 15 ∷ []) 200 1 2 ∷ []
 pieces-from-the-front = refl
