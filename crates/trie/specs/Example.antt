@@ -12,7 +12,7 @@ one-block = refl
 two-bytes : trie-of (bytes-at (0x62 ∷ 0x61 ∷ []) 5 1 2 ∷ []) ≡ root (record {
   lists = record { prefixes = []; chunks = []; suffixes = location 5 1 2 ∷ [] };
   children =
-    more 0x61 (record { prefixes = location 6 1 2 ∷ []; chunks = []; suffixes = [] }) leaf
-    (more 0x62 (record { prefixes = []; chunks = []; suffixes = location 5 1 2 ∷ [] }) (more 0x61 (record { prefixes = []; chunks = location 5 1 2 ∷ []; suffixes = [] }) leaf leaf) leaf);
+      more 0x61 (record { prefixes = location 6 1 2 ∷ []; chunks = []; suffixes = [] }) leaf
+      (more 0x62 (record { prefixes = []; chunks = []; suffixes = location 5 1 2 ∷ [] }) (more 0x61 (record { prefixes = []; chunks = location 5 1 2 ∷ []; suffixes = [] }) leaf leaf) leaf);
 })
 two-bytes = refl
