@@ -1,7 +1,7 @@
 -- Document 01, "Location": where something stands, from which tick on and until which; the order of locations; overlap.
 -- Assumes nothing.
 use Prim.Native.Nat.{ℕ, _+_, _≤_, _<_, min, max, compare, Ordering, Ordering·lt, Ordering·eq, Ordering·gt}
-use mathlib.Core.Bool.{Bool, _&&_, cond}
+use mathlib.Core.Bool.{Bool, true, false, _&&_, cond}
 use mathlib.Core.List.{List, [], _∷_, _++_, List·Memᴰ}
 use mathlib.Core.Option.{Option, none, some}
 use lib.Dec.{ltb}
@@ -45,6 +45,12 @@ or-else Ordering·gt o = Ordering·gt
 
 abbrev pub order : Location → Location → Ordering
 order l m = or-else (compare (l .address) (m .address)) (or-else (compare (l .created) (m .created)) (compare (l .destroyed) (m .destroyed)))
+
+-- whether a comparison says: the first comes before the second
+abbrev pub is-lt : Ordering → Bool
+is-lt Ordering·lt = true
+is-lt Ordering·eq = false
+is-lt Ordering·gt = false
 
 -- every member stands in R to each one behind it
 abbrev pub Sorted : (Location → Location → Type 0) → List Location → Type 0

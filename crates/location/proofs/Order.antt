@@ -9,7 +9,7 @@ use mathlib.Core.Option.{none, some}
 use lib.Dec.{ltb, leb·suc-suc}
 use borrow.Author.Tests.{lt-ltb, le-ltb}
 use Rattle.definitions.specs.Location.{Location, overlap, common, order}
-use Rattle.location.specs.Plain.{is-lt}
+use Rattle.definitions.specs.Location.{is-lt}
 
 -- ---- `compare`, by the order of two numbers
 pub compare-lt : (a b : ℕ) → a < b → compare a b ≡ Ordering·lt

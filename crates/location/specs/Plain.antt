@@ -1,6 +1,4 @@
 -- The code's locations as those of the definitions, and the meaning of what the code answers. Assumes nothing.
-use Prim.Native.Nat.{Ordering, Ordering·lt, Ordering·eq, Ordering·gt}
-use mathlib.Core.Bool.{Bool, true, false}
 use mathlib.Core.Option.{Option, none, some}
 use Rattle.definitions.specs.Location.{Location}
 use Rattle.location.specs.declared.SpacetimeLocation.{SpacetimeLocation}
@@ -15,9 +13,3 @@ plain l = record { address = l .address .0; created = l .«created_at» .0; dest
 abbrev pub common-of : Common → Option Location
 common-of (Life l) = some (plain l)
 common-of Nothing = none
-
--- whether an answer of the order says: the first comes before the second
-abbrev pub is-lt : Ordering → Bool
-is-lt Ordering·lt = true
-is-lt Ordering·eq = false
-is-lt Ordering·gt = false

@@ -4,7 +4,7 @@ ghost use Prim.Native.Nat.{_+_, _^_, _≤_, _<_, min, max};
 ghost use lib.ListN.{length};
 ghost use lib.Seq.{sets};
 ghost use Rattle.definitions.specs.Location as D;
-ghost use Rattle.location.specs.Plain.{plain, common-of, is-lt};
+ghost use Rattle.location.specs.Plain.{plain, common-of};
 
 // An address. It is added only to byte counts.
 pub struct Address(pub u64);
@@ -81,7 +81,7 @@ impl SpacetimeLocation {
 
     // Whether it comes first in the order of locations: address, creation, end.
     pub fn before(self, other: SpacetimeLocation) -> bool
-        ensures { λ r. ⌜ r ≡ is-lt (D.order (plain self) (plain other)) ⌝ }
+        ensures { λ r. ⌜ r ≡ D.is-lt (D.order (plain self) (plain other)) ⌝ }
     {
         if self.address.0 < other.address.0 {
             return true;

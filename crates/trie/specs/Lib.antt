@@ -1,5 +1,6 @@
 pub mod Trie
 pub mod Rule
 pub mod Local
+pub mod Test
 pub mod Build
 pub mod Example
