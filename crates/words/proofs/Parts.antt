@@ -1,17 +1,16 @@
 -- The laws of `sets`, which writes a list over a part of another, and of `bytesN`, the bytes of a number.
--- Assumes nothing.
 use Prim.Native.Nat.{ℕ, zero, suc, _+_, _-_, _*_, _/_, _%_, _^_, _≤_, _<_}
 use native.Mathlib.Nat.{not-suc-le-zero, add-zero}
 use native.Mathlib.Numerals.{add-one}
 use native.Mathlib.Decide.{decLt}
 use native.Mathlib.Omega.{arith}
-use mathlib.Core.Path.{_≡_, refl, sym, ap, subst, _∙_}
+use mathlib.Core.Path.{_≡_, refl, sym, ap, _∙_}
 use mathlib.Core.Logic.{_⊎_, inl, inr}
 use mathlib.Core.List.{List, [], _∷_, _++_, append-assoc}
-use lib.ListN.{length, getD, set, take, drop, replicate, length-set, length-append, length-take, length-drop}
+use lib.ListN.{length, getD, set, take, drop, replicate, length-set, length-take, length-drop}
 use lib.Seq.{sets, length-sets, sets-eq, getD-set-same, getD-set-other, getD-take, getD-drop, drop-cons, drop-at, take-append-seam, ext-getD}
 use Rattle.words.specs.Words.{leN, setN, bytesN, le64, setLe64, bytes64}
-use Rattle.words.proofs.Laws.{top, Outside, leN-setN, le64-ext}
+use Rattle.words.proofs.Laws.{top, Outside, le64-ext}
 
 pub lt-or-ge : (m n : ℕ) → (m < n) ⊎ (n ≤ m)
 lt-or-ge m n = go (decLt m n)

@@ -1,5 +1,4 @@
 -- Numbers in a list of bytes, lowest byte first. `leN n xs at` is the number of the n bytes from index `at`, `setN n xs at v` is xs with v's lowest n bytes there, and `bytesN n v` is those bytes.
--- Assumes nothing.
 use Prim.Native.Nat.{ℕ, zero, suc, _+_, _*_, _/_, _%_}
 use mathlib.Core.List.{List, [], _∷_}
 use lib.ListN.{getD, set}
