@@ -16,3 +16,5 @@ pub mod BuildRule
 pub mod BuildPieces
 pub mod BuildCounts
 pub mod BuildOrder
+pub mod Along
+pub mod Find

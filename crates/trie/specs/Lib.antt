@@ -3,4 +3,5 @@ pub mod Rule
 pub mod Local
 pub mod Test
 pub mod Build
+pub mod Find
 pub mod Example
