@@ -1,6 +1,6 @@
 -- Document 01, "Location": where something stands, from which tick on and until which; the order of locations; overlap.
 -- Assumes nothing.
-use Prim.Native.Nat.{ℕ, _+_, _≤_, _<_, min, max, compare, Ordering, Ordering·lt, Ordering·eq, Ordering·gt}
+use Prim.Native.Nat.{ℕ, zero, suc, _+_, _≤_, _<_, min, max, compare, Ordering, Ordering·lt, Ordering·eq, Ordering·gt}
 use mathlib.Core.Bool.{Bool, true, false, _&&_, cond}
 use mathlib.Core.List.{List, [], _∷_, _++_, List·Memᴰ}
 use mathlib.Core.Option.{Option, none, some}
@@ -80,3 +80,12 @@ location-at s p = record { address = le64 s p; created = le64 s (p + 8); destroy
 
 abbrev pub location-bytes : Location → List ℕ
 location-bytes l = bytes64 (l .address) ++ bytes64 (l .created) ++ bytes64 (l .destroyed)
+
+-- n locations from index p on
+unfoldable pub locations-in : List ℕ → ℕ → ℕ → List Location
+locations-in s zero p = []
+locations-in s (suc n) p = location-at s p ∷ locations-in s n (p + 24)
+
+unfoldable pub locations-bytes : List Location → List ℕ
+locations-bytes [] = []
+locations-bytes (l ∷ ls) = location-bytes l ++ locations-bytes ls
