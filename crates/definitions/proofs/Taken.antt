@@ -90,7 +90,7 @@ right-recorded c s kind b r = go (eqb kind 1) refl (record-answer c s kind b) re
     go true e none f = right-added c s b r (memory e f)
     go false e none f = r
 
-right-after : (c : Capacity) (s : Recorded) (k : Call) → Right c s → Right c (after c s k)
+pub right-after : (c : Capacity) (s : Recorded) (k : Call) → Right c s → Right c (after c s k)
 right-after c s (record-block kind b) r = right-recorded c s kind b r
 right-after c s finish r = record { sound = r .sound; nodes = r .nodes; entries = r .entries }
 right-after c s (search q scratch room) r = r
