@@ -1,0 +1,1 @@
+pub const TAIL_SIZE: usize = 56;
