@@ -1,0 +1,60 @@
+-- The bytes of a number, of a list that was read stand where they were read. Assumes nothing.
+-- every byte of s is a byte
+use Prim.Native.Nat.{_%_, _*_, _+_, _/_, _<_, suc, zero, ℕ}
+use native.Mathlib.Omega.{arith}
+use mathlib.Core.List.{List, [], _++_, _∷_}
+use mathlib.Core.Path.{_≡_, ap, refl, sym}
+use lib.ListN.{getD, length, length-append}
+use Rattle.definitions.specs.Location.{locations-in, locations-bytes}
+use Rattle.words.proofs.Parts.{length-bytes64}
+use Rattle.words.specs.Words.{bytes64, bytesN, le64, leN}
+use Rattle.image.proofs.Holding.{Holds, holds-at}
+use Rattle.image.specs.Image.{list-bytes}
+
+abbrev pub AllBytes : List ℕ → Type 0
+AllBytes s = (i : ℕ) → getD s i 0 < 256
+
+pub holds-append : (s : List ℕ) (at n : ℕ) (xs ys : List ℕ) → length xs ≡ n → Holds s at xs → Holds s (at + n) ys → Holds s at (xs ++ ys)
+unfolding Holds
+holds-append s at n [] ys e h g = holds-at s (at + n) at ys (omega arith) g
+holds-append s at n (x ∷ xs) ys e h g =
+    (h .0, holds-append s (at + 1) (length xs) xs ys refl (h .1) (holds-at s (at + n) (at + 1 + length xs) ys (omega arith) g))
+
+-- the bytes of a number that was read stand there
+holds-num : (k : ℕ) (s : List ℕ) (at : ℕ) → AllBytes s → Holds s at (bytesN k (leN k s at))
+unfolding Holds bytesN leN
+holds-num zero s at a = tt
+holds-num (suc k) s at a =
+    let n = leN k s (at + 1) in
+    let r : (getD s at 0 + 256 * n) % 256 ≡ getD s at 0 = omega (arith, a at) in
+    let q : (getD s at 0 + 256 * n) / 256 ≡ n = omega (arith, a at) in
+    (sym r, rw q (holds-num k s (at + 1) a))
+
+pub holds-read : (s : List ℕ) (at : ℕ) → AllBytes s → Holds s at (bytes64 (le64 s at))
+unfolding bytes64 le64
+holds-read s at a = holds-num 8 s at a
+
+pub locs-read : (s : List ℕ) (n at : ℕ) → AllBytes s → Holds s at (locations-bytes (locations-in s n at))
+unfolding Holds locations-bytes locations-in
+locs-read s zero at a = tt
+locs-read s (suc n) at a =
+    let x = bytes64 (le64 s at) in
+    let y = bytes64 (le64 s (at + 8)) in
+    let z = bytes64 (le64 s (at + 16)) in
+    let xy : length (x ++ y) ≡ 16 = simp (length-append, length-bytes64) in
+    let len : length (x ++ y ++ z) ≡ 24 = simp (length-append, length-bytes64) in
+    holds-append s at 24 (x ++ y ++ z) (locations-bytes (locations-in s n (at + 24))) len
+    (holds-append s at 16 (x ++ y) z xy
+    (holds-append s at 8 x y (length-bytes64 (le64 s at)) (holds-read s at a) (holds-read s (at + 8) a)) (holds-read s (at + 16) a))
+    (locs-read s n (at + 24) a)
+
+pub count-locs : (s : List ℕ) (n x : ℕ) → length (locations-in s n x) ≡ n
+unfolding locations-in
+count-locs s zero x = refl
+count-locs s (suc n) x = ap suc (count-locs s n (x + 24))
+
+pub list-read : (s : List ℕ) (x : ℕ) → AllBytes s → Holds s x (list-bytes (locations-in s (le64 s x) (x + 8)))
+unfolding list-bytes
+list-read s x a =
+    rw (count-locs s (le64 s x) (x + 8))
+    (holds-append s x 8 (bytes64 (le64 s x)) (locations-bytes (locations-in s (le64 s x) (x + 8))) (length-bytes64 (le64 s x)) (holds-read s x a) (locs-read s (le64 s x) (x + 8) a))

@@ -1,0 +1,502 @@
+// The layout of a saved image, read in its own order: the first faulty field decides.
+ghost use mathlib.Core.Path.{_≡_};
+ghost use Prim.Native.Nat.{_+_, _*_, _≤_, _<_};
+ghost use lib.ListN.{length};
+ghost use lib.Dec.{eqb};
+ghost use mathlib.Core.Bool.{cond};
+ghost use Rattle.image.specs.Kinds.{kind-of, fits};
+ghost use Rattle.image.specs.Reading.{offset, find-byte, table-fault, slot-turn, turn-at, all-met, read-list, read-head, open-table, read-table, read-node, read-counts, read-root, read-image};
+ghost use Rattle.image.specs.Answers.{layout-of, step-of, list-of, head-of, table-in, table-of, turn-of, Within, Nearer, Least, Skips};
+
+// A node kind with its lowest and its highest child count.
+pub struct KindRange {
+    pub kind: u8,
+    pub lowest: usize,
+    pub highest: usize,
+}
+
+pub const KINDS: [KindRange; 3] = [
+    KindRange {
+        kind: 3,
+        lowest: 0,
+        highest: 8,
+    },
+    KindRange {
+        kind: 2,
+        lowest: 9,
+        highest: 96,
+    },
+    KindRange {
+        kind: 1,
+        lowest: 97,
+        highest: 256,
+    },
+];
+
+// The nodes and entries of an image.
+pub struct Tally {
+    pub nodes: usize,
+    pub entries: usize,
+}
+
+pub enum Layout {
+    Right(Tally),
+    Refused(u64),
+}
+
+// Where a part of an image ends and what it counts, or its refusal; 0 where there is none. (A struct, and no enum: the
+// reader's speed is that of copying this answer from level to level, and an enum of a number has seven bytes between.)
+pub struct Past {
+    pub at: usize,
+    pub refusal: u64,
+    pub nodes: usize,
+    pub entries: usize,
+}
+
+// A node up to its table: its kind, where its lists end and what they count, or a refusal.
+pub struct Head {
+    pub kind: u8,
+    pub at: usize,
+    pub entries: usize,
+    pub refusal: u64,
+}
+
+// The children of a node: where its table stands and how many entries that has, where the first flag is due, and how
+// many turns there are; or a refusal.
+pub struct Children {
+    pub kind: u8,
+    pub base: usize,
+    pub count: usize,
+    pub start: usize,
+    pub turns: usize,
+    pub refusal: u64,
+}
+
+// What stands where a child is due.
+pub enum Due {
+    Child,
+    Gap,
+    Nothing,
+    Wrong(u64),
+}
+
+// The kind of a node with that many children; 0 beyond the table.
+pub fn kind_of(children: usize) -> u8
+    ensures { λ r. ⌜ r ≡ kind-of children ⌝ }
+{
+    let mut i = 0;
+    while i < 3 {
+        let k = KINDS[i];
+        if k.lowest <= children {
+            if children <= k.highest {
+                return k.kind;
+            }
+        }
+        i += 1;
+    }
+    0
+}
+
+// Whether a node of kind 1, 2 or 3 may have that many children.
+pub fn fits_kind(kind: u8, children: usize) -> bool
+    requires { ⌜ (1 ≤ kind) × (kind ≤ 3) ⌝ }
+    ensures { λ r. ⌜ r ≡ fits kind children ⌝ }
+{
+    let i = 3 - kind as usize;
+    let k = KINDS[i];
+    if children < k.lowest {
+        return false;
+    }
+    children <= k.highest
+}
+
+fn refuse(n: u64) -> Past
+    ensures { λ r. ⌜ r .refusal ≡ n ⌝ }
+{
+    Past {
+        at: 0,
+        refusal: n,
+        nodes: 0,
+        entries: 0,
+    }
+}
+
+fn refuse_head(n: u64) -> Head
+    ensures { λ r. ⌜ r .refusal ≡ n ⌝ }
+{
+    Head {
+        kind: 0,
+        at: 0,
+        entries: 0,
+        refusal: n,
+    }
+}
+
+fn refuse_children(n: u64) -> Children
+    ensures { λ r. ⌜ r .refusal ≡ n ⌝ }
+{
+    Children {
+        kind: 0,
+        base: 0,
+        count: 0,
+        start: 0,
+        turns: 0,
+        refusal: n,
+    }
+}
+
+// A list: its count and its locations.
+fn read_list(s: &[u8], at: usize) -> Past
+    requires { ⌜ at ≤ length (now s) ⌝ }
+    ensures { λ r. ⌜ list-of r ≡ read-list (now (s .entry)) at ⌝ }
+{
+    let room = s.len() - at;
+    if room < 8 {
+        return refuse(13);
+    }
+    let n = words::get64(s, at) as usize;
+    if (room - 8) / 24 < n {
+        return refuse(13);
+    }
+    Past {
+        at: at + 8 + n * 24,
+        refusal: 0,
+        nodes: 0,
+        entries: n,
+    }
+}
+
+// The node at an index up to its table: its kind and its three lists.
+fn read_head(s: &[u8], at: usize) -> Head
+    requires { ⌜ at ≤ length (now s) ⌝ }
+    ensures { λ r. ⌜ head-of r ≡ read-head (now (s .entry)) at ⌝ }
+{
+    if at == s.len() {
+        return refuse_head(13);
+    }
+    let kind = s[at];
+    if kind == 0 {
+        return refuse_head(14);
+    }
+    if 3 < kind {
+        return refuse_head(14);
+    }
+    let a = read_list(s, at + 1);
+    if a.refusal != 0 {
+        return refuse_head(13);
+    }
+    let b = read_list(s, a.at);
+    if b.refusal != 0 {
+        return refuse_head(13);
+    }
+    let c = read_list(s, b.at);
+    if c.refusal != 0 {
+        return refuse_head(13);
+    }
+    Head {
+        kind,
+        at: c.at,
+        entries: a.entries + b.entries + c.entries,
+        refusal: 0,
+    }
+}
+
+// The first of the n entries of a table whose byte is b, or n.
+fn find_byte(s: &[u8], base: usize, n: usize, b: u8) -> usize
+    requires { ⌜ base + n * 9 ≤ length (now s) ⌝ }
+    ensures { λ r. ⌜ r ≡ find-byte (now (s .entry)) base b n 0 ⌝ }
+{
+    let mut j = 0;
+    while j < n {
+        if s[base + j * 9] == b {
+            return j;
+        }
+        j += 1;
+    }
+    n
+}
+
+// The first fault of a table of n entries; 0 where there is none.
+fn table_fault(s: &[u8], base: usize, n: usize) -> u64
+    requires { ⌜ base ≤ length (now s) ⌝ }
+    ensures { λ r. ⌜ r ≡ table-fault (now (s .entry)) base n 0 ⌝ }
+{
+    let mut i = 0;
+    while i < n {
+        let p = base + i * 9;
+        if p == s.len() {
+            return 13;
+        }
+        if find_byte(s, base, i, s[p]) < i {
+            return 15;
+        }
+        if s.len() - p < 9 {
+            return 13;
+        }
+        i += 1;
+    }
+    0
+}
+
+// The table of kind 1 at an index.
+fn open_dense(s: &[u8], at: usize) -> Children
+    requires { ⌜ at ≤ length (now s) ⌝ }
+    ensures { λ r. ⌜ table-of r ≡ open-table (now (s .entry)) 1 at ⌝ }
+{
+    if s.len() - at < 2048 {
+        return refuse_children(13);
+    }
+    Children {
+        kind: 1,
+        base: at,
+        count: 0,
+        start: at + 2048,
+        turns: 256,
+        refusal: 0,
+    }
+}
+
+// How many turns kind 2 or 3 has with n children.
+fn turns_of(kind: u8, n: usize) -> usize
+    ensures { λ r. ⌜ r ≡ cond (eqb kind 3) n 256 ⌝ }
+{
+    if kind == 3 { n } else { 256 }
+}
+
+// The table at an index, of a node of kind 1, 2 or 3.
+fn open_table(s: &[u8], kind: u8, at: usize) -> Children
+    requires { ⌜ (at ≤ length (now s)) × (1 ≤ kind) × (kind ≤ 3) ⌝ }
+    ensures { λ r. ⌜ table-of r ≡ open-table (now (s .entry)) kind at ⌝ }
+{
+    if kind == 1 {
+        return open_dense(s, at);
+    }
+    if s.len() - at < 8 {
+        return refuse_children(13);
+    }
+    let n = words::get64(s, at) as usize;
+    if !fits_kind(kind, n) {
+        return refuse_children(15);
+    }
+    let base = at + 8;
+    let fault = table_fault(s, base, n);
+    if fault != 0 {
+        return refuse_children(fault);
+    }
+    Children {
+        kind,
+        base,
+        count: n,
+        start: base + n * 9,
+        turns: turns_of(kind, n),
+        refusal: 0,
+    }
+}
+
+// What stands at an index where the flag for an offset is due.
+fn flag_at(s: &[u8], kind: u8, off: u64, at: usize) -> Due
+    ensures { λ r. ⌜ turn-of r ≡ slot-turn (now (s .entry)) kind at (offset off) ⌝ }
+{
+    if off != at as u64 {
+        return Due::Wrong(15);
+    }
+    if s.len() <= at {
+        return Due::Wrong(13);
+    }
+    let flag = s[at];
+    if flag == 1 {
+        return Due::Child;
+    }
+    if flag != 0 {
+        return Due::Wrong(15);
+    }
+    if kind == 1 { Due::Gap } else { Due::Wrong(15) }
+}
+
+// What stands at an index at turn i: kinds 3 and 1 have an offset for each turn, kind 2 for each byte that its table has.
+fn turn_at(s: &[u8], c: Children, i: usize, at: usize) -> Due
+    requires { ⌜ Within (length (now s)) (table-in c) × (i < c .turns) ⌝ }
+    ensures { λ r. ⌜ turn-of r ≡ turn-at (now (s .entry)) (table-in c) i at ⌝ }
+{
+    let base = c.base;
+    if c.kind == 1 {
+        return flag_at(s, c.kind, words::get64(s, base + i * 8), at);
+    }
+    if c.kind == 3 {
+        return flag_at(s, c.kind, words::get64(s, base + i * 9 + 1), at);
+    }
+    let j = find_byte(s, base, c.count, i as u8);
+    if j < c.count {
+        return flag_at(s, c.kind, words::get64(s, base + j * 9 + 1), at);
+    }
+    Due::Nothing
+}
+
+// The lower of least and b, if b is not below low.
+fn nearer(low: usize, least: usize, b: usize) -> usize
+    requires { ⌜ low ≤ least ⌝ }
+    ensures { λ r. ⌜ Nearer low least b r ⌝ }
+{
+    if b < low {
+        return least;
+    }
+    if least <= b {
+        return least;
+    }
+    b
+}
+
+// The least byte from low on in a table of n entries, or 255.
+fn least_byte(s: &[u8], base: usize, n: usize, low: usize) -> usize
+    requires { ⌜ (base + n * 9 ≤ length (now s)) × (low ≤ 255) ⌝ }
+    ensures { λ r. ⌜ Least (now (s .entry)) base n low r ⌝ }
+{
+    let mut least = 255;
+    let mut j = 0;
+    while j < n {
+        least = nearer(low, least, s[base + j * 9] as usize);
+        j += 1;
+    }
+    least
+}
+
+// The next turn from turn i on at which an offset is judged, or the last: in kind 2 the bytes between are not in the table.
+fn next_turn(s: &[u8], c: Children, i: usize) -> usize
+    requires { ⌜ Within (length (now s)) (table-in c) × (i < c .turns) ⌝ }
+    ensures { λ r. ⌜ Skips (now (s .entry)) (table-in c) i r ⌝ }
+{
+    if c.kind != 2 {
+        return i;
+    }
+    least_byte(s, c.base, c.count, i)
+}
+
+// The end of the children, so many met: in kind 1 they must be enough.
+fn all_met(c: Children, met: usize, at: usize, nodes: usize, entries: usize) -> Past
+    ensures { λ r. ⌜ step-of r ≡ all-met (table-in c) at met nodes entries ⌝ }
+{
+    if c.kind == 1 {
+        if !fits_kind(1, met) {
+            return refuse(15);
+        }
+    }
+    Past {
+        at,
+        refusal: 0,
+        nodes,
+        entries,
+    }
+}
+
+// The children of a node, in the order of the layout, with as many levels yet allowed as left says.
+fn read_table(s: &[u8], c: Children, left: usize) -> Past
+    requires { ⌜ Within (length (now s)) (table-in c) ⌝ }
+    ensures { λ r. ⌜ step-of r ≡ read-table (now (s .entry)) (read-node (now (s .entry)) left) (table-in c) ⌝ }
+{
+    let mut at = c.start;
+    let mut met = 0;
+    let mut nodes = 0;
+    let mut entries = 0;
+    let mut i = 0;
+    while i < c.turns {
+        let turn = next_turn(s, c, i);
+        i = turn + 1;
+        match turn_at(s, c, turn, at) {
+            Due::Nothing => {}
+            Due::Gap => at = at + 1,
+            Due::Wrong(n) => return refuse(n),
+            Due::Child => {
+                let child = read_node(s, at + 1, left);
+                if child.refusal != 0 {
+                    return child;
+                }
+                at = child.at;
+                met = met + 1;
+                nodes = nodes + child.nodes;
+                entries = entries + child.entries;
+            }
+        }
+    }
+    all_met(c, met, at, nodes, entries)
+}
+
+// The node at an index, with as many levels yet allowed as left says: where there is none, the flag before it is wrong.
+fn read_node(s: &[u8], at: usize, left: usize) -> Past
+    requires { ⌜ at ≤ length (now s) ⌝ }
+    ensures { λ r. ⌜ step-of r ≡ read-node (now (s .entry)) left at ⌝ }
+{
+    if left == 0 {
+        return refuse(15);
+    }
+    let h = read_head(s, at);
+    if h.refusal != 0 {
+        return refuse(h.refusal);
+    }
+    let c = open_table(s, h.kind, h.at);
+    if c.refusal != 0 {
+        return refuse(c.refusal);
+    }
+    let t = read_table(s, c, left - 1);
+    if t.refusal != 0 {
+        return t;
+    }
+    Past {
+        at: t.at,
+        refusal: 0,
+        nodes: t.nodes + 1,
+        entries: h.entries + t.entries,
+    }
+}
+
+// The image of an empty index: three counts of 0.
+fn read_empty(s: &[u8]) -> Past
+    requires { ⌜ 1 ≤ length (now s) ⌝ }
+    ensures { λ r. ⌜ step-of r ≡ read-counts (now (s .entry)) 3 1 ⌝ }
+{
+    let mut i = 0;
+    while i < 3 {
+        let at = 1 + i * 8;
+        if s.len() - at < 8 {
+            return refuse(13);
+        }
+        if words::get64(s, at) != 0 {
+            return refuse(15);
+        }
+        i += 1;
+    }
+    Past {
+        at: 25,
+        refusal: 0,
+        nodes: 1,
+        entries: 0,
+    }
+}
+
+fn read_root(s: &[u8]) -> Past
+    ensures { λ r. ⌜ step-of r ≡ read-root (now (s .entry)) ⌝ }
+{
+    if s.len() == 0 {
+        return refuse(13);
+    }
+    if s[0] == 0 {
+        return read_empty(s);
+    }
+    read_node(s, 0, 17)
+}
+
+// A whole image: its nodes, at least one, and its entries; or document 01's number of what is wrong.
+pub fn read_image(s: &[u8]) -> Layout
+    ensures { λ r. ⌜ layout-of r ≡ read-image (now (s .entry)) ⌝ }
+{
+    let root = read_root(s);
+    if root.refusal != 0 {
+        return Layout::Refused(root.refusal);
+    }
+    if root.at != s.len() {
+        return Layout::Refused(15);
+    }
+    Layout::Right(Tally {
+        nodes: root.nodes,
+        entries: root.entries,
+    })
+}
