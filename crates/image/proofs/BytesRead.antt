@@ -1,6 +1,5 @@
 -- The bytes of a number, of a list that was read stand where they were read. Assumes nothing.
--- every byte of s is a byte
-use Prim.Native.Nat.{_%_, _*_, _+_, _/_, _<_, suc, zero, ℕ}
+use Prim.Native.Nat.{_%_, _*_, _+_, _/_, suc, zero, ℕ}
 use native.Mathlib.Omega.{arith}
 use mathlib.Core.List.{List, [], _++_, _∷_}
 use mathlib.Core.Path.{_≡_, ap, refl, sym}
@@ -10,9 +9,7 @@ use Rattle.words.proofs.Parts.{length-bytes64}
 use Rattle.words.specs.Words.{bytes64, bytesN, le64, leN}
 use Rattle.image.proofs.Holding.{Holds, holds-at}
 use Rattle.image.specs.Image.{list-bytes}
-
-abbrev pub AllBytes : List ℕ → Type 0
-AllBytes s = (i : ℕ) → getD s i 0 < 256
+use Rattle.image.specs.Savable.{AllBytes}
 
 pub holds-append : (s : List ℕ) (at n : ℕ) (xs ys : List ℕ) → length xs ≡ n → Holds s at xs → Holds s (at + n) ys → Holds s at (xs ++ ys)
 unfolding Holds

@@ -1,5 +1,4 @@
 -- Kind 1: children that were read are those of the slots. Assumes nothing.
--- every byte is below b
 use Prim.Native.Nat.{_*_, _+_, _<_, _≤_, suc, zero, ℕ}
 use native.Mathlib.Omega.{arith}
 use mathlib.Core.Bool.{cond}
@@ -10,9 +9,10 @@ use lib.ListN.{getD, length}
 use borrow.Author.Tests.{eq-eqb, ne-eqb}
 use Rattle.words.proofs.Parts.{length-bytes64}
 use Rattle.words.specs.Words.{bytes64, le64}
+use Rattle.trie.specs.Build.{grow}
 use Rattle.trie.specs.Trie.{Forest, Node, more}
 use Rattle.image.proofs.ByByte.{Bytes, Rising, at-absent, rising-absent, rising-less}
-use Rattle.image.proofs.BytesRead.{AllBytes, holds-append, holds-read}
+use Rattle.image.proofs.BytesRead.{holds-append, holds-read}
 use Rattle.image.proofs.EndedWell.{Turned, by-gap, by-node, child-at, run-last, run-turn}
 use Rattle.image.proofs.Holding.{Holds, holds-at}
 use Rattle.image.proofs.KindThree.{Distinct, Missing}
@@ -24,7 +24,9 @@ use Rattle.image.proofs.Tables.{slot-dense}
 use Rattle.image.specs.Held.{dense-entries, forest-by}
 use Rattle.image.specs.Image.{Child, as-child, children-of, node-bytes, node-size, slot-bytes, slot-offsets, slot-size, slots-bytes, slots-size, with-byte}
 use Rattle.image.specs.Reading.{Table, done, read-node, read-turns}
+use Rattle.image.specs.Savable.{AllBytes}
 
+-- every byte is below b
 unfoldable pub Lower : ℕ → List Child → Type 0
 Lower b [] = Unit
 Lower b (k ∷ ks) = (k .byte < b) × Lower b ks

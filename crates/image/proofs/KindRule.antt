@@ -10,7 +10,7 @@ use lib.Dec.{eqb, leb}
 use lib.ListN.{getD}
 use borrow.Author.Tests.{eqb-true, le-leb, leb-false, leb-true, lt-leb}
 use Rattle.image.specs.Kinds.{fits, kind-of, kinds}
-use Rattle.image.specs.declared.KindRange.{KindRange}
+use Rattle.image.specs.declared.kinds.KindRange.{KindRange}
 
 -- ── the kind of a count ──
 

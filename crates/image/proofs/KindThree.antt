@@ -101,10 +101,10 @@ unfoldable pub AllRead : ℕ → List Child → Type 0
 AllRead d [] = Unit
 AllRead d (k ∷ ks) = Reads d k × AllRead d ks
 
-pub kids-length : (d at : ℕ) (ks : List Child) → AllRead d ks → length (children-bytes at ks) ≡ children-size ks
+pub children-length : (d at : ℕ) (ks : List Child) → AllRead d ks → length (children-bytes at ks) ≡ children-size ks
 unfolding AllRead children-bytes children-size
-kids-length d at [] x = refl
-kids-length d at (k ∷ ks) x = simp length-append (omega (arith, x .0 .sized (at + 1), kids-length d (at + (1 + k .size)) ks (x .1)))
+children-length d at [] x = refl
+children-length d at (k ∷ ks) x = simp length-append (omega (arith, x .0 .sized (at + 1), children-length d (at + (1 + k .size)) ks (x .1)))
 
 run-arrival : (s : List ℕ) (d : ℕ) (p : Table) (i at c n e : ℕ) (ks : List Child) → length s < 2 ^ 64 → p .kind ≡ 3 → at + children-size ks ≤ length s →
     AllRead d ks → TableAt s (p .base) i at ks → Holds s at (children-bytes at ks) →

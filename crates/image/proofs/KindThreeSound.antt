@@ -6,8 +6,9 @@ use mathlib.Core.Path.{_≡_, refl, subst, sym}
 use lib.ListN.{getD}
 use Rattle.words.proofs.Parts.{length-bytes64}
 use Rattle.words.specs.Words.{bytes64, le64}
+use Rattle.trie.specs.Build.{grow}
 use Rattle.trie.specs.Trie.{Node, more}
-use Rattle.image.proofs.BytesRead.{AllBytes, holds-append, holds-read}
+use Rattle.image.proofs.BytesRead.{holds-append, holds-read}
 use Rattle.image.proofs.EndedWell.{Turned, by-gap, by-node, child-at, run-last, run-turn}
 use Rattle.image.proofs.Holding.{Holds, holds-at}
 use Rattle.image.proofs.KindRule.{one}
@@ -18,6 +19,7 @@ use Rattle.image.proofs.Tables.{slot-arrival}
 use Rattle.image.specs.Held.{forest-by, sparse-entries}
 use Rattle.image.specs.Image.{Child, as-child, children-bytes, children-of, children-size, node-bytes, node-size, table-by-arrival}
 use Rattle.image.specs.Reading.{Table, done, read-node, read-turns}
+use Rattle.image.specs.Savable.{AllBytes}
 
 module _ (s : List ℕ) (all : AllBytes s) (d : ℕ) (T : ℕ → Node)
     (snd : (x next k n e : ℕ) → done next k n e ≡ read-node s d x → Sound s d x next (T x)) where

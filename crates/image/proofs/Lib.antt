@@ -1,8 +1,12 @@
--- laws
+-- `Theorems` has image-read and read-image-is, `Sizes` image-size, `KindRule` the rule of the table of kinds, `Recording` what is computed.
 pub mod KindRule
+-- reading, one law for each way out
 pub mod Heads
 pub mod Tables
 pub mod Nodes
+pub mod Roots
+pub mod AnswerLaws
+-- what was written is read back
 pub mod Holding
 pub mod KindThree
 pub mod ByByte
@@ -13,6 +17,7 @@ pub mod ListsBack
 pub mod Slots
 pub mod Spots
 pub mod TrieBack
+-- what is read was written
 pub mod BytesRead
 pub mod EndedWell
 pub mod Sound
@@ -20,9 +25,8 @@ pub mod KindThreeSound
 pub mod KindTwoSound
 pub mod KindOneSound
 pub mod NodeSound
+-- what a reader cites
 pub mod Shapes
 pub mod Sizes
 pub mod Theorems
 pub mod Recording
-pub mod Roots
-pub mod AnswerLaws

@@ -6,9 +6,10 @@ use mathlib.Core.Path.{_∙_, _≡_, ap, refl, subst, sym}
 use lib.ListN.{getD, length}
 use Rattle.words.proofs.Parts.{length-bytes64}
 use Rattle.words.specs.Words.{bytes64, le64}
+use Rattle.trie.specs.Build.{grow}
 use Rattle.trie.specs.Trie.{Forest, Lists, Node, leaf, more}
 use Rattle.image.proofs.ByByte.{Bytes, below-zero}
-use Rattle.image.proofs.BytesRead.{AllBytes, holds-append, holds-read}
+use Rattle.image.proofs.BytesRead.{holds-append, holds-read}
 use Rattle.image.proofs.EndedWell.{Open, dense, fault-apart, head-inv, never, open-inv, sparse}
 use Rattle.image.proofs.Holding.{Holds, head-length, holds-at}
 use Rattle.image.proofs.KindOne.{bytes-one, offsets-length, size-one}
@@ -17,13 +18,14 @@ use Rattle.image.proofs.KindRule.{Fits, fits-view, one, three, two}
 use Rattle.image.proofs.KindThree.{BytesAt, Distinct, bytes-three, size-three, table-length}
 use Rattle.image.proofs.KindThreeSound.{table-back, three-inv}
 use Rattle.image.proofs.KindTwo.{bytes-two, offs-length, size-two}
-use Rattle.image.proofs.KindTwoSound.{apart2, limits2, offs-back, offs2, two-inv}
+use Rattle.image.proofs.KindTwoSound.{distinct-two, limits-two, offs-back, offs-two, two-inv}
 use Rattle.image.proofs.ReadBack.{Limits, Up, all-read, node-length}
 use Rattle.image.proofs.Sound.{Sound, lists-back, sparse-bytes, sparse-length, sparse-small}
 use Rattle.image.proofs.TrieBack.{entries-dense, entries-sparse}
 use Rattle.image.specs.Held.{Entry, dense-entries, forest-by, list-end, lists-in, node-in, sparse-entries, table-entries}
 use Rattle.image.specs.Image.{ascending, children-bytes, children-of, lists-bytes, lists-size, node-bytes, node-size, slot-offsets, slots-bytes, table-by-arrival, table-by-byte}
 use Rattle.image.specs.Reading.{HeadRead, Step, Table, TableRead, behind, behind-head, behind-table, dense-table, done, fault, head, no-head, no-table, open-table, read-head, read-node, read-table, sparse-table, table, table-fault}
+use Rattle.image.specs.Savable.{AllBytes}
 
 module _ (s : List ℕ) (all : AllBytes s) (d : ℕ) (T : ℕ → Node)
     (snd : (x next k n e : ℕ) → done next k n e ≡ read-node s d x → Sound s d x next (T x)) where
@@ -104,14 +106,14 @@ module _ (s : List ℕ) (all : AllBytes s) (d : ℕ) (T : ℕ → Node)
       let no1′ : P .kind ≡ 1 → ⊥ = omega arith in
       let ks = children-of F in
       let D = two-inv s all d T snd P st N no3 no1′ refl clean 256 0 st 0 0 0 end k n e (omega (arith, below-zero ks)) f in
-      let lim = limits2 s all d T snd P st N no3 no1′ refl clean (D .2) N 0 (omega arith) in
-      let off = offs2 s all d T snd P st N no3 no1′ refl clean (D .2) N 0 (omega arith) in
+      let lim = limits-two s all d T snd P st N no3 no1′ refl clean (D .2) N 0 (omega arith) in
+      let off = offs-two s all d T snd P st N no3 no1′ refl clean (D .2) N 0 (omega arith) in
       let h = lists-in s at in
       let hl = lists-back s all at in
       let len = sparse-length s T (nx + 8) N 0 in
       let over : 8 < length ks = omega arith in
       let small : length ks ≤ 96 = omega arith in
-      let ap = apart2 s all d T snd P st N no3 no1′ refl clean in
+      let ap = distinct-two s all d T snd P st N no3 no1′ refl clean in
       let by = sparse-small s T all (nx + 8) N 0 in
       let rd = all-read d F lim in
       let a1 = at + 1 + lists-size h in
@@ -174,10 +176,10 @@ abbrev child-tree : List ℕ → ℕ → ℕ → Node
 child-tree s zero x = record { lists = lists-in s x; children = leaf }
 child-tree s (suc d) x = node-in s d x
 
-no-kids : (f : Forest) → Limits 0 f → leaf ≡ f
+no-children : (f : Forest) → Limits 0 f → leaf ≡ f
 unfolding Limits
-no-kids leaf l = refl
-no-kids (more b h under later) l = absurd l
+no-children leaf l = refl
+no-children (more b h under later) l = absurd l
 
 zero-node : (s : List ℕ) (x : ℕ) → read-node s 0 x ≡ fault 15
 unfolding read-node
@@ -190,7 +192,7 @@ sound-node s d x next h g u v l up b p = record { holds = u; ends = v; grow = λ
 
 tree-made : (s : List ℕ) (d x next : ℕ) → Limits d (forest-by (child-tree s d) (table-entries s x)) → Sound s (suc d) x next (record { lists = lists-in s x; children = forest-by (child-tree s d) (table-entries s x) }) → Sound s (suc d) x next (node-in s d x)
 unfolding node-in
-tree-made s zero x next l K = subst (λ (f : Forest). Sound s 1 x next (record { lists = lists-in s x; children = f })) (sym (no-kids (forest-by (child-tree s 0) (table-entries s x)) l)) K
+tree-made s zero x next l K = subst (λ (f : Forest). Sound s 1 x next (record { lists = lists-in s x; children = f })) (sym (no-children (forest-by (child-tree s 0) (table-entries s x)) l)) K
 tree-made s (suc d) x next l K = K
 
 pub child-sound : (s : List ℕ) → AllBytes s → (d x next k n e : ℕ) → done next k n e ≡ read-node s d x → Sound s d x next (child-tree s d x)

@@ -14,7 +14,7 @@ use Rattle.trie.specs.Trie.{Forest, Lists, entries-of, leaf, more}
 use Rattle.image.proofs.ByByte.{Bytes, Rising, at-read}
 use Rattle.image.proofs.Holding.{Holds, head-length}
 use Rattle.image.proofs.KindOne.{back-one, offsets-length, slot-length}
-use Rattle.image.proofs.KindThree.{AllRead, Distinct, back-three, kids-length, table-length}
+use Rattle.image.proofs.KindThree.{AllRead, Distinct, back-three, children-length, table-length}
 use Rattle.image.proofs.KindTwo.{back-two, offs-length}
 use Rattle.image.specs.Image.{Child, as-child, ascending, children-bytes, children-of, children-size, entries-in, lists-size, node-bytes, node-size, nodes-in, slot-bytes, slot-offsets, slot-size, slots-bytes, slots-size, table-by-arrival, table-by-byte, table-bytes, table-size, with-byte}
 use Rattle.image.specs.Kinds.{kind-of}
@@ -49,8 +49,8 @@ table-sized d kind at ks h = go (eqb kind 1) (eqb kind 2)
         (bytes64 (length ks) ++ (table-by-arrival (at + 8 + length ks * 9) ks ++ children-bytes (at + 8 + length ks * 9) ks)))) ≡
         cond p (2048 + slots-size 256 0 ks) (cond q (8 + length ks * 9 + children-size (ascending 256 0 ks)) (8 + length ks * 9 + children-size ks))
     go true q = simp (length-append, offsets-length) (omega (arith, slots-length d 256 0 (at + 2048) ks h))
-    go false true = simp (length-append, length-bytes64, offs-length) (omega (arith, kids-length d (at + 8 + length ks * 9) (ascending 256 0 ks) (ascending-read d 256 0 ks h)))
-    go false false = simp (length-append, length-bytes64, table-length) (omega (arith, kids-length d (at + 8 + length ks * 9) ks h))
+    go false true = simp (length-append, length-bytes64, offs-length) (omega (arith, children-length d (at + 8 + length ks * 9) (ascending 256 0 ks) (ascending-read d 256 0 ks h)))
+    go false false = simp (length-append, length-bytes64, table-length) (omega (arith, children-length d (at + 8 + length ks * 9) ks h))
 
 pub node-length : (d at : ℕ) (h : Lists) (ks : List Child) → AllRead d ks → length (node-bytes at h ks) ≡ node-size h ks
 unfolding node-bytes node-size

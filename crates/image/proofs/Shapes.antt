@@ -9,12 +9,11 @@ use Rattle.words.proofs.Laws.{le64-lt}
 use Rattle.trie.specs.Rule.{Absent, Apart}
 use Rattle.trie.specs.Trie.{Forest, Lists, Node, forest-entries, forest-nodes, leaf, more}
 use Rattle.image.proofs.ByByte.{Bytes, Rising, absent-last, later-absent}
-use Rattle.image.proofs.BytesRead.{AllBytes}
 use Rattle.image.proofs.KindThree.{Distinct, Missing}
 use Rattle.image.proofs.ReadBack.{Limits, Up}
 use Rattle.image.specs.Held.{Entry, forest-by, lists-in, node-in, table-entries}
 use Rattle.image.specs.Image.{Child, as-child, children-of, entries-in, nodes-in}
-use Rattle.image.specs.Savable.{AllFit, AllKept, Ascending, InBytes, Kept, ListsFit, LocationsFit, ShapedNode, Short, siblings}
+use Rattle.image.specs.Savable.{AllBytes, AllFit, AllKept, Ascending, InBytes, Kept, ListsFit, LocationsFit, ShapedNode, Short, siblings}
 
 -- ── from the trie to its children ──
 

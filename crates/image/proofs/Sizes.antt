@@ -1,5 +1,5 @@
 -- An image takes at most 64 bytes for each node and 24 for each entry. Assumes nothing.
-use Prim.Native.Nat.{_*_, _+_, _<_, _≤_, suc, zero, ℕ}
+use Prim.Native.Nat.{_*_, _+_, _<_, _^_, _≤_, suc, zero, ℕ}
 use native.Mathlib.Omega.{arith}
 use mathlib.Core.Bool.{cond}
 use mathlib.Core.List.{List, [], _++_, _∷_}
@@ -16,7 +16,7 @@ use Rattle.image.proofs.ReadBack.{Limits, all-read, node-length}
 use Rattle.image.proofs.Shapes.{count-entries, count-nodes, fitting}
 use Rattle.image.specs.Image.{Child, as-child, ascending, children-of, children-size, entries-in, image, lists-size, node-size, nodes-in, slot-size, slots-size, table-size, with-byte}
 use Rattle.image.specs.Kinds.{kind-of}
-use Rattle.image.specs.Savable.{Shaped}
+use Rattle.image.specs.Savable.{Savable, Shaped}
 
 -- a child's node leaves 31 bytes of its 64: 10 for its flag and table entry or its share of a table of kind 1, 2,304 / 97
 unfoldable pub Lean : List Child → Type 0
@@ -67,3 +67,7 @@ image-size (root n) s =
     let c = n .children in
     let ks = children-of c in
     omega (arith, node-length 16 0 h ks (all-read 16 c (f .limits)), node-most h ks (f .bytes) (f .distinct) (all-lean 16 c (f .limits)), count-nodes c, count-entries c)
+
+-- a trie of the right shape within these bounds can be saved
+pub savable : (t : Trie) → Shaped t → 64 * nodes t + 24 * entries t < 2 ^ 64 → Savable t
+savable t s h = record { shaped = s; size = omega (arith, image-size t s) }

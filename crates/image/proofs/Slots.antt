@@ -1,5 +1,4 @@
 -- Slots of kind 1: a child has the slot of its byte alone. Assumes nothing.
--- a child alone has its byte
 use Prim.Native.Nat.{_+_, _<_, suc, zero, ℕ}
 use native.Mathlib.Omega.{arith}
 use mathlib.Core.List.{List, [], _++_, _∷_}
@@ -9,6 +8,7 @@ use Rattle.image.proofs.ByByte.{at-absent}
 use Rattle.image.proofs.KindThree.{Missing}
 use Rattle.image.specs.Image.{Child, slot-offsets, slot-size, slots-bytes, slots-size, with-byte}
 
+-- a child alone has its byte
 pub at-self : (seen : List Child) (k : Child) (rest : List Child) → Missing (k .byte) seen → Missing (k .byte) rest → with-byte (k .byte) (seen ++ (k ∷ rest)) ≡ k ∷ []
 unfolding Missing with-byte
 at-self [] k rest a b = simp (eq-eqb (k .byte) (k .byte) refl) (ap (λ (l : List Child). k ∷ l) (at-absent (k .byte) rest b))

@@ -1,5 +1,4 @@
 -- A child that was read, and the entries of a table of kind 3 or 2 as children. Assumes nothing.
--- a child that was read from x to next, of the trie t
 use Prim.Native.Nat.{_*_, _+_, _<_, suc, zero, ℕ}
 use native.Mathlib.Omega.{arith}
 use mathlib.Core.List.{List, _++_}
@@ -9,13 +8,15 @@ use Rattle.definitions.specs.Location.{locations-in}
 use Rattle.words.specs.Words.{le64}
 use Rattle.trie.specs.Trie.{Forest, Node, more}
 use Rattle.image.proofs.ByByte.{Bytes}
-use Rattle.image.proofs.BytesRead.{AllBytes, count-locs, holds-append, list-read}
+use Rattle.image.proofs.BytesRead.{count-locs, holds-append, list-read}
 use Rattle.image.proofs.Holding.{Holds, holds-at, list-length}
 use Rattle.image.proofs.KindThree.{BytesAt}
 use Rattle.image.proofs.ReadBack.{Limits}
 use Rattle.image.specs.Held.{forest-by, list-end, lists-in, sparse-entries}
 use Rattle.image.specs.Image.{as-child, children-of, list-bytes, lists-bytes, lists-size, node-bytes, node-size}
+use Rattle.image.specs.Savable.{AllBytes}
 
+-- a child that was read from x to next, of the trie t
 pub record Sound (s : List ℕ) (d x next : ℕ) (t : Node) : Type 0 where
   pub holds : Holds s x (node-bytes x (t .lists) (children-of (t .children)))
   pub ends : next ≡ x + node-size (t .lists) (children-of (t .children))

@@ -1,5 +1,4 @@
 -- Each entry of a table that was written leads to its child's bytes. Assumes nothing.
--- each entry leads to the child's bytes
 use Prim.Native.Nat.{_*_, _+_, _<_, _^_, _≤_, suc, zero, ℕ}
 use native.Mathlib.Omega.{arith}
 use mathlib.Core.Bool.{Bool, false, true}
@@ -20,6 +19,7 @@ use Rattle.image.specs.Held.{Entry, dense-entries, sparse-entries}
 use Rattle.image.specs.Image.{Child, as-child, ascending, children-bytes, children-of, children-size, node-bytes, node-size, size-below, slot-bytes, slot-offsets, slot-size, slots-bytes, slots-size, with-byte}
 use Rattle.image.specs.Kinds.{fits}
 
+-- each entry leads to the child's bytes
 unfoldable pub Spots : List ℕ → List Entry → Forest → Type 0
 Spots s [] leaf = Unit
 Spots s [] (more b h under later) = ⊥

@@ -13,7 +13,7 @@ use Rattle.words.specs.Words.{bytes64, le64}
 use Rattle.trie.specs.Build.{grow}
 use Rattle.trie.specs.Trie.{Lists, Node, Trie, empty, entries, entries-of, forest-entries, forest-nodes, leaf, nodes, root}
 use Rattle.image.proofs.ByByte.{Bytes, at-most}
-use Rattle.image.proofs.BytesRead.{AllBytes, holds-append, holds-read}
+use Rattle.image.proofs.BytesRead.{holds-append, holds-read}
 use Rattle.image.proofs.EndedWell.{never}
 use Rattle.image.proofs.Holding.{Holds}
 use Rattle.image.proofs.KindRule.{Fits, fits-view, one, some-range, three, two}
@@ -27,7 +27,7 @@ use Rattle.image.specs.Held.{node-in, trie-in}
 use Rattle.image.specs.Image.{Child, children-of, entries-in, image, node-bytes, node-size, nodes-in}
 use Rattle.image.specs.Kinds.{fits, kind-of}
 use Rattle.image.specs.Reading.{Step, done, fault, read-counts, read-image, read-node, read-root, refused, right, to-the-end}
-use Rattle.image.specs.Savable.{Savable, Shaped, ShapedNode}
+use Rattle.image.specs.Savable.{AllBytes, Savable, Shaped, ShapedNode}
 
 -- ── the trie of an image, by its first byte ──
 

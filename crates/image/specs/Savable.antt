@@ -1,11 +1,15 @@
 -- What an image can hold: a trie whose image gives it back. Assumes nothing.
 use Prim.Native.Nat.{ℕ, zero, suc, _+_, _^_, _≤_, _<_}
 use mathlib.Core.List.{List, [], _∷_}
-use lib.ListN.{length}
+use lib.ListN.{length, getD}
 use Rattle.definitions.specs.Location.{Location}
 use Rattle.trie.specs.Trie.{Lists, Forest, leaf, more, Node, Trie, empty, root}
 use Rattle.trie.specs.Rule.{Apart}
 use Rattle.image.specs.Image.{image}
+
+-- a list of bytes
+abbrev pub AllBytes : List ℕ → Type 0
+AllBytes s = (i : ℕ) → getD s i 0 < 256
 
 -- an address and two ticks are of 64 bits
 abbrev pub LocationsFit : List Location → Type 0

@@ -1,37 +1,17 @@
 // The layout of a saved image, read in its own order: the first faulty field decides.
+mod kinds;
+mod sparse;
+
+pub use kinds::KINDS;
+pub use kinds::KindRange;
+pub use kinds::kind_of;
 ghost use mathlib.Core.Path.{_≡_};
 ghost use Prim.Native.Nat.{_+_, _*_, _≤_, _<_};
 ghost use lib.ListN.{length};
 ghost use lib.Dec.{eqb};
 ghost use mathlib.Core.Bool.{cond};
-ghost use Rattle.image.specs.Kinds.{kind-of, fits};
-ghost use Rattle.image.specs.Reading.{offset, find-byte, table-fault, slot-turn, turn-at, all-met, read-list, read-head, open-table, read-table, read-node, read-counts, read-root, read-image};
-ghost use Rattle.image.specs.Answers.{layout-of, step-of, list-of, head-of, table-in, table-of, turn-of, Within, Nearer, Least, Skips};
-
-// A node kind with its lowest and its highest child count.
-pub struct KindRange {
-    pub kind: u8,
-    pub lowest: usize,
-    pub highest: usize,
-}
-
-pub const KINDS: [KindRange; 3] = [
-    KindRange {
-        kind: 3,
-        lowest: 0,
-        highest: 8,
-    },
-    KindRange {
-        kind: 2,
-        lowest: 9,
-        highest: 96,
-    },
-    KindRange {
-        kind: 1,
-        lowest: 97,
-        highest: 256,
-    },
-];
+ghost use Rattle.image.specs.Reading.{offset, slot-turn, turn-at, all-met, read-list, read-head, open-table, read-table, read-node, read-counts, read-root, read-image};
+ghost use Rattle.image.specs.Answers.{layout-of, step-of, list-of, head-of, table-in, table-of, turn-of, Within, Skips};
 
 // The nodes and entries of an image.
 pub struct Tally {
@@ -46,7 +26,7 @@ pub enum Layout {
 
 // Where a part of an image ends and what it counts, or its refusal; 0 where there is none. (A struct, and no enum: the
 // reader's speed is that of copying this answer from level to level, and an enum of a number has seven bytes between.)
-pub struct Past {
+struct Past {
     pub at: usize,
     pub refusal: u64,
     pub nodes: usize,
@@ -54,7 +34,7 @@ pub struct Past {
 }
 
 // A node up to its table: its kind, where its lists end and what they count, or a refusal.
-pub struct Head {
+struct Head {
     pub kind: u8,
     pub at: usize,
     pub entries: usize,
@@ -63,7 +43,7 @@ pub struct Head {
 
 // The children of a node: where its table stands and how many entries that has, where the first flag is due, and how
 // many turns there are; or a refusal.
-pub struct Children {
+struct Children {
     pub kind: u8,
     pub base: usize,
     pub count: usize,
@@ -73,41 +53,11 @@ pub struct Children {
 }
 
 // What stands where a child is due.
-pub enum Due {
+enum Due {
     Child,
     Gap,
     Nothing,
     Wrong(u64),
-}
-
-// The kind of a node with that many children; 0 beyond the table.
-pub fn kind_of(children: usize) -> u8
-    ensures { λ r. ⌜ r ≡ kind-of children ⌝ }
-{
-    let mut i = 0;
-    while i < 3 {
-        let k = KINDS[i];
-        if k.lowest <= children {
-            if children <= k.highest {
-                return k.kind;
-            }
-        }
-        i += 1;
-    }
-    0
-}
-
-// Whether a node of kind 1, 2 or 3 may have that many children.
-pub fn fits_kind(kind: u8, children: usize) -> bool
-    requires { ⌜ (1 ≤ kind) × (kind ≤ 3) ⌝ }
-    ensures { λ r. ⌜ r ≡ fits kind children ⌝ }
-{
-    let i = 3 - kind as usize;
-    let k = KINDS[i];
-    if children < k.lowest {
-        return false;
-    }
-    children <= k.highest
 }
 
 fn refuse(n: u64) -> Past
@@ -201,43 +151,6 @@ fn read_head(s: &[u8], at: usize) -> Head
     }
 }
 
-// The first of the n entries of a table whose byte is b, or n.
-fn find_byte(s: &[u8], base: usize, n: usize, b: u8) -> usize
-    requires { ⌜ base + n * 9 ≤ length (now s) ⌝ }
-    ensures { λ r. ⌜ r ≡ find-byte (now (s .entry)) base b n 0 ⌝ }
-{
-    let mut j = 0;
-    while j < n {
-        if s[base + j * 9] == b {
-            return j;
-        }
-        j += 1;
-    }
-    n
-}
-
-// The first fault of a table of n entries; 0 where there is none.
-fn table_fault(s: &[u8], base: usize, n: usize) -> u64
-    requires { ⌜ base ≤ length (now s) ⌝ }
-    ensures { λ r. ⌜ r ≡ table-fault (now (s .entry)) base n 0 ⌝ }
-{
-    let mut i = 0;
-    while i < n {
-        let p = base + i * 9;
-        if p == s.len() {
-            return 13;
-        }
-        if find_byte(s, base, i, s[p]) < i {
-            return 15;
-        }
-        if s.len() - p < 9 {
-            return 13;
-        }
-        i += 1;
-    }
-    0
-}
-
 // The table of kind 1 at an index.
 fn open_dense(s: &[u8], at: usize) -> Children
     requires { ⌜ at ≤ length (now s) ⌝ }
@@ -275,11 +188,11 @@ fn open_table(s: &[u8], kind: u8, at: usize) -> Children
         return refuse_children(13);
     }
     let n = words::get64(s, at) as usize;
-    if !fits_kind(kind, n) {
+    if !kinds::fits_kind(kind, n) {
         return refuse_children(15);
     }
     let base = at + 8;
-    let fault = table_fault(s, base, n);
+    let fault = sparse::table_fault(s, base, n);
     if fault != 0 {
         return refuse_children(fault);
     }
@@ -325,39 +238,11 @@ fn turn_at(s: &[u8], c: Children, i: usize, at: usize) -> Due
     if c.kind == 3 {
         return flag_at(s, c.kind, words::get64(s, base + i * 9 + 1), at);
     }
-    let j = find_byte(s, base, c.count, i as u8);
+    let j = sparse::find_byte(s, base, c.count, i as u8);
     if j < c.count {
         return flag_at(s, c.kind, words::get64(s, base + j * 9 + 1), at);
     }
     Due::Nothing
-}
-
-// The lower of least and b, if b is not below low.
-fn nearer(low: usize, least: usize, b: usize) -> usize
-    requires { ⌜ low ≤ least ⌝ }
-    ensures { λ r. ⌜ Nearer low least b r ⌝ }
-{
-    if b < low {
-        return least;
-    }
-    if least <= b {
-        return least;
-    }
-    b
-}
-
-// The least byte from low on in a table of n entries, or 255.
-fn least_byte(s: &[u8], base: usize, n: usize, low: usize) -> usize
-    requires { ⌜ (base + n * 9 ≤ length (now s)) × (low ≤ 255) ⌝ }
-    ensures { λ r. ⌜ Least (now (s .entry)) base n low r ⌝ }
-{
-    let mut least = 255;
-    let mut j = 0;
-    while j < n {
-        least = nearer(low, least, s[base + j * 9] as usize);
-        j += 1;
-    }
-    least
 }
 
 // The next turn from turn i on at which an offset is judged, or the last: in kind 2 the bytes between are not in the table.
@@ -368,7 +253,7 @@ fn next_turn(s: &[u8], c: Children, i: usize) -> usize
     if c.kind != 2 {
         return i;
     }
-    least_byte(s, c.base, c.count, i)
+    sparse::least_byte(s, c.base, c.count, i)
 }
 
 // The end of the children, so many met: in kind 1 they must be enough.
@@ -376,7 +261,7 @@ fn all_met(c: Children, met: usize, at: usize, nodes: usize, entries: usize) -> 
     ensures { λ r. ⌜ step-of r ≡ all-met (table-in c) at met nodes entries ⌝ }
 {
     if c.kind == 1 {
-        if !fits_kind(1, met) {
+        if !kinds::fits_kind(1, met) {
             return refuse(15);
         }
     }

@@ -1,4 +1,4 @@
--- `image::table_fault` meets its contract. Assumes nothing.
+-- `image::sparse::table_fault` meets its contract. Assumes nothing.
 use Prim.Native.Nat.{_*_, _+_, _-_, _≤_, ℕ}
 use native.Mathlib.Omega.{arith}
 use mathlib.Core.Path.{_∙_, _≡_, ap}
@@ -6,8 +6,8 @@ use lib.ListN.{length}
 use borrow.Author.Needs.{needs}
 use Rattle.image.proofs.Tables.{fault-cut, fault-end, fault-on, fault-short, fault-twice}
 use Rattle.image.specs.Reading.{table-fault}
-use Rattle.image.proofs.table_fault.Statement.{statement}
-use Rattle.image.proofs.table_fault.Tie as tie
+use Rattle.image.proofs.sparse.table_fault.Statement.{statement}
+use Rattle.image.proofs.sparse.table_fault.Tie as tie
 
 abbrev Inv-loop : tie.InvT-loop
 Inv-loop s base n i₀ i = (i ≤ n) × (base + i * 9 ≤ length s) × (table-fault s base (n - i) i ≡ table-fault s base n 0)

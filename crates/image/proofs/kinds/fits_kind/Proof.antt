@@ -1,9 +1,9 @@
--- `image::fits_kind` meets its contract. Assumes nothing.
+-- `image::kinds::fits_kind` meets its contract. Assumes nothing.
 use native.Mathlib.Omega.{arith}
 use borrow.Author.Needs.{needs}
 use Rattle.image.proofs.KindRule.{fits-high, fits-low}
-use Rattle.image.proofs.fits_kind.Statement.{statement}
-use Rattle.image.proofs.fits_kind.Tie as tie
+use Rattle.image.proofs.kinds.fits_kind.Statement.{statement}
+use Rattle.image.proofs.kinds.fits_kind.Tie as tie
 
 sub-i : tie.Need-sub-i
 sub-i c = search needs

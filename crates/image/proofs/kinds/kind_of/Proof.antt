@@ -1,12 +1,12 @@
--- `image::kind_of` meets its contract. Assumes nothing.
+-- `image::kinds::kind_of` meets its contract. Assumes nothing.
 use Prim.Native.Nat.{_-_, _≤_, ℕ}
 use native.Mathlib.Omega.{arith}
 use mathlib.Core.Logic.{inl, inr, ⊎-elim}
 use mathlib.Core.Path.{_≡_, subst, sym}
 use borrow.Author.Needs.{needs}
 use Rattle.image.proofs.KindRule.{at-range, beyond, beyond-all, kind-none}
-use Rattle.image.proofs.kind_of.Statement.{statement}
-use Rattle.image.proofs.kind_of.Tie as tie
+use Rattle.image.proofs.kinds.kind_of.Statement.{statement}
+use Rattle.image.proofs.kinds.kind_of.Tie as tie
 
 abbrev Inv-loop : tie.InvT-loop
 Inv-loop children i₀ i = (i ≤ 3) × (beyond-all i ≤ children)

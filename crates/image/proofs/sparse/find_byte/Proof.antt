@@ -1,12 +1,12 @@
--- `image::find_byte` meets its contract. Assumes nothing.
+-- `image::sparse::find_byte` meets its contract. Assumes nothing.
 use Prim.Native.Nat.{_-_, _≤_, ℕ}
 use native.Mathlib.Omega.{arith}
 use mathlib.Core.Path.{_∙_, _≡_, ap}
 use borrow.Author.Needs.{needs}
 use Rattle.image.proofs.Tables.{find-end, find-here, find-on}
 use Rattle.image.specs.Reading.{find-byte}
-use Rattle.image.proofs.find_byte.Statement.{statement}
-use Rattle.image.proofs.find_byte.Tie as tie
+use Rattle.image.proofs.sparse.find_byte.Statement.{statement}
+use Rattle.image.proofs.sparse.find_byte.Tie as tie
 
 abbrev Inv-loop : tie.InvT-loop
 Inv-loop s base n b j₀ j = (j ≤ n) × (find-byte s base b (n - j) j ≡ find-byte s base b n 0)

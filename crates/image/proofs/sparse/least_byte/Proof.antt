@@ -1,12 +1,12 @@
--- `image::least_byte` meets its contract. Assumes nothing.
+-- `image::sparse::least_byte` meets its contract. Assumes nothing.
 use Prim.Native.Nat.{_*_, _+_, _-_, _≤_, ℕ}
 use native.Mathlib.Omega.{arith}
 use mathlib.Core.Path.{_≡_, subst}
 use borrow.Author.Needs.{needs}
 use Rattle.image.proofs.Tables.{least-more, least-none}
 use Rattle.image.specs.Answers.{Least}
-use Rattle.image.proofs.least_byte.Statement.{statement}
-use Rattle.image.proofs.least_byte.Tie as tie
+use Rattle.image.proofs.sparse.least_byte.Statement.{statement}
+use Rattle.image.proofs.sparse.least_byte.Tie as tie
 
 abbrev Inv-loop : tie.InvT-loop
 Inv-loop s base n low least₀ j₀ least j = (j ≤ n) × Least s base j low least

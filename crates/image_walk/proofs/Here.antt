@@ -1,0 +1,159 @@
+-- From a node in place to the trie: its lists, its table's entries, the child for a byte, and the walk along a path. Assumes nothing.
+use Prim.Native.Nat.{ℕ, zero, suc, _+_, _-_, _^_, _<_}
+use native.Mathlib.Omega.{arith}
+use mathlib.Core.Path.{_≡_, refl, ap, subst}
+use mathlib.Core.Bool.{Bool, true, false, cond}
+use mathlib.Core.List.{List, [], _∷_}
+use mathlib.Core.Option.{Option, none, some}
+use lib.ListN.{length}
+use lib.Dec.{eqb}
+use Rattle.words.specs.Words.{le64}
+use Rattle.trie.specs.Rule.{Apart}
+use Rattle.trie.specs.Trie.{Forest, leaf, more, Lists, Node, child, node-at, walk}
+use Rattle.trie.proofs.Walk as trie
+use Rattle.image.proofs.Spots.{Spots}
+use Rattle.image.specs.Held.{Entry, lists-in, table-entries}
+use Rattle.definitions.specs.Location.{locations-in}
+use Rattle.image.specs.Savable.{AllFit, AllKept, InBytes, Short}
+use Rattle.image_walk.specs.Parts.{prefix-list, chunk-list, suffix-list}
+use Rattle.image_walk.specs.Tables.{child-at, node-for, walk-from, walk-in}
+use Rattle.image_walk.specs.Bounds.{Bounds}
+use Rattle.image_walk.specs.Here.{NodeHere, Matches, Found, FoundAt}
+use Rattle.image_walk.proofs.Facts.{facts}
+use Rattle.image_walk.proofs.Walk.{walk-none}
+
+-- ── entries ──
+
+matches : (s : List ℕ) (d : ℕ) (es : List Entry) (f : Forest) → length s < 2 ^ 64 → AllFit f → InBytes f → Apart f → Short (suc d) f → AllKept f → Spots s es f → Matches s d es f
+unfolding Spots
+matches s d [] leaf l a b p h k w = tt
+matches s d [] (more c x below later) l a b p h k w = absurd w
+matches s d (e ∷ es) leaf l a b p h k w = absurd w
+matches s d (e ∷ es) (more c x below later) l a b p h k w =
+    let here : NodeHere s d (e .node) (record { lists = x; children = below }) = record {
+      holds = w .2;
+      within = w .1;
+      small = l;
+      lists = a .0;
+      all-lists = a .1;
+      bytes = b .1;
+      apart = p .1;
+      short = h .0;
+      kept = k .0;
+      all-kept = k .1;
+    } in
+    (w .0, here, matches s d es later l (a .2) (b .2) (p .2) (h .1) (k .2) (w .3))
+
+-- a node with no level below it has no children
+no-level : (f : Forest) → Short 0 f → f ≡ leaf
+no-level leaf h = refl
+no-level (more b x below later) h = absurd h
+
+no-spots : (s : List ℕ) (es : List Entry) → Spots s es leaf → es ≡ []
+unfolding Spots
+no-spots s [] w = refl
+no-spots s (e ∷ es) w = absurd w
+
+module _ {s : List ℕ} {d at : ℕ} {n : Node} (h : NodeHere s d at n) where
+  pub here-bounds : Bounds s at
+  here-bounds = facts s d at n h .bounds
+
+  -- ── lists ──
+
+  pub here-lists : lists-in s at ≡ n .lists
+  here-lists = facts s d at n h .lists
+
+  pub here-prefixes : locations-in s (le64 s (prefix-list at)) (prefix-list at + 8) ≡ n .lists .prefixes
+  unfolding lists-in
+  here-prefixes = ap (λ (x : Lists). x .prefixes) here-lists
+
+  pub here-chunks : locations-in s (le64 s (chunk-list s at)) (chunk-list s at + 8) ≡ n .lists .chunks
+  unfolding lists-in chunk-list
+  here-chunks = ap (λ (x : Lists). x .chunks) here-lists
+
+  pub here-suffixes : locations-in s (le64 s (suffix-list s at)) (suffix-list s at + 8) ≡ n .lists .suffixes
+  unfolding lists-in chunk-list suffix-list
+  here-suffixes = ap (λ (x : Lists). x .suffixes) here-lists
+
+pub here-entries : {s : List ℕ} {d at : ℕ} {n : Node} → NodeHere s (suc d) at n → Matches s d (table-entries s at) (n .children)
+here-entries {s} {d} {at} {n} h =
+    matches s d (table-entries s at) (n .children) (h .small) (h .all-lists) (h .bytes) (h .apart) (h .short) (h .all-kept) (facts s (suc d) at n h .spots)
+
+pub here-leaf : {s : List ℕ} {at : ℕ} {n : Node} → NodeHere s 0 at n → (n .children ≡ leaf) × (table-entries s at ≡ [])
+here-leaf {s} {at} {n} h =
+    let e = no-level (n .children) (h .short) in
+    (e, no-spots s (table-entries s at) (subst (Spots s (table-entries s at)) e (facts s 0 at n h .spots)))
+
+-- ── the child for a byte ──
+
+matches-child : (s : List ℕ) (d : ℕ) (es : List Entry) (f : Forest) (b : ℕ) → Matches s d es f → Found s d (node-for es b) (child f b)
+unfolding node-for
+matches-child s d [] leaf b m = tt
+matches-child s d [] (more c x below later) b m = absurd m
+matches-child s d (e ∷ es) leaf b m = absurd m
+matches-child s d (e ∷ es) (more c x below later) b m = rw (m .0) (go (eqb c b) (matches-child s d es later b (m .2)))
+  where
+    go : (o : Bool) → Found s d (node-for es b) (child later b) →
+        Found s d (cond o (some (e .node)) (node-for es b)) (cond o (some (record { lists = x; children = below })) (child later b))
+    go true ih = m .1
+    go false ih = ih
+
+pub here-child : {s : List ℕ} {d at : ℕ} {n : Node} → NodeHere s (suc d) at n → (b : ℕ) → Found s d (child-at s at b) (child (n .children) b)
+unfolding child-at
+here-child {s} {d} {at} {n} h b = matches-child s d (table-entries s at) (n .children) b (here-entries h)
+
+pub no-child : {s : List ℕ} {at : ℕ} {n : Node} → NodeHere s 0 at n → (b : ℕ) → (child-at s at b ≡ none) × (child (n .children) b ≡ none)
+unfolding child-at node-for
+no-child h b = let e = here-leaf h in (rw (e .1) refl, rw (e .0) refl)
+
+-- ── what was found ──
+
+-- found in place, it is found in the trie and stands there
+pub found-some : (s : List ℕ) (d : ℕ) (x : Option ℕ) (o : Option Node) (p : ℕ) → Found s d x o → x ≡ some p → FoundAt s d p o
+found-some s d none o p f e = absurd (let z : _≡_ {A = ℕ} 0 1 = cc in omega arith)
+found-some s d (some q) none p f e = absurd f
+found-some s d (some q) (some m) p f e =
+    let g : q ≡ p = cc in
+    record { node = m; there = refl; here = subst (λ (i : ℕ). NodeHere s d i m) g f }
+
+-- not found in place, it is not in the trie
+pub found-none : (s : List ℕ) (d : ℕ) (x : Option ℕ) (o : Option Node) → Found s d x o → x ≡ none → o ≡ none
+found-none s d none none f e = refl
+found-none s d none (some m) f e = absurd f
+found-none s d (some q) o f e = absurd (let z : _≡_ {A = ℕ} 0 1 = cc in omega arith)
+
+-- ── the walk ──
+
+found-at : (s : List ℕ) (d e : ℕ) (o : Option ℕ) (p : Option Node) → d ≡ e → Found s d o p → Found s e o p
+found-at s d e o p q h = subst (λ (k : ℕ). Found s k o p) q h
+
+pub here-walk : {s : List ℕ} (d at : ℕ) (n : Node) → NodeHere s d at n → (path : List ℕ) → Found s (d - length path) (walk-in s path at) (node-at n path)
+here-walk {s} d at n h [] = found-at s d (d - 0) (some at) (some n) (omega arith) h
+here-walk {s} zero at n h (b ∷ path) =
+    let e = no-child h b in
+    rw (e .0, e .1, walk-none s path, trie.walk-none path) tt
+here-walk {s} (suc d) at n h (b ∷ path) =
+    found-at s (d - length path) (suc d - suc (length path)) (walk-in s (b ∷ path) at) (node-at n (b ∷ path)) (omega arith)
+    (go (child-at s at b) (child (n .children) b) (here-child h b) (λ q m k. here-walk d q m k path))
+  where
+    go : (o : Option ℕ) (p : Option Node) → Found s d o p → ((q : ℕ) (m : Node) → NodeHere s d q m → Found s (d - length path) (walk-in s path q) (node-at m path)) →
+        Found s (d - length path) (walk-from s path o) (walk path p)
+    go none none f ih = rw (walk-none s path, trie.walk-none path) tt
+    go none (some m) f ih = absurd f
+    go (some q) none f ih = absurd f
+    go (some q) (some m) f ih = ih q m f
+
+-- a path longer than the levels below a node leads nowhere
+pub here-deep : {s : List ℕ} (d at : ℕ) (n : Node) → NodeHere s d at n → (path : List ℕ) → d < length path → (walk-in s path at ≡ none) × (node-at n path ≡ none)
+here-deep {s} d at n h [] l = absurd (omega arith)
+here-deep {s} zero at n h (b ∷ path) l =
+    let e = no-child h b in
+    (rw (e .0) (walk-none s path), rw (e .1) (trie.walk-none path))
+here-deep {s} (suc d) at n h (b ∷ path) l = go (child-at s at b) (child (n .children) b) (here-child h b) (λ q m k. here-deep d q m k path (omega arith))
+  where
+    go : (o : Option ℕ) (p : Option Node) → Found s d o p → ((q : ℕ) (m : Node) → NodeHere s d q m → (walk-in s path q ≡ none) × (node-at m path ≡ none)) →
+        (walk-from s path o ≡ none) × (walk path p ≡ none)
+    go none none f ih = (walk-none s path, trie.walk-none path)
+    go none (some m) f ih = absurd f
+    go (some q) none f ih = absurd f
+    go (some q) (some m) f ih = ih q m f

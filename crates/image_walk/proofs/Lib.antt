@@ -1,0 +1,12 @@
+-- laws on the definitions alone
+pub mod Entries
+pub mod Walk
+-- from the bytes of a node to the trie
+pub mod Facts
+pub mod Here
+pub mod Laid
+pub mod Slots
+pub mod ListParts
+pub mod Root
+-- for the code
+pub mod Parts
