@@ -1,0 +1,60 @@
+-- `index_memory::block_refusal` meets its contract: at each answer the tests that led there say which check decides. Assumes nothing.
+use native.Mathlib.Omega.{arith}
+use borrow.Author.Needs.{needs}
+use Rattle.location.specs.Plain.{plain}
+use Rattle.index_memory.specs.Answers.{header-of}
+use Rattle.index_memory.proofs.Recording.{refused-4, refused-5, refused-6, refused-7, refused-8, not-refused}
+use Rattle.index_memory.proofs.block_refusal.Statement.{statement}
+use Rattle.index_memory.proofs.block_refusal.Tie as tie
+
+returns : tie.Need-returns
+returns c = refused-4 (header-of (c .before .args .h)) (c .before .args .n) (plain (c .before .args .l)) (c .if1 .taken)
+
+returns-2 : tie.Need-returns-2
+returns-2 c = refused-5 (header-of (c .before .before .before .args .h)) (c .before .before .before .args .n) (plain (c .before .before .before .args .l)) (c .before .before .if1 .left) (c .if2 .taken)
+
+sub-if3 : tie.Need-sub-if3
+sub-if3 c = search needs
+
+returns-3 : tie.Need-returns-3
+returns-3 c = refused-6 (header-of (c .before .before .before .before .before .args .h)) (c .before .before .before .before .before .args .n) (plain (c .before .before .before .before .before .args .l)) (c .before .before .before .before .if1 .left) (c .before .before .if2 .left) (omega arith)
+
+block-nodes-requires : tie.Need-block-nodes-requires
+block-nodes-requires c κs = search needs
+
+entry-charge-requires : tie.Need-entry-charge-requires
+entry-charge-requires c κs = search needs
+
+sub-if4 : tie.Need-sub-if4
+sub-if4 c = search needs
+
+returns-4 : tie.Need-returns-4
+returns-4 c =
+    refused-7 (header-of (c .before .before .before .before .before .before .before .before .before .args .h)) (c .before .before .before .before .before .before .before .before .before .args .n) (plain (c .before .before .before .before .before .before .before .before .before .args .l)) (c .before .before .before .before .before .before .before .before .if1 .left) (c .before .before .before .before .before .before .if2 .left) (omega arith) (omega (arith, c .before .before .before .before .before .before .before .before .before .pre, c .before .before .before .block-nodes .ensures))
+
+sub-if5 : tie.Need-sub-if5
+sub-if5 c = search needs
+
+returns-5 : tie.Need-returns-5
+returns-5 c =
+    refused-8 (header-of (c .before .before .before .before .before .before .before .before .before .before .before .args .h)) (c .before .before .before .before .before .before .before .before .before .before .before .args .n) (plain (c .before .before .before .before .before .before .before .before .before .before .before .args .l)) (c .before .before .before .before .before .before .before .before .before .before .if1 .left) (c .before .before .before .before .before .before .before .before .if2 .left) (omega arith) (omega (arith, c .before .before .before .before .before .before .before .before .before .before .before .pre, c .before .before .before .before .before .block-nodes .ensures)) (omega (arith, c .before .before .before .before .before .before .before .before .before .before .before .pre, c .before .before .before .before .entry-charge .ensures))
+
+returns-6 : tie.Need-returns-6
+returns-6 c =
+    not-refused (header-of (c .before .before .before .before .before .before .before .before .before .before .before .args .h)) (c .before .before .before .before .before .before .before .before .before .before .before .args .n) (plain (c .before .before .before .before .before .before .before .before .before .before .before .args .l)) (c .before .before .before .before .before .before .before .before .before .before .if1 .left) (c .before .before .before .before .before .before .before .before .if2 .left) (omega arith) (omega (arith, c .before .before .before .before .before .before .before .before .before .before .before .pre, c .before .before .before .before .before .block-nodes .ensures)) (omega (arith, c .before .before .before .before .before .before .before .before .before .before .before .pre, c .before .before .before .before .entry-charge .ensures))
+
+pub block-refusal-spec : {M : Type 1} → statement M
+block-refusal-spec =
+    tie.close
+    (tie.spec
+    returns
+    returns-2
+    sub-if3
+    returns-3
+    block-nodes-requires
+    entry-charge-requires
+    sub-if4
+    returns-4
+    sub-if5
+    returns-5
+    returns-6)

@@ -1,0 +1,69 @@
+-- `index_memory::piece_sound` meets its contract: at each answer the tests that led there decide. Assumes nothing.
+use borrow.Author.Needs.{needs}
+use denote.Ref.{now}
+use Rattle.index_memory.proofs.LogWalk.{too-long, no-life, end-decides}
+use Rattle.index_memory.proofs.piece_sound.Statement.{statement}
+use Rattle.index_memory.proofs.piece_sound.Tie as tie
+
+get64-requires : tie.Need-get64-requires
+get64-requires c κs = search needs
+
+returns : tie.Need-returns
+returns c =
+    let a = c .before .before .before .args in
+    let n = c .before .get64 in
+    too-long (now (a .mem)) (a .at) (n .result) (n .ensures) (c .if1 .taken)
+
+add-get64 : tie.Need-add-get64
+add-get64 c = search needs
+
+get64-requires-2 : tie.Need-get64-requires-2
+get64-requires-2 c κs = search needs
+
+add-get64-2 : tie.Need-add-get64-2
+add-get64-2 c = search needs
+
+get64-requires-3 : tie.Need-get64-requires-3
+get64-requires-3 c κs = search needs
+
+returns-2 : tie.Need-returns-2
+returns-2 c =
+    let a = c .before .before .before .before .before .before .args in
+    let n = c .before .before .before .before .get64 in
+    let x = c .before .before .get642 in
+    let y = c .before .get643 in
+    no-life (now (a .mem)) (a .at) (n .result) (n .ensures) (c .before .before .before .if1 .left) (x .result) (y .result) (x .ensures) (y .ensures) (c .if2 .taken)
+
+add-get64-3 : tie.Need-add-get64-3
+add-get64-3 c = search needs
+
+get64-requires-4 : tie.Need-get64-requires-4
+get64-requires-4 c κs = search needs
+
+sub-result : tie.Need-sub-result
+sub-result c = search needs
+
+returns-3 : tie.Need-returns-3
+returns-3 c =
+    let a = c .before .before .before .before .before .before .before .args in
+    let n = c .before .before .before .before .before .get64 in
+    let x = c .before .before .before .get642 in
+    let y = c .before .before .get643 in
+    let f = end-decides (now (a .mem)) (a .at) (n .result) (n .ensures) (c .before .before .before .before .if1 .left) (x .result) (y .result) (c .get644 .result) in
+    f (x .ensures) (y .ensures) (c .before .if2 .left) (c .get644 .ensures)
+
+pub piece-sound-spec : {M : Type 1} → statement M
+piece-sound-spec =
+    tie.close
+    (tie.spec
+    get64-requires
+    returns
+    add-get64
+    get64-requires-2
+    add-get64-2
+    get64-requires-3
+    returns-2
+    add-get64-3
+    get64-requires-4
+    sub-result
+    returns-3)

@@ -1,0 +1,82 @@
+-- `index_memory::record_open` meets its contract: at each answer the tests that led there say what recording does. Assumes nothing.
+use borrow.Author.Needs.{needs}
+use denote.Ref.{now}
+use Rattle.definitions.specs.Blocks.{Block}
+use Rattle.location.specs.Plain.{plain}
+use Rattle.index_memory.specs.Answers.{header-of}
+use Rattle.index_memory.specs.Layout.{log-in}
+use Rattle.index_memory.proofs.Outcome.{kind-unknown, kind-other, tally-within, refused-by, fitting, taken-by}
+use Rattle.index_memory.proofs.record_open.Statement.{statement}
+use Rattle.index_memory.proofs.record_open.Tie as tie
+
+cast-if1 : tie.Need-cast-if1
+cast-if1 c = search needs
+
+returns : tie.Need-returns
+returns c =
+    let a = c .before .before .before .args in
+    let m = now (a .mem) in
+    let h = header-of (a .h) in
+    let b : Block = record { bytes = now (a .«data»); at = plain (a .l) } in
+    kind-unknown m (h .capacity) (log-in m (h .payload) 64) (a .kind) b (c .if1 .taken)
+
+cast-if2 : tie.Need-cast-if2
+cast-if2 c = search needs
+
+returns-2 : tie.Need-returns-2
+returns-2 c =
+    let a = c .before .before .before .before .args in
+    let m = now (a .mem) in
+    let h = header-of (a .h) in
+    let b : Block = record { bytes = now (a .«data»); at = plain (a .l) } in
+    kind-other m (h .capacity) (log-in m (h .payload) 64) (a .kind) b (c .before .if1 .left) (c .if2 .taken)
+
+block-refusal-requires : tie.Need-block-refusal-requires
+block-refusal-requires c κs =
+    let a = c .before .before .before .before .args in
+    tally-within (now (a .mem)) (header-of (a .h)) (c .before .before .before .before .pre .0) (c .before .before .before .before .pre .1)
+
+returns-3 : tie.Need-returns-3
+returns-3 c =
+    let a = c .before .before .before .before .before .before .args in
+    let m = now (a .mem) in
+    let h = header-of (a .h) in
+    let b : Block = record { bytes = now (a .«data»); at = plain (a .l) } in
+    let r = c .before .block-refusal in
+    refused-by m h (c .before .before .before .before .before .before .pre .0) (c .before .before .before .before .before .before .pre .1) (a .kind) b (r .result) (r .ensures) (c .before .before .before .if1 .left) (c .before .before .if2 .left) (c .if3 .taken)
+
+append-requires : tie.Need-append-requires
+append-requires c κs =
+    let a = c .before .before .before .before .before .before .before .args in
+    let m = now (a .mem) in
+    let h = header-of (a .h) in
+    let b : Block = record { bytes = now (a .«data»); at = plain (a .l) } in
+    let r = c .before .before .block-refusal in
+    fitting m h (c .before .before .before .before .before .before .before .pre .0) (c .before .before .before .before .before .before .before .pre .1) (a .kind) b (r .result) (r .ensures) (c .before .if3 .left)
+
+same-length : tie.Need-same-length
+same-length c = search needs
+
+returns-4 : tie.Need-returns-4
+returns-4 c =
+    let a = c .before .before .before .before .before .before .before .before .before .before .args in
+    let m = now (a .mem) in
+    let h = header-of (a .h) in
+    let b : Block = record { bytes = now (a .«data»); at = plain (a .l) } in
+    let r = c .before .before .before .before .before .block-refusal in
+    let w = c .before .before .append in
+    taken-by m h (c .before .before .before .before .before .before .before .before .before .before .pre .0) (c .before .before .before .before .before .before .before .before .before .before .pre .1) (a .kind) b (r .result) (r .ensures) (c .before .before .before .before .before .before .before .if1 .left) (c .before .before .before .before .before .before .if2 .left) (c .before .before .before .before .if3 .left) (w .last .0) (w .ensures)
+
+pub record-open-spec : {M : Type 1} → statement M
+record-open-spec =
+    tie.close
+    (tie.spec
+    cast-if1
+    returns
+    cast-if2
+    returns-2
+    block-refusal-requires
+    returns-3
+    append-requires
+    same-length
+    returns-4)

@@ -1,0 +1,49 @@
+-- What a lent memory holds: nothing that meets the index rule, an open index with its pieces, or a finished one with its trie.
+-- Assumes nothing.
+use Prim.Native.Nat.{ℕ, _+_}
+use mathlib.Core.Bool.{Bool, _&&_, cond}
+use mathlib.Core.List.{List}
+use lib.ListN.{length, take, drop}
+use lib.Dec.{leb, eqb}
+use Rattle.definitions.specs.Blocks.{Piece}
+use Rattle.definitions.specs.Calls.{Capacity, header-size}
+use Rattle.trie.specs.Trie.{Trie}
+use Rattle.trie.specs.Test.{index-rule}
+use Rattle.image.specs.Reading.{Layout, right, refused, read-image}
+use Rattle.image.specs.Held.{trie-in}
+use Rattle.index_memory.specs.Layout.{Header, header-at, log-in, log-sound, header-sound, log-nodes, log-entries}
+
+pub data Index : Type 0 where
+  broken : Index
+  opened : Capacity → List Piece → Index
+  finished : Capacity → Trie → Index
+
+-- there is room for a header, and it is sound
+abbrev pub header-right : List ℕ → Bool
+header-right m = leb header-size (length m) && header-sound m (header-at m)
+
+-- each piece is sound and the tally is the sum of the charges
+abbrev pub log-right : List ℕ → Header → Bool
+log-right m h = log-sound m (h .payload) header-size && (eqb (h .nodes) (log-nodes (log-in m (h .payload) header-size)) && eqb (h .entries) (log-entries (log-in m (h .payload) header-size)))
+
+abbrev pub open-index : List ℕ → Header → Index
+open-index m h = cond (log-right m h) (opened (h .capacity) (log-in m (h .payload) header-size)) broken
+
+-- the image in a finished index's memory
+abbrev pub image-part : List ℕ → Header → List ℕ
+image-part m h = take (h .payload) (drop header-size m)
+
+-- the layout is right, the tally is what finish sets, and the finished index rule holds
+abbrev pub if-right : Layout → Header → List ℕ → Index
+if-right (refused n) h s = broken
+if-right (right nodes entries) h s = cond (eqb (h .nodes) nodes && (eqb (h .entries) entries && index-rule (trie-in s))) (finished (h .capacity) (trie-in s)) broken
+
+abbrev pub finished-index : List ℕ → Header → Index
+finished-index m h = if-right (read-image (image-part m h)) h (image-part m h)
+
+-- what a memory holds; one without room for a header breaks the rule
+unfoldable pub read-index : List ℕ → Index
+read-index m =
+    cond (header-right m)
+    (cond (eqb (header-at m .phase) 0) (open-index m (header-at m)) (finished-index m (header-at m)))
+    broken

@@ -1,0 +1,5 @@
+pub mod Follow
+pub mod Demand
+pub mod SavedTrie
+pub mod ReadFinished
+pub mod Theorem

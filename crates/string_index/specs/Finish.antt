@@ -1,0 +1,70 @@
+-- Finish and search as functions on memory: the answer, and each lent slice afterwards. Assumes nothing.
+use Prim.Native.Nat.{ℕ, _+_, _-_, _*_, _/_}
+use mathlib.Core.Bool.{Bool, true, false, cond}
+use mathlib.Core.List.{List, [], _∷_, _++_}
+use mathlib.Core.Option.{Option, none, some}
+use lib.ListN.{length, replicate}
+use lib.Seq.{sets}
+use lib.Dec.{ltb}
+use Rattle.definitions.specs.Location.{Location}
+use Rattle.definitions.specs.Blocks.{Piece}
+use Rattle.definitions.specs.Places.{places-counted}
+use Rattle.definitions.specs.Rows.{rows}
+use Rattle.definitions.specs.Causes.{Cause, number, index-rule-broken, before-finish, query-too-long, scratch-too-small, too-many-rows, Check, first-cause}
+use Rattle.definitions.specs.Calls.{Capacity, header-size, needed, query-limit}
+use Rattle.trie.specs.Trie.{Trie, nodes, entries, trie-pieces}
+use Rattle.trie.specs.Build.{trie-of}
+use Rattle.image.specs.Image.{image}
+use Rattle.index_memory.specs.Layout.{Header, header-bytes}
+use Rattle.index_memory.specs.Index.{Index, broken, opened, finished, read-index}
+use Rattle.index_memory.specs.Record.{Done}
+
+-- ── finish: the log becomes an image ──
+
+abbrev pub finished-header : Capacity → Trie → Header
+finished-header c t = record { capacity = c; phase = 1; nodes = nodes t; entries = entries t; payload = length (image t) }
+
+-- header, image, and zeros up to what the capacity needs; bytes behind that stay
+abbrev pub finished-memory : List ℕ → Capacity → Trie → List ℕ
+finished-memory m c t = sets m 0 (header-bytes (finished-header c t) ++ (image t ++ replicate (needed c - (header-size + length (image t))) 0))
+
+abbrev pub finish-by : Index → List ℕ → Done
+finish-by broken m = record { refusal = number index-rule-broken; memory = m }
+finish-by (finished c t) m = record { refusal = 0; memory = m }
+finish-by (opened c ps) m = record { refusal = 0; memory = finished-memory m c (trie-of ps) }
+
+unfoldable pub finish-memory : List ℕ → Done
+finish-memory m = finish-by (read-index m) m
+
+-- ── search ──
+
+-- rows as numbers: address, created, destroyed
+abbrev pub row-numbers : List Location → List ℕ
+row-numbers [] = []
+row-numbers (l ∷ ls) = l .address ∷ l .created ∷ l .destroyed ∷ row-numbers ls
+
+-- a refusal's number (0 for none), how many rows there are, and the row buffer afterwards
+pub record Found : Type 0 where
+  pub refusal : ℕ
+  pub count : ℕ
+  pub buffer : List ℕ
+
+-- a place takes 24 bytes of scratch, a row three numbers of the row buffer
+abbrev pub query-checks : List Piece → List ℕ → ℕ → ℕ → List Check
+query-checks ps q scratch buffer =
+    record { applies = ltb query-limit (length q); cause = query-too-long } ∷
+    record { applies = ltb (scratch / 24) (places-counted ps q); cause = scratch-too-small } ∷
+    record { applies = ltb (buffer / 3) (length (rows ps q)); cause = too-many-rows } ∷ []
+
+abbrev pub found-or-refused : Option Cause → List Location → List ℕ → Found
+found-or-refused none rs buffer = record { refusal = 0; count = length rs; buffer = sets buffer 0 (row-numbers rs) }
+found-or-refused (some c) rs buffer = record { refusal = number c; count = 0; buffer = buffer }
+
+-- scratch has so many bytes; rows are handed over in the buffer, numbers after the last row stay
+abbrev pub search-by : Index → List ℕ → ℕ → List ℕ → Found
+search-by broken q scratch buffer = record { refusal = number index-rule-broken; count = 0; buffer = buffer }
+search-by (opened c ps) q scratch buffer = record { refusal = number before-finish; count = 0; buffer = buffer }
+search-by (finished c t) q scratch buffer = found-or-refused (first-cause (query-checks (trie-pieces t) q scratch (length buffer))) (rows (trie-pieces t) q) buffer
+
+unfoldable pub search-memory : List ℕ → List ℕ → ℕ → List ℕ → Found
+search-memory m q scratch buffer = search-by (read-index m) q scratch buffer

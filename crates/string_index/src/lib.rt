@@ -1,0 +1,1 @@
+pub const PLACE_SIZE: usize = 24;
