@@ -26,6 +26,7 @@ pub data HeadRead : Type 0 where
   head : ℕ → ℕ → ℕ → HeadRead
   no-head : ℕ → HeadRead
 
+-- the lists go on one behind another
 abbrev pub behind-list : ListRead → (ℕ → ℕ → HeadRead) → HeadRead
 behind-list cut f = no-head 13
 behind-list (past next n) f = f next n
@@ -66,12 +67,15 @@ table-fault s base (suc k) i =
     (cond (ltb (find-byte s base (getD s (base + i * 9) 0) i 0) i) 15
     (cond (ltb (length s) (base + i * 9 + 9)) 13 (table-fault s base k (i + 1))))
 
+-- the table of a node of kind 3 or 2 with n entries, whose count stands at an index
 abbrev pub sparse-table : ℕ → ℕ → ℕ → Table
 sparse-table kind at n = record { kind = kind; base = at + 8; count = n; start = at + 8 + n * 9; turns = cond (eqb kind 3) n 256 }
 
+-- the table of a node of kind 1 at an index
 abbrev pub dense-table : ℕ → Table
 dense-table at = record { kind = 1; base = at; count = 0; start = at + 2048; turns = 256 }
 
+-- a table, or the number of its fault
 pub data TableRead : Type 0 where
   table : Table → TableRead
   no-table : ℕ → TableRead
@@ -106,6 +110,7 @@ pub data Step : Type 0 where
   done : ℕ → ℕ → ℕ → ℕ → Step
   fault : ℕ → Step
 
+-- a step goes on behind another
 abbrev pub behind : Step → (ℕ → ℕ → ℕ → ℕ → Step) → Step
 behind (fault c) f = fault c
 behind (done next met nodes entries) f = f next met nodes entries
@@ -155,6 +160,7 @@ read-table s rd t = read-turns s rd t (t .turns) 0 (t .start) 0 0 0
 
 -- ── nodes ──
 
+-- a node goes on behind its head and its table; it counts as one itself
 abbrev pub behind-table : List ℕ → (ℕ → Step) → ℕ → TableRead → Step
 behind-table s rd entries (no-table c) = fault c
 behind-table s rd entries (table t) = behind (read-table s rd t) (λ next met nodes more. done next 1 (nodes + 1) (entries + more))

@@ -366,7 +366,7 @@ fn read_root(s: &[u8]) -> Past
     if s[0] == 0 {
         return read_empty(s);
     }
-    read_node(s, 0, 17)
+    read_node(s, 0, trie::MAX_DEPTH + 1)
 }
 
 // A whole image: its nodes, at least one, and its entries; or document 01's number of what is wrong.

@@ -23,6 +23,9 @@ read-empty-requires c κs = search needs
 returns-2 : tie.Need-returns-2
 returns-2 c = c .read-empty .ensures ∙ root-empty _ (c .before .before .before .if1 .left) (c .before .if2 .taken)
 
+add-read-node : tie.Need-add-read-node
+add-read-node c = search needs
+
 read-node-requires : tie.Need-read-node-requires
 read-node-requires c κs = search needs
 
@@ -38,5 +41,6 @@ read-root-spec =
     shared-slice-read-if2
     read-empty-requires
     returns-2
+    add-read-node
     read-node-requires
     returns-3)
