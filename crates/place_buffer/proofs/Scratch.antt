@@ -1,0 +1,147 @@
+-- Places in scratch: what is kept of them, one more behind them, and what `sort` and `drop_repeats` leave. Assumes nothing.
+use Prim.Native.Nat.{ℕ, zero, suc, _+_, _-_, _*_, _≤_, _<_}
+use native.Mathlib.Nat.{not-suc-le-zero}
+use native.Mathlib.Omega.{arith}
+use mathlib.Core.Path.{_≡_, refl, sym, ap, subst, _∙_}
+use mathlib.Core.Logic.{_⊎_, inl, inr}
+use mathlib.Core.List.{List, [], _∷_, _++_}
+use lib.ListN.{length, getD}
+use lib.Seq.{sets, length-sets}
+use Rattle.words.proofs.Laws.{le64-ext}
+use Rattle.words.proofs.Parts.{getD-sets-out}
+use Rattle.sort.specs.Records.{records, recordsBytes, sorted, dropRepeats}
+use Rattle.sort.proofs.Bytes.{Bytes, length-records, records-ext}
+use Rattle.sort.proofs.Lists.{length-dropRepeats}
+use Rattle.sort.proofs.Results.{length-sorted-bytes, length-dropRepeats-bytes, records-after-sort, records-after-drop}
+use Rattle.definitions.specs.Location.{Location, normal, location-at, location-bytes, locations-in}
+use Rattle.definitions.proofs.Order.{location-path}
+use Rattle.location.specs.Fits.{Fits}
+use Rattle.location.proofs.Bytes.{location-written}
+use Rattle.place_buffer.specs.Buffer.{Tidied}
+use Rattle.place_buffer.proofs.Sets.{length-normal}
+use Rattle.place_buffer.proofs.Triples.{triples, records-triples, triples-path, length-triples, normal-triples}
+
+pub length-locations : (n : ℕ) (s : List ℕ) (at : ℕ) → length (locations-in s n at) ≡ n
+unfolding locations-in
+length-locations zero s at = refl
+length-locations (suc n) s at = ap suc (length-locations n s (at + 24))
+
+-- the same bytes are the same places
+pub location-ext : (s s′ : List ℕ) (at : ℕ) → ((k : ℕ) → at ≤ k → k < at + 24 → getD s k 0 ≡ getD s′ k 0) → location-at s at ≡ location-at s′ at
+location-ext s s′ at h =
+    location-path
+    (le64-ext s s′ at (λ k a b. h k a (omega arith)))
+    (le64-ext s s′ (at + 8) (λ k a b. h k (omega arith) (omega arith)))
+    (le64-ext s s′ (at + 16) (λ k a b. h k (omega arith) (omega arith)))
+
+pub locations-ext : (n : ℕ) (s s′ : List ℕ) (at : ℕ) → ((k : ℕ) → at ≤ k → k < at + n * 24 → getD s k 0 ≡ getD s′ k 0) → locations-in s n at ≡ locations-in s′ n at
+locations-ext n s s′ at h =
+    triples-path (locations-in s n at) (locations-in s′ n at)
+    (sym (records-triples n s at) ∙ records-ext 3 n s s′ at (λ k a b. h k a (omega arith)) ∙ records-triples n s′ at)
+
+pub locations-append : (n m : ℕ) (s : List ℕ) (at : ℕ) → locations-in s (n + m) at ≡ locations-in s n at ++ locations-in s m (at + n * 24)
+unfolding locations-in
+locations-append zero m s at =
+    let e : 0 + m ≡ m = omega arith in
+    let f : at + 0 * 24 ≡ at = omega arith in
+    rw (e, f)
+locations-append (suc n) m s at =
+    let e : suc n + m ≡ suc (n + m) = omega arith in
+    let f : at + 24 + n * 24 ≡ at + suc n * 24 = omega arith in
+    let r = locations-append n m s (at + 24) in
+    rw (e, r, f)
+
+pub locations-snoc : (n : ℕ) (s : List ℕ) (at : ℕ) → locations-in s (n + 1) at ≡ locations-in s n at ++ (location-at s (at + n * 24) ∷ [])
+unfolding locations-in
+locations-snoc n s at = locations-append n 1 s at
+
+pub getD-locations : (n : ℕ) (s : List ℕ) (at i : ℕ) (d : Location) → i < n → getD (locations-in s n at) i d ≡ location-at s (at + i * 24)
+unfolding locations-in
+getD-locations zero s at i d h = absurd (not-suc-le-zero h)
+getD-locations (suc n) s at zero d h =
+    let e : at + 0 * 24 ≡ at = omega arith in
+    rw e
+getD-locations (suc n) s at (suc i) d h =
+    let e : at + 24 + i * 24 ≡ at + suc i * 24 = omega arith in
+    getD-locations n s (at + 24) i d (omega arith) ∙ ap (location-at s) e
+
+-- l written behind n places
+pub locations-written : (n : ℕ) (s : List ℕ) (at : ℕ) (l : Location) → Fits l → at + n * 24 + 24 ≤ length s
+    → locations-in (sets s (at + n * 24) (location-bytes l)) (n + 1) at ≡ locations-in s n at ++ (l ∷ [])
+locations-written n s at l f h =
+    let s′ = sets s (at + n * 24) (location-bytes l) in
+    let a : locations-in s′ n at ≡ locations-in s n at = locations-ext n s′ s at (λ k a b. getD-sets-out (location-bytes l) s (at + n * 24) k (inl b)) in
+    let b : location-at s′ (at + n * 24) ≡ l = location-written s (at + n * 24) l f h in
+    locations-snoc n s′ at ∙ rw (a, b) refl
+
+-- ── sorted, then without repeats ──
+
+module _ (s s₁ s₂ : List ℕ) (base count k : ℕ) (b : Bytes s) (b₁ : Bytes s₁) (le : base ≤ count) (fits : count * 24 ≤ length s)
+    (e₁ : s₁ ≡ sets s (base * 24) (recordsBytes (sorted (records 3 (count - base) s (base * 24)))))
+    (e₂ : s₂ ≡ sets s₁ (base * 24) (recordsBytes (dropRepeats (records 3 (count - base) s₁ (base * 24)))))
+    (ek : k ≡ length (dropRepeats (records 3 (count - base) s₁ (base * 24)))) where
+  n : ℕ
+  n = count - base
+
+  at : ℕ
+  at = base * 24
+
+  ls : List Location
+  ls = locations-in s (count - base) (base * 24)
+
+  long : length s₁ ≡ length s
+  long = ap length e₁ ∙ length-sets s (base * 24) (recordsBytes (sorted (records 3 (count - base) s (base * 24))))
+
+  long₂ : length s₂ ≡ length s₁
+  long₂ = ap length e₂ ∙ length-sets s₁ (base * 24) (recordsBytes (dropRepeats (records 3 (count - base) s₁ (base * 24))))
+
+  -- the records kept are the set of places
+  kept : dropRepeats (records 3 n s₁ at) ≡ triples (normal ls)
+  unfolding n at ls
+  kept =
+      let a : records 3 n s₁ at ≡ sorted (records 3 n s at) = ap (λ (x : List ℕ). records 3 n x at) e₁ ∙ records-after-sort 3 n s at b (omega arith) in
+      ap dropRepeats a ∙ ap (λ (x : List (List ℕ)). dropRepeats (sorted x)) (records-triples n s at) ∙ normal-triples ls
+
+  size : k ≡ length (normal ls)
+  unfolding n at
+  size = ek ∙ ap length kept ∙ length-triples (normal ls)
+
+  few : k ≤ count - base
+  unfolding n
+  few = omega (arith, length-dropRepeats (records 3 (count - base) s₁ (base * 24)), length-records 3 (count - base) s₁ (base * 24))
+
+  places : locations-in s₂ k at ≡ normal ls
+  unfolding n at
+  places =
+      let a : records 3 k s₂ at ≡ dropRepeats (records 3 n s₁ at) = ap (λ (x : List ℕ). records 3 k x at) e₂ ∙ records-after-drop 3 n s₁ at b₁ k ek (omega (arith, long)) in
+      triples-path (locations-in s₂ k at) (normal ls) (sym (records-triples k s₂ at) ∙ a ∙ kept)
+
+  away : (j : ℕ) → (j < base * 24) ⊎ (count * 24 ≤ j) → getD s₂ j 0 ≡ getD s j 0
+  unfolding n at
+  away j o =
+      let rs = sorted (records 3 n s at) in
+      let ds = dropRepeats (records 3 n s₁ at) in
+      ap (λ (x : List ℕ). getD x j 0) e₂ ∙ getD-sets-out (recordsBytes ds) s₁ at j (second o) ∙ ap (λ (x : List ℕ). getD x j 0) e₁
+      ∙ getD-sets-out (recordsBytes rs) s at j (first o)
+    where
+      first : (j < base * 24) ⊎ (count * 24 ≤ j) → (j < at) ⊎ (at + length (recordsBytes (sorted (records 3 n s at))) ≤ j)
+      first (inl h) = inl h
+      first (inr h) = inr (omega (arith, length-sorted-bytes 3 (count - base) s (base * 24) b))
+
+      second : (j < base * 24) ⊎ (count * 24 ≤ j) → (j < at) ⊎ (at + length (recordsBytes (dropRepeats (records 3 n s₁ at))) ≤ j)
+      second (inl h) = inl h
+      second (inr h) = inr (omega (arith, length-dropRepeats-bytes 3 (count - base) s₁ (base * 24) b₁, few, ek))
+
+  pub tidied : Tidied s s₂ base count (base + k)
+  unfolding at ls
+  tidied = record {
+    next = ap (λ (x : ℕ). base + x) size;
+    places = subst (λ (x : ℕ). locations-in s₂ x at ≡ normal ls) size places;
+    same-length = long₂ ∙ long;
+    before = λ j h. away j (inl h);
+    behind = λ j h. away j (inr h);
+  }
+
+pub tidied-le : {s s′ : List ℕ} {base count r : ℕ} → Tidied s s′ base count r → base ≤ count → r ≤ count
+tidied-le {s} {s′} {base} {count} t le =
+    omega (arith, t .next, length-normal (locations-in s (count - base) (base * 24)), length-locations (count - base) s (base * 24))

@@ -1,0 +1,76 @@
+-- Sets of places as ascending lists: what the members decide, and how many there are. Assumes nothing.
+use Prim.Native.Nat.{suc, _≤_, Ordering, Ordering·lt, Ordering·eq, Ordering·gt}
+use native.Mathlib.Omega.{arith}
+use mathlib.Core.Path.{_≡_, refl, sym, subst}
+use mathlib.Core.Logic.{_⊎_, inl, inr}
+use mathlib.Core.List.{List, [], _∷_, List·Memᴰ as Mem, List·Memᴰ·head as here, List·Memᴰ·tail as later, List·Memᴰ·cases-cons as split, List·Memᴰ·not-nil as not-nil}
+use lib.ListN.{length}
+use Rattle.definitions.specs.Location.{Location, order, placed, insert, normal, Sorted}
+use Rattle.definitions.proofs.Order.{Less, Cmp, cmp, less-asym, mem-normal, normal-mem, sorted-normal, same-lists}
+use Rattle.place_buffer.specs.Buffer.{Within}
+
+-- no place comes before itself
+pub less-irrefl : {l m : Location} → Less l m → l ≡ m → ⊥
+less-irrefl {l} h e = less-asym (subst (Less l) (sym e) h) (subst (Less l) (sym e) h)
+
+-- ── the members decide ──
+
+pub normal-same : (xs ys : List Location) → Within xs ys → Within ys xs → normal xs ≡ normal ys
+normal-same xs ys f g =
+    same-lists (normal xs) (normal ys) (sorted-normal xs) (sorted-normal ys) (λ x h. mem-normal ys (f x (normal-mem xs h))) (λ x h. mem-normal xs (g x (normal-mem ys h)))
+
+pub normal-ascending : (ls : List Location) → Sorted Less ls → normal ls ≡ ls
+normal-ascending ls s = same-lists (normal ls) ls (sorted-normal ls) s (λ x h. normal-mem ls h) (λ x h. mem-normal ls h)
+
+-- ── how many there are ──
+
+pub ascending-within : (ls ms : List Location) → Sorted Less ls → Sorted Less ms → Within ls ms → length ls ≤ length ms
+ascending-within [] ms s t f = omega arith
+ascending-within (l ∷ ls) [] s t f = absurd (not-nil (f l (here refl)))
+ascending-within (l ∷ ls) (m ∷ ms) s t f = go (split (f l (here refl))) (ascending-within ls ms (s .1) (t .1)) (ascending-within (l ∷ ls) ms s (t .1))
+  where
+    -- behind the first there is no m
+    rest : l ≡ m → (x : Location) → Mem x ls → (x ≡ m) ⊎ Mem x ms → Mem x ms
+    rest e x h (inl q) = absurd (less-irrefl (subst (Less l) q (s .0 x h)) e)
+    rest e x h (inr k) = k
+
+    -- the first is behind m, so that m is none of them
+    none : Mem l ms → (x : Location) → Mem x (l ∷ ls) → (x ≡ m) ⊎ Mem x ms → Mem x ms
+    none k x h (inr j) = j
+    none k x (here e) (inl q) = absurd (less-irrefl (subst (Less m) (sym e) (t .0 l k)) (sym q))
+    none k x (later h) (inl q) = absurd (less-asym (subst (Less l) q (s .0 x h)) (t .0 l k))
+
+    go : (l ≡ m) ⊎ Mem l ms → (Within ls ms → length ls ≤ length ms)
+        → (Within (l ∷ ls) ms → suc (length ls) ≤ length ms) → suc (length ls) ≤ suc (length ms)
+    go (inl e) ih ih′ = omega (arith, ih (λ x h. rest e x h (split (f x (later h)))))
+    go (inr k) ih ih′ = omega (arith, ih′ (λ x h. none k x h (split (f x h))))
+
+-- a set within another has at most as many places
+pub fewer : (xs ys : List Location) → Within xs ys → length (normal xs) ≤ length (normal ys)
+fewer xs ys f = ascending-within (normal xs) (normal ys) (sorted-normal xs) (sorted-normal ys) (λ x h. mem-normal ys (f x (normal-mem xs h)))
+
+insert-length : (l : Location) (ms : List Location) → length (insert l ms) ≤ suc (length ms)
+insert-length l [] = omega arith
+insert-length l (m ∷ ms) = go (order l m) (insert-length l ms)
+  where
+    go : (o : Ordering) → length (insert l ms) ≤ suc (length ms) → length (placed o l m ms (insert l ms)) ≤ suc (suc (length ms))
+    go Ordering·lt ih = omega arith
+    go Ordering·eq ih = omega arith
+    go Ordering·gt ih = omega arith
+
+pub length-normal : (ls : List Location) → length (normal ls) ≤ length ls
+length-normal [] = omega arith
+length-normal (l ∷ ls) = omega (arith, insert-length l (normal ls), length-normal ls)
+
+insert-new-length : (l : Location) (ms : List Location) → (Mem l ms → ⊥) → length (insert l ms) ≡ suc (length ms)
+insert-new-length l [] n = refl
+insert-new-length l (m ∷ ms) n = go (order l m) (cmp l m) (insert-new-length l ms (λ h. n (later h)))
+  where
+    go : (o : Ordering) → Cmp o l m → length (insert l ms) ≡ suc (length ms) → length (placed o l m ms (insert l ms)) ≡ suc (suc (length ms))
+    go Ordering·lt c ih = refl
+    go Ordering·eq c ih = absurd (n (here c))
+    go Ordering·gt c ih = omega arith
+
+-- a place that is none of them makes one more
+pub normal-new : (l : Location) (ls : List Location) → (Mem l ls → ⊥) → length (normal (l ∷ ls)) ≡ suc (length (normal ls))
+normal-new l ls n = insert-new-length l (normal ls) (λ h. n (normal-mem ls h))

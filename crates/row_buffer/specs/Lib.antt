@@ -1,0 +1,2 @@
+-- `Numbers` has what the contracts cite. Assumes nothing.
+pub mod Numbers
