@@ -27,7 +27,8 @@ use Rattle.trie.proofs.BuildRule.{SoundPiece}
 use Rattle.trie.proofs.BuildPieces.{trie-of-pieces}
 use Rattle.index_memory.specs.Index.{Index, opened, finished, read-index}
 use Rattle.index_memory.specs.Record.{open-memory, log-checks, appended}
-use Rattle.string_index.specs.Finish.{finished-memory, row-numbers, Found, query-checks, found-or-refused, search-by, search-memory}
+use Rattle.row_buffer.specs.Numbers.{row-numbers}
+use Rattle.string_index.specs.Finish.{finished-memory, Found, query-checks, found-or-refused, search-by, search-memory}
 use Rattle.string_index.specs.Demand.{Fits, Recording, final, taken-in, searched, HandsOver, Exactly, RowsExact, EmptyQuery, OnlyBuffers, Answers, SameAnswers, Demand3}
 use Rattle.string_index.proofs.Follow.{AllFit, holds, Follows, follow-all}
 
@@ -44,6 +45,7 @@ piece-sound bs f p h = go (pieces-mem bs h)
 -- ── rows as numbers ──
 
 numbers-length : (rs : List Location) → length (row-numbers rs) ≡ 3 * length rs
+unfolding row-numbers
 numbers-length [] = refl
 numbers-length (r ∷ rs) = omega (arith, numbers-length rs)
 
@@ -54,6 +56,7 @@ handed rs buffer h =
 
 -- the numbers say the rows
 same-numbers : (rs rs′ : List Location) → row-numbers rs ≡ row-numbers rs′ → rs ≡ rs′
+unfolding row-numbers
 same-numbers [] [] e = refl
 same-numbers [] (r ∷ rs) e = absurd (let z : _≡_ {A = ℕ} 0 1 = cc in omega arith)
 same-numbers (r ∷ rs) [] e = absurd (let z : _≡_ {A = ℕ} 0 1 = cc in omega arith)
@@ -154,6 +157,7 @@ module _
       (rows (pieces-of (taken-in r)) q, hands-over r q scratch buffer e, record { runs = m .exactly; in-order = m .in-order })
 
   empty-query : (r : Recording) → EmptyQuery r
+  unfolding row-numbers
   empty-query r scratch buffer =
       let i = searched-is r [] scratch buffer in
       let z : _≡_ {A = Found} (found-or-refused (first-cause (query-checks (held r) [] scratch (length buffer))) (rows (held r) []) buffer) (record { refusal = 0; count = 0; buffer = buffer }) = rw (le-ltb (scratch / 24) 0 (omega arith), le-ltb (length buffer / 3) 0 (omega arith)) in

@@ -11,7 +11,8 @@ use Rattle.definitions.specs.Runs.{LongestRun, Consistent, Query, SameHeld}
 use Rattle.definitions.specs.Calls.{Capacity, last-number}
 use Rattle.definitions.specs.Recording.{Call, record-block, finish, search, taken, Finished}
 use Rattle.index_memory.specs.Record.{open-memory, record-memory}
-use Rattle.string_index.specs.Finish.{row-numbers, Found, finish-memory, search-memory}
+use Rattle.row_buffer.specs.Numbers.{row-numbers}
+use Rattle.string_index.specs.Finish.{Found, finish-memory, search-memory}
 
 -- the memory that a call leaves; a search changes nothing in it
 abbrev pub memory-after : List ℕ → Call → List ℕ

@@ -15,6 +15,7 @@ use Rattle.definitions.specs.Calls.{Capacity, header-size, needed, query-limit}
 use Rattle.trie.specs.Trie.{Trie, nodes, entries, trie-pieces}
 use Rattle.trie.specs.Build.{trie-of}
 use Rattle.image.specs.Image.{image}
+use Rattle.row_buffer.specs.Numbers.{row-numbers}
 use Rattle.index_memory.specs.Layout.{Header, header-bytes}
 use Rattle.index_memory.specs.Index.{Index, broken, opened, finished, read-index}
 use Rattle.index_memory.specs.Record.{Done}
@@ -37,11 +38,6 @@ unfoldable pub finish-memory : List ℕ → Done
 finish-memory m = finish-by (read-index m) m
 
 -- ── search ──
-
--- rows as numbers: address, created, destroyed
-abbrev pub row-numbers : List Location → List ℕ
-row-numbers [] = []
-row-numbers (l ∷ ls) = l .address ∷ l .created ∷ l .destroyed ∷ row-numbers ls
 
 -- a refusal's number (0 for none), how many rows there are, and the row buffer afterwards
 pub record Found : Type 0 where
