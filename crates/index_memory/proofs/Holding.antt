@@ -1,11 +1,11 @@
 -- What a memory holds, by its header: what is known of an open index, and when there is one. Assumes nothing.
-use Prim.Native.Nat.{ℕ, _+_, _*_, _≤_}
+use Prim.Native.Nat.{ℕ, _+_, _*_, _≤_, _<_}
 use native.Mathlib.Omega.{arith}
 use mathlib.Core.Path.{_≡_, refl, sym, ap, _∙_, subst}
 use mathlib.Core.Bool.{Bool, true, false, _&&_, cond}
-use mathlib.Core.List.{List}
+use mathlib.Core.List.{List, List·Memᴰ as Mem}
 use mathlib.Core.Option.{Option, none, some}
-use lib.ListN.{length}
+use lib.ListN.{length, getD}
 use lib.Dec.{eqb}
 use borrow.Author.Tests.{eqb-true, eq-eqb, ne-eqb}
 use Rattle.definitions.specs.Blocks.{Piece}
@@ -17,7 +17,7 @@ use Rattle.index_memory.specs.Layout.{Header, header-at, log-in, log-sou
 use Rattle.index_memory.specs.Index.{broken, opened, finished, header-right, log-right, open-index, finished-index, if-right, read-index, image-part}
 use Rattle.index_memory.specs.Answers.{heading-at}
 use Rattle.index_memory.proofs.Tests.{and-left, and-right, both}
-use Rattle.index_memory.proofs.LogBytes.{AllSound, length-log-in, log-sound-is, is-log-sound}
+use Rattle.index_memory.proofs.LogBytes.{AllFit, AllSound, log-fits, log-in-bytes, length-log-in, log-sound-is, is-log-sound}
 use Rattle.index_memory.proofs.HeaderFacts.{HeaderFacts, header-facts, heading-some, open-payload}
 
 -- ---- by the heading
@@ -141,3 +141,10 @@ open-at m h ps e f z l s n k =
     both (is-log-sound m (h .payload) 64 (open-room m h f z) (subst AllSound (sym l) s))
     (both (eq-eqb (h .nodes) (log-nodes log) (n ∙ ap log-nodes (sym l))) (eq-eqb (h .entries) (log-entries log) (k ∙ ap log-entries (sym l)))) in
     index-by-log m h (sym head) z ∙ rw t (ap (opened (h .capacity)) l)
+
+-- the pieces of an open index in a memory of bytes
+pub open-fits : (m : List ℕ) (c : Capacity) (ps : List Piece) → ((k : ℕ) → getD m k 0 < 256) → OpenIs m c ps → AllFit ps
+open-fits m c ps b o = subst AllFit (sym (o .log)) (log-fits m (header-at m .payload) 64 b (subst AllSound (o .log) (o .sound)))
+
+pub open-bytes : (m : List ℕ) (c : Capacity) (ps : List Piece) → ((k : ℕ) → getD m k 0 < 256) → OpenIs m c ps → (p : Piece) → Mem p ps → (k : ℕ) → getD (p .bytes) k 0 < 256
+open-bytes m c ps b o p h = log-in-bytes m (header-at m .payload) 64 b p (subst (λ (x : List Piece). Mem p x) (o .log) h)

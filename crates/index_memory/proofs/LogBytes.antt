@@ -5,14 +5,16 @@ use mathlib.Core.Path.{_≡_, refl, sym, ap, _∙_, subst}
 use mathlib.Core.Bool.{Bool, true, _&&_}
 use mathlib.Core.Logic.{_⊎_, inl, inr}
 use mathlib.Core.List.{List, [], _∷_, _++_, List·Memᴰ as Mem, List·Memᴰ·head as here, List·Memᴰ·tail as later, List·Memᴰ·not-nil as not-nil}
-use lib.ListN.{length, getD, drop, length-append, length-take, length-drop}
-use lib.Seq.{sets, length-sets}
+use lib.ListN.{length, getD, take, drop, List·getD-eq-default, length-append, length-take, length-drop}
+use lib.Seq.{sets, length-sets, getD-take, getD-drop}
 use lib.Dec.{ltb, leb}
 use borrow.Author.Tests.{leb-true, ltb-true, le-leb, lt-ltb}
 use Rattle.words.specs.Words.{le64}
 use Rattle.words.proofs.Parts.{sets-append, getD-sets-out}
 use Rattle.definitions.specs.Blocks.{Piece}
 use Rattle.definitions.specs.Calls.{last-number}
+use Rattle.definitions.proofs.Views.{lt-or-le}
+use Rattle.location.proofs.Bytes.{location-fits}
 use Rattle.index_memory.specs.Layout.{piece-in, piece-bytes, log-in, log-bytes, piece-sound, log-sound}
 use Rattle.index_memory.proofs.PieceBytes.{PieceFits, length-piece, size-written, piece-written, piece-ext}
 use Rattle.index_memory.proofs.Tests.{and-left, and-right, both}
@@ -153,3 +155,25 @@ log-elsewhere ys xs at n p h f (inl l) =
     sym (log-ext n p xs (sets xs at ys) (sym (length-sets xs at ys)) h f (λ k a b. sym (getD-sets-out ys xs at k (inl (omega arith)))))
 log-elsewhere ys xs at n p h f (inr l) =
     sym (log-ext n p xs (sets xs at ys) (sym (length-sets xs at ys)) h f (λ k a b. sym (getD-sets-out ys xs at k (inr (omega arith)))))
+
+-- ---- a log in a memory of bytes
+
+-- its locations are of 64 bits
+pub log-fits : (xs : List ℕ) (n p : ℕ) → ((k : ℕ) → getD xs k 0 < 256) → AllSound (log-in xs n p) → AllFit (log-in xs n p)
+unfolding log-in
+log-fits xs zero p b s q m = absurd (not-nil m)
+log-fits xs (suc n) p b s q (here e) = subst PieceFits (sym e) (record { small = s (piece-in xs p) (here refl) .small; place = location-fits xs (p + 24) b })
+log-fits xs (suc n) p b s q (later m) = log-fits xs n (p + 48) b (λ x k. s x (later k)) q m
+
+-- its pieces are of bytes
+pub log-in-bytes : (xs : List ℕ) (n p : ℕ) → ((k : ℕ) → getD xs k 0 < 256) → (q : Piece) → Mem q (log-in xs n p) → (k : ℕ) → getD (q .bytes) k 0 < 256
+unfolding log-in
+log-in-bytes xs zero p b q m k = absurd (not-nil m)
+log-in-bytes xs (suc n) p b q (later m) k = log-in-bytes xs n (p + 48) b q m k
+log-in-bytes xs (suc n) p b q (here e) k = subst (λ (x : Piece). getD (x .bytes) k 0 < 256) (sym e) (go (lt-or-le k (le64 xs p)))
+  where
+    go : (k < le64 xs p) ⊎ (le64 xs p ≤ k) → getD (take (le64 xs p) (drop (p + 8) xs)) k 0 < 256
+    go (inl h) = omega (arith, getD-take (le64 xs p) (drop (p + 8) xs) k 0 h, getD-drop (p + 8) xs k 0, b (p + 8 + k))
+    go (inr h) =
+        let l : length (take (le64 xs p) (drop (p + 8) xs)) ≤ k = omega (arith, length-take (le64 xs p) (drop (p + 8) xs)) in
+        omega (arith, List·getD-eq-default (take (le64 xs p) (drop (p + 8) xs)) 0 l)

@@ -46,15 +46,21 @@ same-length c = search needs
 
 returns : tie.Need-returns
 returns c =
-    let a = c .before .before .before .before .before .before .before .before .before .before .before .before .before .before .before .before .before .args in
+    let c₂ = c .before .before in
+    let c₆ = c₂ .before .before .before .before in
+    let c₁₀ = c₆ .before .before .before .before in
+    let c₁₂ = c₁₀ .before .before in
+    let c₁₄ = c₁₂ .before .before in
+    let c₁₇ = c₁₄ .before .before .before in
+    let a = c₁₇ .args in
     let b : Block = record { bytes = now (a .«data»); at = plain (a .l) } in
-    let w = c .before .before .put-header in
-    let p = c .before .before .before .before .before .before .put-pieces in
-    let x = c .before .before .before .before .before .before .before .before .before .before .before .before .before .before .block-nodes in
-    let y = c .before .before .before .before .before .before .before .before .before .before .before .before .entry-charge in
-    let z = c .before .before .before .before .before .before .before .before .before .before .piece-count in
-    let f = append-in-turn (now (a .mem)) (p .last .0) (w .last .0) (64 + 48 * a .h .payload) (log-bytes (pieces b)) (header-of (a .h)) (length (b .bytes)) (x .result) (y .result) (z .result) in
-    f (p .ensures) (x .ensures) (y .ensures) (z .ensures) (w .ensures)
+    let w = c₂ .put-header in
+    let p = c₆ .put-pieces in
+    let x = c₁₄ .block-nodes in
+    let y = c₁₂ .entry-charge in
+    let z = c₁₀ .piece-count in
+    let f = append-in-turn (now (a .mem)) (p .last .0) (w .last .0) (64 + 48 * a .h .payload) (log-bytes (pieces b)) (header-of (a .h)) (length (b .bytes)) in
+    f (x .result) (y .result) (z .result) (p .ensures) (x .ensures) (y .ensures) (z .ensures) (w .ensures)
 
 pub append-spec : {M : Type 1} → statement M
 append-spec =

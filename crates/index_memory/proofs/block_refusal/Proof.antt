@@ -11,13 +11,20 @@ returns : tie.Need-returns
 returns c = refused-4 (header-of (c .before .args .h)) (c .before .args .n) (plain (c .before .args .l)) (c .if1 .taken)
 
 returns-2 : tie.Need-returns-2
-returns-2 c = refused-5 (header-of (c .before .before .before .args .h)) (c .before .before .before .args .n) (plain (c .before .before .before .args .l)) (c .before .before .if1 .left) (c .if2 .taken)
+returns-2 c =
+    let c₂ = c .before .before in
+    let c₃ = c₂ .before in
+    refused-5 (header-of (c₃ .args .h)) (c₃ .args .n) (plain (c₃ .args .l)) (c₂ .if1 .left) (c .if2 .taken)
 
 sub-if3 : tie.Need-sub-if3
 sub-if3 c = search needs
 
 returns-3 : tie.Need-returns-3
-returns-3 c = refused-6 (header-of (c .before .before .before .before .before .args .h)) (c .before .before .before .before .before .args .n) (plain (c .before .before .before .before .before .args .l)) (c .before .before .before .before .if1 .left) (c .before .before .if2 .left) (omega arith)
+returns-3 c =
+    let c₂ = c .before .before in
+    let c₄ = c₂ .before .before in
+    let c₅ = c₄ .before in
+    refused-6 (header-of (c₅ .args .h)) (c₅ .args .n) (plain (c₅ .args .l)) (c₄ .if1 .left) (c₂ .if2 .left) (omega arith)
 
 block-nodes-requires : tie.Need-block-nodes-requires
 block-nodes-requires c κs = search needs
@@ -30,18 +37,37 @@ sub-if4 c = search needs
 
 returns-4 : tie.Need-returns-4
 returns-4 c =
-    refused-7 (header-of (c .before .before .before .before .before .before .before .before .before .args .h)) (c .before .before .before .before .before .before .before .before .before .args .n) (plain (c .before .before .before .before .before .before .before .before .before .args .l)) (c .before .before .before .before .before .before .before .before .if1 .left) (c .before .before .before .before .before .before .if2 .left) (omega arith) (omega (arith, c .before .before .before .before .before .before .before .before .before .pre, c .before .before .before .block-nodes .ensures))
+    let c₃ = c .before .before .before in
+    let c₆ = c₃ .before .before .before in
+    let c₈ = c₆ .before .before in
+    let c₉ = c₈ .before in
+    refused-7 (header-of (c₉ .args .h)) (c₉ .args .n) (plain (c₉ .args .l)) (c₈ .if1 .left) (c₆ .if2 .left) (omega arith)
+    (omega (arith, c₉ .pre, c₃ .block-nodes .ensures))
 
 sub-if5 : tie.Need-sub-if5
 sub-if5 c = search needs
 
 returns-5 : tie.Need-returns-5
 returns-5 c =
-    refused-8 (header-of (c .before .before .before .before .before .before .before .before .before .before .before .args .h)) (c .before .before .before .before .before .before .before .before .before .before .before .args .n) (plain (c .before .before .before .before .before .before .before .before .before .before .before .args .l)) (c .before .before .before .before .before .before .before .before .before .before .if1 .left) (c .before .before .before .before .before .before .before .before .if2 .left) (omega arith) (omega (arith, c .before .before .before .before .before .before .before .before .before .before .before .pre, c .before .before .before .before .before .block-nodes .ensures)) (omega (arith, c .before .before .before .before .before .before .before .before .before .before .before .pre, c .before .before .before .before .entry-charge .ensures))
+    let c₄ = c .before .before .before .before in
+    let c₅ = c₄ .before in
+    let c₈ = c₅ .before .before .before in
+    let c₁₀ = c₈ .before .before in
+    let c₁₁ = c₁₀ .before in
+    refused-8 (header-of (c₁₁ .args .h)) (c₁₁ .args .n) (plain (c₁₁ .args .l)) (c₁₀ .if1 .left) (c₈ .if2 .left) (omega arith)
+    (omega (arith, c₁₁ .pre, c₅ .block-nodes .ensures))
+    (omega (arith, c₁₁ .pre, c₄ .entry-charge .ensures))
 
 returns-6 : tie.Need-returns-6
 returns-6 c =
-    not-refused (header-of (c .before .before .before .before .before .before .before .before .before .before .before .args .h)) (c .before .before .before .before .before .before .before .before .before .before .before .args .n) (plain (c .before .before .before .before .before .before .before .before .before .before .before .args .l)) (c .before .before .before .before .before .before .before .before .before .before .if1 .left) (c .before .before .before .before .before .before .before .before .if2 .left) (omega arith) (omega (arith, c .before .before .before .before .before .before .before .before .before .before .before .pre, c .before .before .before .before .before .block-nodes .ensures)) (omega (arith, c .before .before .before .before .before .before .before .before .before .before .before .pre, c .before .before .before .before .entry-charge .ensures))
+    let c₄ = c .before .before .before .before in
+    let c₅ = c₄ .before in
+    let c₈ = c₅ .before .before .before in
+    let c₁₀ = c₈ .before .before in
+    let c₁₁ = c₁₀ .before in
+    not-refused (header-of (c₁₁ .args .h)) (c₁₁ .args .n) (plain (c₁₁ .args .l)) (c₁₀ .if1 .left) (c₈ .if2 .left) (omega arith)
+    (omega (arith, c₁₁ .pre, c₅ .block-nodes .ensures))
+    (omega (arith, c₁₁ .pre, c₄ .entry-charge .ensures))
 
 pub block-refusal-spec : {M : Type 1} → statement M
 block-refusal-spec =

@@ -21,8 +21,10 @@ is-capacity-requires c κs = search needs
 
 returns-2 : tie.Need-returns-2
 returns-2 c =
-    let m = now (c .before .before .before .before .before .args .mem) in
-    nodes-out m (c .before .before .get64 .result) (c .before .is-capacity .result) (c .before .before .get64 .ensures) (c .before .is-capacity .ensures) (not-true _ (c .if2 .taken))
+    let c₂ = c .before .before in
+    let c₅ = c₂ .before .before .before in
+    let m = now (c₅ .args .mem) in
+    nodes-out m (c₂ .get64 .result) (c .before .is-capacity .result) (c₂ .get64 .ensures) (c .before .is-capacity .ensures) (not-true _ (c .if2 .taken))
 
 get64-requires-2 : tie.Need-get64-requires-2
 get64-requires-2 c κs = search needs
@@ -32,13 +34,19 @@ is-capacity-requires-2 c κs = search needs
 
 returns-3 : tie.Need-returns-3
 returns-3 c =
-    let m = now (c .before .before .before .before .before .before .before .before .args .mem) in
-    entries-out m (c .before .before .get642 .result) (c .before .is-capacity2 .result) (c .before .before .get642 .ensures) (c .before .is-capacity2 .ensures) (not-true _ (c .if3 .taken))
+    let c₂ = c .before .before in
+    let c₈ = c₂ .before .before .before .before .before .before in
+    let m = now (c₈ .args .mem) in
+    entries-out m (c₂ .get642 .result) (c .before .is-capacity2 .result) (c₂ .get642 .ensures) (c .before .is-capacity2 .ensures) (not-true _ (c .if3 .taken))
 
 needed-requires : tie.Need-needed-requires
 needed-requires c κs =
-    let a = in-range (c .before .before .before .before .before .get64 .result) (sym (c .before .before .before .before .is-capacity .ensures) ∙ not-false _ (c .before .before .before .if2 .left)) in
-    let b = in-range (c .before .before .get642 .result) (sym (c .before .is-capacity2 .ensures) ∙ not-false _ (c .if3 .left)) in
+    let c₂ = c .before .before in
+    let c₃ = c₂ .before in
+    let c₄ = c₃ .before in
+    let c₅ = c₄ .before in
+    let a = in-range (c₅ .get64 .result) (sym (c₄ .is-capacity .ensures) ∙ not-false _ (c₃ .if2 .left)) in
+    let b = in-range (c₂ .get642 .result) (sym (c .before .is-capacity2 .ensures) ∙ not-false _ (c .if3 .left)) in
     (a .1, b .1)
 
 returns-4 : tie.Need-returns-4
@@ -64,17 +72,27 @@ returns-6 c =
 
 header-within-requires : tie.Need-header-within-requires
 header-within-requires c κs =
-    let a = in-range (c .before .before .before .before .before .before .before .before .before .before .before .get64 .result) (sym (c .before .before .before .before .before .before .before .before .before .before .is-capacity .ensures) ∙ not-false _ (c .before .before .before .before .before .before .before .before .before .if2 .left)) in
-    let b = in-range (c .before .before .before .before .before .before .before .before .get642 .result) (sym (c .before .before .before .before .before .before .before .is-capacity2 .ensures) ∙ not-false _ (c .before .before .before .before .before .before .if3 .left)) in
+    let c₂ = c .before .before in
+    let c₃ = c₂ .before in
+    let c₄ = c₃ .before in
+    let c₅ = c₄ .before in
+    let c₆ = c₅ .before in
+    let c₇ = c₆ .before in
+    let c₈ = c₇ .before in
+    let c₉ = c₈ .before in
+    let c₁₀ = c₉ .before in
+    let c₁₁ = c₁₀ .before in
+    let a = in-range (c₁₁ .get64 .result) (sym (c₁₀ .is-capacity .ensures) ∙ not-false _ (c₉ .if2 .left)) in
+    let b = in-range (c₈ .get642 .result) (sym (c₇ .is-capacity2 .ensures) ∙ not-false _ (c₆ .if3 .left)) in
     record {
-      nodes-there = c .before .before .before .before .before .before .before .before .before .before .before .get64 .ensures;
-      entries-there = c .before .before .before .before .before .before .before .before .get642 .ensures;
+      nodes-there = c₁₁ .get64 .ensures;
+      entries-there = c₈ .get642 .ensures;
       some-nodes = a .0;
       few-nodes = a .1;
       some-entries = b .0;
       few-entries = b .1;
-      held = omega (arith, c .before .before .before .before .before .needed .ensures, c .before .before .before .before .if4 .left);
-      first-zero = omega (arith, c .before .before .before .get643 .ensures, c .before .before .if5 .left);
+      held = omega (arith, c₅ .needed .ensures, c₄ .if4 .left);
+      first-zero = omega (arith, c₃ .get643 .ensures, c₂ .if5 .left);
       second-zero = omega (arith, c .before .get644 .ensures, c .if6 .left);
     }
 

@@ -22,40 +22,61 @@ piece-sound-requires : tie.Need-piece-sound-requires Inv-loop μ-loop
 piece-sound-requires c κs = omega (arith, c .before .loop .inv .room)
 
 returns : tie.Need-returns Inv-loop μ-loop
-returns c = walk-refused (now (c .before .before .before .before .before .args .mem)) (header-of (c .before .before .before .before .before .args .h)) (c .before .before .before .loop .inv) (c .before .before .loop-test .taken) (c .before .piece-sound .result) (c .before .piece-sound .ensures) (not-true _ (c .if1 .taken))
+returns c =
+    let c₂ = c .before .before in
+    let c₃ = c₂ .before in
+    let c₅ = c₃ .before .before in
+    walk-refused (now (c₅ .args .mem)) (header-of (c₅ .args .h)) (c₃ .loop .inv) (c₂ .loop-test .taken) (c .before .piece-sound .result)
+    (c .before .piece-sound .ensures) (not-true _ (c .if1 .taken))
 
 get64-requires : tie.Need-get64-requires Inv-loop μ-loop
 get64-requires c κs = omega (arith, c .before .before .before .loop .inv .room)
 
 piece-nodes-requires : tie.Need-piece-nodes-requires Inv-loop μ-loop
 piece-nodes-requires c κs =
-    let s = c .before .before .piece-sound in
+    let c₂ = c .before .before in
+    let c₄ = c₂ .before .before in
+    let c₆ = c₄ .before .before in
+    let s = c₂ .piece-sound in
     let n = c .get64 in
-    let t = sound-small (now (c .before .before .before .before .before .before .args .mem)) (c .before .before .before .before .loop .at) (sym (s .ensures) ∙ not-false _ (c .before .if1 .left)) in
+    let t = sound-small (now (c₆ .args .mem)) (c₄ .loop .at) (sym (s .ensures) ∙ not-false _ (c .before .if1 .left)) in
     omega (arith, n .ensures)
 
 add-nodes : tie.Need-add-nodes Inv-loop μ-loop
 add-nodes c =
-    let s = c .before .before .before .piece-sound in
+    let c₂ = c .before .before in
+    let c₃ = c₂ .before in
+    let c₅ = c₃ .before .before in
+    let c₇ = c₅ .before .before in
+    let s = c₃ .piece-sound in
     let n = c .before .get64 in
-    let t = sound-small (now (c .before .before .before .before .before .before .before .args .mem)) (c .before .before .before .before .before .loop .at) (sym (s .ensures) ∙ not-false _ (c .before .before .if1 .left)) in
-    let w = c .before .before .before .before .before .loop .inv in
+    let t = sound-small (now (c₇ .args .mem)) (c₅ .loop .at) (sym (s .ensures) ∙ not-false _ (c₂ .if1 .left)) in
+    let w = c₅ .loop .inv in
     let b = node-bound (n .result) (omega (arith, n .ensures)) in
     omega (arith, w .few, w .nodes-bound, c .piece-nodes .ensures)
 
 entry-charge-requires : tie.Need-entry-charge-requires Inv-loop μ-loop
 entry-charge-requires c κs =
-    let s = c .before .before .before .piece-sound in
+    let c₂ = c .before .before in
+    let c₃ = c₂ .before in
+    let c₅ = c₃ .before .before in
+    let c₇ = c₅ .before .before in
+    let s = c₃ .piece-sound in
     let n = c .before .get64 in
-    let t = sound-small (now (c .before .before .before .before .before .before .before .args .mem)) (c .before .before .before .before .before .loop .at) (sym (s .ensures) ∙ not-false _ (c .before .before .if1 .left)) in
+    let t = sound-small (now (c₇ .args .mem)) (c₅ .loop .at) (sym (s .ensures) ∙ not-false _ (c₂ .if1 .left)) in
     omega (arith, n .ensures)
 
 add-entries : tie.Need-add-entries Inv-loop μ-loop
 add-entries c =
-    let s = c .before .before .before .before .piece-sound in
-    let n = c .before .before .get64 in
-    let t = sound-small (now (c .before .before .before .before .before .before .before .before .args .mem)) (c .before .before .before .before .before .before .loop .at) (sym (s .ensures) ∙ not-false _ (c .before .before .before .if1 .left)) in
-    let w = c .before .before .before .before .before .before .loop .inv in
+    let c₂ = c .before .before in
+    let c₃ = c₂ .before in
+    let c₄ = c₃ .before in
+    let c₆ = c₄ .before .before in
+    let c₈ = c₆ .before .before in
+    let s = c₄ .piece-sound in
+    let n = c₂ .get64 in
+    let t = sound-small (now (c₈ .args .mem)) (c₆ .loop .at) (sym (s .ensures) ∙ not-false _ (c₃ .if1 .left)) in
+    let w = c₆ .loop .inv in
     omega (arith, w .few, w .entries-bound, n .ensures, entry-max (n .result), c .entry-charge .ensures)
 
 add-at : tie.Need-add-at Inv-loop μ-loop
@@ -69,19 +90,33 @@ loop-less c = omega arith
 
 loop-again : tie.Need-loop-again Inv-loop μ-loop
 loop-again c =
-    let w = c .before .before .before .before .before .before .loop .inv in
-    let s = c .before .before .before .before .piece-sound in
-    let n = c .before .before .get64 in
+    let c₂ = c .before .before in
+    let c₃ = c₂ .before in
+    let c₄ = c₃ .before in
+    let c₅ = c₄ .before in
+    let c₆ = c₅ .before in
+    let c₈ = c₆ .before .before in
+    let w = c₆ .loop .inv in
+    let s = c₄ .piece-sound in
+    let n = c₂ .get64 in
     let x = c .before .piece-nodes in
     let y = c .entry-charge in
-    let turn = walk-turn (now (c .before .before .before .before .before .before .before .before .args .mem)) (header-of (c .before .before .before .before .before .before .before .before .args .h)) w (c .before .before .before .before .before .loop-test .taken) (s .result) (s .ensures) (not-false _ (c .before .before .before .if1 .left)) in
+    let turn = walk-turn (now (c₈ .args .mem)) (header-of (c₈ .args .h)) w (c₅ .loop-test .taken) (s .result) (s .ensures) (not-false _ (c₃ .if1 .left)) in
     turn (n .result) (n .ensures) (x .result) (y .result) (x .ensures) (y .ensures)
 
 returns-2 : tie.Need-returns-2 Inv-loop μ-loop
-returns-2 c = walk-nodes (now (c .before .before .before .before .before .args .mem)) (header-of (c .before .before .before .before .before .args .h)) (c .before .before .before .loop .inv) (c .before .before .loop-test .left) (c .if2 .taken)
+returns-2 c =
+    let c₂ = c .before .before in
+    let c₃ = c₂ .before in
+    let c₅ = c₃ .before .before in
+    walk-nodes (now (c₅ .args .mem)) (header-of (c₅ .args .h)) (c₃ .loop .inv) (c₂ .loop-test .left) (c .if2 .taken)
 
 returns-3 : tie.Need-returns-3 Inv-loop μ-loop
-returns-3 c = walk-entries (now (c .before .before .before .before .before .before .args .mem)) (header-of (c .before .before .before .before .before .before .args .h)) (c .before .before .before .before .loop .inv) (c .before .before .before .loop-test .left) (c .before .if2 .left)
+returns-3 c =
+    let c₃ = c .before .before .before in
+    let c₄ = c₃ .before in
+    let c₆ = c₄ .before .before in
+    walk-entries (now (c₆ .args .mem)) (header-of (c₆ .args .h)) (c₄ .loop .inv) (c₃ .loop-test .left) (c .before .if2 .left)
 
 pub log-right-spec : {M : Type 1} → statement M
 log-right-spec =

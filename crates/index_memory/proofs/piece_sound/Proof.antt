@@ -28,11 +28,15 @@ get64-requires-3 c κs = search needs
 
 returns-2 : tie.Need-returns-2
 returns-2 c =
-    let a = c .before .before .before .before .before .before .args in
-    let n = c .before .before .before .before .get64 in
-    let x = c .before .before .get642 in
+    let c₂ = c .before .before in
+    let c₃ = c₂ .before in
+    let c₄ = c₃ .before in
+    let c₆ = c₄ .before .before in
+    let a = c₆ .args in
+    let n = c₄ .get64 in
+    let x = c₂ .get642 in
     let y = c .before .get643 in
-    no-life (now (a .mem)) (a .at) (n .result) (n .ensures) (c .before .before .before .if1 .left) (x .result) (y .result) (x .ensures) (y .ensures) (c .if2 .taken)
+    no-life (now (a .mem)) (a .at) (n .result) (n .ensures) (c₃ .if1 .left) (x .result) (y .result) (x .ensures) (y .ensures) (c .if2 .taken)
 
 add-get64-3 : tie.Need-add-get64-3
 add-get64-3 c = search needs
@@ -45,11 +49,16 @@ sub-result c = search needs
 
 returns-3 : tie.Need-returns-3
 returns-3 c =
-    let a = c .before .before .before .before .before .before .before .args in
-    let n = c .before .before .before .before .before .get64 in
-    let x = c .before .before .before .get642 in
-    let y = c .before .before .get643 in
-    let f = end-decides (now (a .mem)) (a .at) (n .result) (n .ensures) (c .before .before .before .before .if1 .left) (x .result) (y .result) (c .get644 .result) in
+    let c₂ = c .before .before in
+    let c₃ = c₂ .before in
+    let c₄ = c₃ .before in
+    let c₅ = c₄ .before in
+    let c₇ = c₅ .before .before in
+    let a = c₇ .args in
+    let n = c₅ .get64 in
+    let x = c₃ .get642 in
+    let y = c₂ .get643 in
+    let f = end-decides (now (a .mem)) (a .at) (n .result) (n .ensures) (c₄ .if1 .left) (x .result) (y .result) (c .get644 .result) in
     f (x .ensures) (y .ensures) (c .before .if2 .left) (c .get644 .ensures)
 
 pub piece-sound-spec : {M : Type 1} → statement M

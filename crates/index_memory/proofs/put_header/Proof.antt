@@ -35,16 +35,25 @@ same-length c = search needs
 
 returns : tie.Need-returns
 returns c =
-    let a = c .before .before .before .before .before .before .before .before .before .before .before .before .before .before .before .before .before .before .before .before .before .before .before .before .before .before .before .before .before .before .before .before .before .args in
+    let c₂ = c .before .before in
+    let c₆ = c₂ .before .before .before .before in
+    let c₁₀ = c₆ .before .before .before .before in
+    let c₁₄ = c₁₀ .before .before .before .before in
+    let c₁₈ = c₁₄ .before .before .before .before in
+    let c₂₂ = c₁₈ .before .before .before .before in
+    let c₂₆ = c₂₂ .before .before .before .before in
+    let c₃₀ = c₂₆ .before .before .before .before in
+    let c₃₃ = c₃₀ .before .before .before in
+    let a = c₃₃ .args in
     let m = now (a .mem) in
-    let w₁ = c .before .before .before .before .before .before .before .before .before .before .before .before .before .before .before .before .before .before .before .before .before .before .before .before .before .before .before .before .before .before .put64 in
-    let w₂ = c .before .before .before .before .before .before .before .before .before .before .before .before .before .before .before .before .before .before .before .before .before .before .before .before .before .before .put642 in
-    let w₃ = c .before .before .before .before .before .before .before .before .before .before .before .before .before .before .before .before .before .before .before .before .before .before .put643 in
-    let w₄ = c .before .before .before .before .before .before .before .before .before .before .before .before .before .before .before .before .before .before .put644 in
-    let w₅ = c .before .before .before .before .before .before .before .before .before .before .before .before .before .before .put645 in
-    let w₆ = c .before .before .before .before .before .before .before .before .before .before .put646 in
-    let w₇ = c .before .before .before .before .before .before .put647 in
-    let w₈ = c .before .before .put648 in
+    let w₁ = c₃₀ .put64 in
+    let w₂ = c₂₆ .put642 in
+    let w₃ = c₂₂ .put643 in
+    let w₄ = c₁₈ .put644 in
+    let w₅ = c₁₄ .put645 in
+    let w₆ = c₁₀ .put646 in
+    let w₇ = c₆ .put647 in
+    let w₈ = c₂ .put648 in
     let f = put-in-turn (header-of (a .h)) m (w₁ .last .0) (w₂ .last .0) (w₃ .last .0) (w₄ .last .0) (w₅ .last .0) (w₆ .last .0) (w₇ .last .0) (w₈ .last .0) in
     f (w₁ .ensures) (w₂ .ensures) (w₃ .ensures) (w₄ .ensures) (w₅ .ensures) (w₆ .ensures) (w₇ .ensures) (w₈ .ensures)
 

@@ -1,6 +1,7 @@
 -- `index_memory::put_pieces` meets its contract: what is left to be written, written, is always the same. Assumes nothing.
 use native.Mathlib.Omega.{arith}
 use denote.Ref.{now}
+use Rattle.definitions.specs.Blocks.{Block}
 use Rattle.location.specs.Plain.{plain}
 use Rattle.index_memory.proofs.Recording.{Writing, writing-start, writing-turn, writing-end}
 use Rattle.index_memory.proofs.put_pieces.Statement.{statement}
@@ -16,7 +17,10 @@ piece-count-requires : tie.Need-piece-count-requires Inv-loop μ-loop
 piece-count-requires c κs = c .before .before .pre .0
 
 loop-holds : tie.Need-loop-holds Inv-loop μ-loop
-loop-holds c = writing-start (record { bytes = now (c .before .before .before .args .«data»); at = plain (c .before .before .before .args .l) }) (c .before .before .before .args .from) (now (c .before .before .before .args .mem)) (c .piece-count .result) (c .piece-count .ensures) (c .before .before .before .pre .2)
+loop-holds c =
+    let c₃ = c .before .before .before in
+    let b : Block = record { bytes = now (c₃ .args .«data»); at = plain (c₃ .args .l) } in
+    writing-start b (c₃ .args .from) (now (c₃ .args .mem)) (c .piece-count .result) (c .piece-count .ensures) (c₃ .pre .2)
 
 sub-left : tie.Need-sub-left Inv-loop μ-loop
 sub-left c = omega arith
@@ -51,14 +55,21 @@ loop-less c = omega arith
 
 loop-again : tie.Need-loop-again Inv-loop μ-loop
 loop-again c =
-    let w = c .before .before .before .before .before .loop .inv in
-    writing-turn (record { bytes = now (c .before .before .before .before .before .before .before .before .before .args .«data»); at = plain (c .before .before .before .before .before .before .before .before .before .args .l) }) (c .before .before .before .before .before .before .before .before .before .args .from) (now (c .before .before .before .before .before .before .before .before .before .args .mem)) w (c .before .before .before .before .loop-test .taken) (c .before .before .put-part .last .0) (c .before .before .put-part .ensures)
+    let c₂ = c .before .before in
+    let c₄ = c₂ .before .before in
+    let c₅ = c₄ .before in
+    let c₉ = c₅ .before .before .before .before in
+    let b : Block = record { bytes = now (c₉ .args .«data»); at = plain (c₉ .args .l) } in
+    writing-turn b (c₉ .args .from) (now (c₉ .args .mem)) (c₅ .loop .inv) (c₄ .loop-test .taken) (c₂ .put-part .last .0) (c₂ .put-part .ensures)
 
 same-length : tie.Need-same-length Inv-loop μ-loop
 same-length c = c .before .loop .inv .long
 
 returns : tie.Need-returns Inv-loop μ-loop
-returns c = writing-end (record { bytes = now (c .before .before .before .before .before .args .«data»); at = plain (c .before .before .before .before .before .args .l) }) (c .before .before .before .before .before .args .from) (now (c .before .before .before .before .before .args .mem)) (c .before .loop .inv) (c .loop-test .left)
+returns c =
+    let c₅ = c .before .before .before .before .before in
+    let b : Block = record { bytes = now (c₅ .args .«data»); at = plain (c₅ .args .l) } in
+    writing-end b (c₅ .args .from) (now (c₅ .args .mem)) (c .before .loop .inv) (c .loop-test .left)
 
 pub put-pieces-spec : {M : Type 1} → statement M
 put-pieces-spec =

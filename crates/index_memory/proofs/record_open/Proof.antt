@@ -38,34 +38,45 @@ block-refusal-requires c κs =
 
 returns-3 : tie.Need-returns-3
 returns-3 c =
-    let a = c .before .before .before .before .before .before .args in
+    let c₂ = c .before .before in
+    let c₃ = c₂ .before in
+    let c₆ = c₃ .before .before .before in
+    let a = c₆ .args in
     let m = now (a .mem) in
     let h = header-of (a .h) in
     let b : Block = record { bytes = now (a .«data»); at = plain (a .l) } in
     let r = c .before .block-refusal in
-    refused-by m h (c .before .before .before .before .before .before .pre .0) (c .before .before .before .before .before .before .pre .1) (a .kind) b (r .result) (r .ensures) (c .before .before .before .if1 .left) (c .before .before .if2 .left) (c .if3 .taken)
+    refused-by m h (c₆ .pre .0) (c₆ .pre .1) (a .kind) b (r .result) (r .ensures) (c₃ .if1 .left) (c₂ .if2 .left) (c .if3 .taken)
 
 append-requires : tie.Need-append-requires
 append-requires c κs =
-    let a = c .before .before .before .before .before .before .before .args in
+    let c₂ = c .before .before in
+    let c₇ = c₂ .before .before .before .before .before in
+    let a = c₇ .args in
     let m = now (a .mem) in
     let h = header-of (a .h) in
     let b : Block = record { bytes = now (a .«data»); at = plain (a .l) } in
-    let r = c .before .before .block-refusal in
-    fitting m h (c .before .before .before .before .before .before .before .pre .0) (c .before .before .before .before .before .before .before .pre .1) (a .kind) b (r .result) (r .ensures) (c .before .if3 .left)
+    let r = c₂ .block-refusal in
+    fitting m h (c₇ .pre .0) (c₇ .pre .1) (a .kind) b (r .result) (r .ensures) (c .before .if3 .left)
 
 same-length : tie.Need-same-length
 same-length c = search needs
 
 returns-4 : tie.Need-returns-4
 returns-4 c =
-    let a = c .before .before .before .before .before .before .before .before .before .before .args in
+    let c₂ = c .before .before in
+    let c₄ = c₂ .before .before in
+    let c₅ = c₄ .before in
+    let c₆ = c₅ .before in
+    let c₇ = c₆ .before in
+    let c₁₀ = c₇ .before .before .before in
+    let a = c₁₀ .args in
     let m = now (a .mem) in
     let h = header-of (a .h) in
     let b : Block = record { bytes = now (a .«data»); at = plain (a .l) } in
-    let r = c .before .before .before .before .before .block-refusal in
-    let w = c .before .before .append in
-    taken-by m h (c .before .before .before .before .before .before .before .before .before .before .pre .0) (c .before .before .before .before .before .before .before .before .before .before .pre .1) (a .kind) b (r .result) (r .ensures) (c .before .before .before .before .before .before .before .if1 .left) (c .before .before .before .before .before .before .if2 .left) (c .before .before .before .before .if3 .left) (w .last .0) (w .ensures)
+    let r = c₅ .block-refusal in
+    let w = c₂ .append in
+    taken-by m h (c₁₀ .pre .0) (c₁₀ .pre .1) (a .kind) b (r .result) (r .ensures) (c₇ .if1 .left) (c₆ .if2 .left) (c₄ .if3 .left) (w .last .0) (w .ensures)
 
 pub record-open-spec : {M : Type 1} → statement M
 record-open-spec =
