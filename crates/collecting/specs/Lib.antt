@@ -1,0 +1,2 @@
+-- `Collected` has what the contracts cite. Assumes nothing.
+pub mod Collected

@@ -1,0 +1,4 @@
+-- `Each` has the members of `joins-each`, `Search` the locations by their address, `Joining` what the steps of the code add. Assumes nothing.
+pub mod Each
+pub mod Search
+pub mod Joining

@@ -1,0 +1,15 @@
+pub mod High
+pub mod Tail
+pub mod Memory
+pub mod Runs
+pub mod Part
+pub mod Write
+pub mod Log
+pub mod Entering
+pub mod Front
+pub mod Finding
+pub mod Ranks
+pub mod Arrival
+pub mod Buffer
+pub mod Distinct
+pub mod Results
