@@ -1,11 +1,10 @@
-//! The published index as it is, driven by the forms of `places`: blocks are recorded, finish finalizes, find prints rows.
+//! The published index as it is, driven by the forms of `places`: blocks are recorded, finish finalizes, find prints rows;
+//! (save) prints the saved image in hexadecimal.
 //! No check of document 01 is made here: hand over only the blocks that were taken.
-#![allow(dead_code)]
-mod index;
-
 use dataflow::prelude::SpaceKind;
-use index::string_index::StringIndex;
-use index::{Index, SpacetimeBlock};
+use oracle::index::string_index::StringIndex;
+use oracle::index::{Index, SpacetimeBlock};
+use oracle::sink::Sink;
 use std::io::{self, BufRead};
 
 fn hex(s: &str) -> Vec<u8> {
@@ -13,7 +12,8 @@ fn hex(s: &str) -> Vec<u8> {
 }
 
 fn main() {
-    let mut idx = StringIndex::new(Vec::new());
+    let sink = Sink::default();
+    let mut idx = StringIndex::new(sink.clone());
     for line in io::stdin().lock().lines() {
         let line = line.unwrap();
         let words: Vec<&str> = line.split(|c| " ()".contains(c)).filter(|w| !w.is_empty()).collect();
@@ -34,6 +34,11 @@ fn main() {
             Some("finish") => {
                 idx.finalize();
                 println!("(finished)");
+            }
+            Some("save") => {
+                idx.save().unwrap();
+                let hex: String = sink.take().iter().map(|b| format!("{b:02x}")).collect();
+                println!("(image {hex})");
             }
             Some("find") => {
                 let rows = idx.search(&hex(words.get(1).copied().unwrap_or("")));
