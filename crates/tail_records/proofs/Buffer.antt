@@ -1,11 +1,10 @@
 -- What the buffer says of groups holds on where neither its entries of that depth nor the tails are written. Assumes nothing.
-use Prim.Native.Nat.{ℕ, zero, suc, _+_, _-_, _*_, _≤_, _<_}
+use Prim.Native.Nat.{ℕ, _+_, _*_, _≤_, _<_}
 use native.Mathlib.Omega.{arith}
-use mathlib.Core.Path.{_≡_, refl, sym, ap, subst, _∙_}
+use mathlib.Core.Path.{_≡_, sym, ap, _∙_}
 use mathlib.Core.List.{List}
 use lib.ListN.{length, getD, take, drop}
 use lib.Seq.{ext-getD}
-use Rattle.tails.specs.Tails.{Tail}
 use Rattle.tails.specs.Groups.{byte-at, Group, groups}
 use Rattle.tail_records.specs.Tail.{tail-of-record, tail-in, tails-in}
 use Rattle.tail_records.specs.Found.{no-group, IsGroup, Grouped}

@@ -1,5 +1,5 @@
 -- The loops that write the tails of a piece, and of a log: what is still to be written, written, is always the same. Assumes nothing.
-use Prim.Native.Nat.{ℕ, zero, suc, _+_, _-_, _*_, _≤_, _<_}
+use Prim.Native.Nat.{ℕ, _+_, _-_, _*_, _≤_, _<_}
 use native.Mathlib.Omega.{arith}
 use mathlib.Core.Path.{_≡_, refl, sym, ap, subst, _∙_}
 use mathlib.Core.Logic.{inl}
@@ -12,7 +12,7 @@ use Rattle.definitions.specs.Blocks.{Piece}
 use Rattle.sort.specs.Records.{recordBytes, recordsBytes}
 use Rattle.trie.specs.Build.{Entry, entered, entered-all}
 use Rattle.index_memory.specs.Layout.{piece-in, log-in}
-use Rattle.tails.specs.Tails.{Tail, tail-record}
+use Rattle.tails.specs.Tails.{tail-record}
 use Rattle.tail_records.specs.Log.{SoundPiece, SoundLog, tail-from}
 use Rattle.tail_records.proofs.Write.{piece-length, bytes-from, write-one, write-many}
 use Rattle.tail_records.proofs.Log.{sound-ext, size-ext, piece-ext, still, still-start, still-step, still-done, log-none, log-step}

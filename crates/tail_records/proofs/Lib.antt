@@ -1,8 +1,10 @@
+-- A record and its tail, tails in memory, the log and its tails, runs and groups, ranks and arrival; then what the work area holds.
+-- Assumes nothing.
 pub mod High
 pub mod Tail
 pub mod Memory
-pub mod Runs
 pub mod Part
+pub mod Runs
 pub mod Write
 pub mod Log
 pub mod Entering

@@ -1,14 +1,13 @@
 -- The pieces of a log, and their tails one after the other. Assumes nothing.
 use Prim.Native.Nat.{ℕ, zero, suc, _+_, _-_, _*_, _≤_, _<_}
 use native.Mathlib.Nat.{not-suc-le-zero}
-use native.Mathlib.Numerals.{add-one}
 use native.Mathlib.Omega.{arith}
 use mathlib.Core.Path.{_≡_, refl, sym, ap, subst, _∙_}
 use mathlib.Core.Bool.{Bool, true, false, _&&_}
 use mathlib.Core.List.{List, [], _∷_, _++_}
 use lib.ListN.{length, getD, take, drop, length-drop}
 use lib.Seq.{drop-cons}
-use lib.Dec.{eqb, leb, ltb}
+use lib.Dec.{leb, ltb}
 use borrow.Author.Tests.{ne-eqb, leb-true}
 use Rattle.words.specs.Words.{le64}
 use Rattle.words.proofs.Laws.{le64-ext}
@@ -18,7 +17,6 @@ use Rattle.definitions.specs.Calls.{last-number}
 use Rattle.definitions.proofs.Order.{location-path}
 use Rattle.trie.specs.Build.{Entry, parts, entered}
 use Rattle.index_memory.specs.Layout.{piece-in, log-in, piece-sound, log-sound}
-use Rattle.tails.specs.Tails.{Tail}
 use Rattle.tail_records.specs.Log.{SoundPiece, SoundLog, tail-from}
 use Rattle.tail_records.proofs.Part.{part-ext}
 

@@ -1,15 +1,15 @@
 -- Tails in memory: what is written is read back, what lies elsewhere is as it was, a part stands in the whole. Assumes nothing.
-use Prim.Native.Nat.{ℕ, zero, suc, _+_, _-_, _*_, _^_, _≤_, _<_}
+use Prim.Native.Nat.{ℕ, zero, suc, _+_, _-_, _*_, _≤_, _<_}
 use native.Mathlib.Nat.{not-suc-le-zero}
 use native.Mathlib.Omega.{arith}
 use mathlib.Core.Path.{_≡_, refl, sym, ap, subst, _∙_}
 use mathlib.Core.Logic.{_⊎_, inl, inr}
-use mathlib.Core.List.{List, [], _∷_, _++_, List·Memᴰ as Mem, List·Memᴰ·head as here, List·Memᴰ·tail as later, Memᴰ·append-right as append-right}
+use mathlib.Core.List.{List, [], _∷_, _++_, List·Memᴰ as Mem, List·Memᴰ·head as here, Memᴰ·append-right as append-right}
 use lib.ListN.{length, getD}
 use lib.Seq.{sets}
 use Rattle.words.proofs.Parts.{getD-sets-out}
 use Rattle.sort.specs.Records.{recordAt, records, recordsBytes}
-use Rattle.sort.proofs.Bytes.{Bytes, length-records, recordAt-ext, records-ext, records-sets, records-append, getD-records}
+use Rattle.sort.proofs.Bytes.{length-records, recordAt-ext, records-ext, records-sets, records-append, getD-records}
 use Rattle.sort.proofs.Lists.{getD-mem}
 use Rattle.tails.specs.Tails.{Tail, tail-record, tail-records}
 use Rattle.tail_records.specs.Tail.{tail-of-record, tails-of, record-in, tail-in, tails-in, ValidTail, ValidRecord, Held}

@@ -2,14 +2,14 @@
 use Prim.Native.Nat.{ℕ, zero, suc, _+_, _-_, _*_, _^_, _≤_, _<_}
 use native.Mathlib.Omega.{arith}
 use mathlib.Core.Path.{_≡_, refl, sym, ap, subst, _∙_}
-use mathlib.Core.Bool.{Bool, true, false}
+use mathlib.Core.Bool.{true, false}
 use mathlib.Core.Logic.{_⊎_, inl, inr}
-use mathlib.Core.List.{List, [], _∷_, _++_, List·Memᴰ as Mem, List·Memᴰ·head as here, List·Memᴰ·tail as later, List·Memᴰ·not-nil as not-nil, List·Memᴰ·eq-of-singleton as only-one, List·Memᴰ·append-cases as append-cases}
-use lib.ListN.{length, getD, take, drop, length-take}
-use lib.Seq.{sets, length-sets}
+use mathlib.Core.List.{List, [], _∷_, List·Memᴰ as Mem, List·Memᴰ·head as here, List·Memᴰ·tail as later, List·Memᴰ·not-nil as not-nil, List·Memᴰ·eq-of-singleton as only-one, List·Memᴰ·append-cases as append-cases}
+use lib.ListN.{length}
+use lib.Seq.{sets}
 use Rattle.words.specs.Words.{le64}
 use Rattle.words.proofs.Laws.{le64-lt}
-use Rattle.definitions.specs.Location.{Location, moved, location-at}
+use Rattle.definitions.specs.Location.{Location, moved}
 use Rattle.definitions.specs.Blocks.{Piece}
 use Rattle.definitions.specs.Calls.{last-number}
 use Rattle.location.specs.Fits.{Fits}
@@ -19,11 +19,11 @@ use Rattle.sort.proofs.Lists.{sorted-mem, length-sorted}
 use Rattle.trie.specs.Build.{Entry, parts, entered, entered-all}
 use Rattle.index_memory.specs.Layout.{piece-in, log-in}
 use Rattle.tails.specs.Tails.{Tail, numbered, tail-record, tail-records}
-use Rattle.tail_records.specs.Tail.{tail-of-record, tails-of, record-in, tails-in, ValidTail, ValidRecord, Held}
+use Rattle.tail_records.specs.Tail.{tail-of-record, tails-of, tails-in, ValidTail, ValidRecord, Held}
 use Rattle.tail_records.specs.Log.{SoundPiece, SoundLog}
 use Rattle.tail_records.proofs.Part.{part-bytes}
 use Rattle.tail_records.proofs.Write.{piece-length}
-use Rattle.tail_records.proofs.Memory.{length-tails-of, tails-written, held-written, records-read, records-held, held-records}
+use Rattle.tail_records.proofs.Memory.{tails-written, held-written, records-read, records-held, held-records}
 
 -- ── what a log enters can be held ──
 

@@ -1,24 +1,22 @@
 -- Writing tails: the numbers of one record, those of a piece's tail, and one tail after the other. Assumes nothing.
-use Prim.Native.Nat.{ℕ, zero, suc, _+_, _-_, _*_, _≤_, _<_}
+use Prim.Native.Nat.{ℕ, suc, _+_, _-_, _*_, _≤_}
 use native.Mathlib.Numerals.{add-one}
 use native.Mathlib.Omega.{arith}
 use mathlib.Core.Path.{_≡_, refl, sym, ap, _∙_}
-use mathlib.Core.Bool.{Bool, true, false}
 use mathlib.Core.List.{List, [], _∷_, _++_}
-use lib.ListN.{length, getD, take, drop, length-take, length-drop}
+use lib.ListN.{length, take, drop, length-take, length-drop}
 use lib.Seq.{sets, drop-drop}
 use lib.Dec.{eqb}
-use Rattle.words.specs.Words.{le64, setLe64, bytes64}
+use Rattle.words.specs.Words.{le64, setLe64}
 use Rattle.words.proofs.Parts.{setLe64-sets}
 use Rattle.definitions.specs.Location.{Location, moved, location-at, location-bytes}
-use Rattle.definitions.specs.Blocks.{Piece}
 use Rattle.location.proofs.Bytes.{put-numbers}
 use Rattle.sort.specs.Records.{recordBytes, recordsBytes}
 use Rattle.sort.proofs.Bytes.{recordBytes-sets, recordsBytes-sets}
 use Rattle.trie.specs.Build.{Entry}
 use Rattle.index_memory.specs.Layout.{piece-in}
-use Rattle.tails.specs.Tails.{Tail, high, mark-of, numbered, tail-record, tail-records}
-use Rattle.tail_records.specs.Log.{SoundPiece, tail-from, numbers}
+use Rattle.tails.specs.Tails.{high, mark-of, numbered, tail-record, tail-records}
+use Rattle.tail_records.specs.Log.{tail-from, numbers}
 use Rattle.tail_records.proofs.Part.{part-drop}
 
 -- ── one record ──

@@ -19,7 +19,7 @@ abbrev pub least : ℕ → List Tail → ℕ
 least n [] = n
 least n (t ∷ ts) = least (min n (t .arrival)) ts
 
--- each tail goes on behind its byte d - 1
+-- each tail has a byte d
 abbrev pub Longer : ℕ → List Tail → Type 0
 Longer d ts = (t : Tail) → List·Memᴰ t ts → d < length (t .entry .path)
 

@@ -1,7 +1,7 @@
 -- The log that tails are made of: what is asked of its pieces, and the tail of a piece from its byte i on. Assumes nothing.
 use Prim.Native.Nat.{ℕ, _+_, _*_, _≤_, _<_}
 use mathlib.Core.List.{List, [], _∷_}
-use lib.ListN.{length, drop}
+use lib.ListN.{drop}
 use lib.Dec.{eqb}
 use Rattle.words.specs.Words.{le64}
 use Rattle.definitions.specs.Location.{Location, moved}

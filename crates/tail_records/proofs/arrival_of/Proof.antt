@@ -1,7 +1,7 @@
 -- `tail_records::arrival_of` meets its contract: the last number of the record is the tail's arrival number. Assumes nothing.
 use mathlib.Core.Path.{_∙_}
 use denote.Ref.{now}
-use Rattle.tail_records.proofs.Finding.{arrival-in}
+use Rattle.tail_records.proofs.Runs.{arrival-in}
 use borrow.Author.Needs.{needs}
 use Rattle.tail_records.proofs.arrival_of.Statement.{statement}
 use Rattle.tail_records.proofs.arrival_of.Tie as tie

@@ -2,7 +2,7 @@
 -- Assumes nothing.
 use Prim.Native.Nat.{_-_}
 use native.Mathlib.Omega.{arith}
-use mathlib.Core.Path.{_≡_, _∙_}
+use mathlib.Core.Path.{_∙_}
 use Rattle.tail_records.proofs.Entering.{Putting, putting-start, putting-asks, putting-turn, putting-asks-last, putting-count, putting-done}
 use Rattle.tail_records.proofs.put_tails.Statement.{statement}
 use Rattle.tail_records.proofs.put_tails.Tie as tie
