@@ -1,0 +1,18 @@
+-- from a node in place to its parts, and along the entries of its table
+pub mod Tables
+pub mod Parts
+-- one node
+pub mod Owed
+pub mod TwoLists
+pub mod Children
+pub mod Nodes
+-- fronts
+pub mod Fronts
+pub mod RootFronts
+pub mod Within
+pub mod NextFronts
+-- all nodes
+pub mod Forest
+-- the whole image
+pub mod Whole
+pub mod Theorems

@@ -1,0 +1,98 @@
+-- The rule from the root on, and the whole check of an image. Assumes nothing.
+use Prim.Native.Nat.{ℕ, zero, suc, _-_, _^_, _≤_, _<_}
+use native.Mathlib.Omega.{arith}
+use mathlib.Core.Path.{_≡_, refl, sym, ap, _∙_}
+use mathlib.Core.Bool.{Bool, true, false, _&&_, cond}
+use mathlib.Core.List.{List}
+use lib.ListN.{length, getD}
+use borrow.Author.Tests.{eq-eqb}
+use Rattle.trie.specs.Test.{node-right, fronts-within, forest-right, siblings, index-rule}
+use Rattle.image.specs.Held.{trie-in}
+use Rattle.image.specs.Reading.{right, refused, read-image, read-root}
+use Rattle.image.specs.Savable.{AllBytes}
+use Rattle.image_walk.specs.Parts.{parts-at}
+use Rattle.image_walk.specs.Here.{RootHere}
+use Rattle.image_walk.specs.declared.Node.{Node as Parts}
+use Rattle.image_walk.proofs.Root.{here-root}
+use Rattle.index_rule.specs.Parts.{PartsOf, HasParts, HasTable}
+use Rattle.index_rule.specs.Says.{SaysNode, RootFronts, children-right, ChildrenAsked, ChildrenSays}
+use Rattle.index_rule.specs.Check.{LayoutRight, and-rule, check-image}
+use Rattle.index_rule.proofs.Parts.{parts-of}
+use Rattle.index_rule.proofs.Owed.{and-not, and-so}
+
+-- ── the first byte ──
+
+read-nothing : (s : List ℕ) → length s ≡ 0 → read-image s ≡ refused 13
+unfolding read-image read-root
+read-nothing s z = rw (eq-eqb (length s) 0 z) refl
+
+-- an image has a first byte
+pub layout-some : (s : List ℕ) → LayoutRight s → 0 < length s
+layout-some s h = go (length s) refl
+  where
+    clash : {n k e : ℕ} → refused n ≡ right k e → ⊥
+    clash f = let z : _≡_ {A = ℕ} 0 1 = cc in omega arith
+
+    go : (n : ℕ) → length s ≡ n → 0 < n
+    go zero q = absurd (clash (sym (read-nothing s q) ∙ h .is))
+    go (suc n) q = omega arith
+
+-- 0 is that of an empty index, which meets the rule
+pub rule-empty : (s : List ℕ) → getD s 0 0 ≡ 0 → true ≡ index-rule (trie-in s)
+unfolding trie-in
+rule-empty s z = rw (eq-eqb (getD s 0 0) 0 z) refl
+
+-- another is that of the root
+pub root-of : (s : List ℕ) → AllBytes s → length s < 2 ^ 64 → LayoutRight s → (getD s 0 0 ≡ 0 → ⊥) → RootHere s
+root-of s a l h z = here-root s a l (h .nodes) (h .entries) (h .is) z
+
+-- ── the root ──
+
+module _ (s : List ℕ) (h : RootHere s) (c : Parts) (g : c ≡ parts-at s 0) where
+  root-is : PartsOf s 16 c (h .node)
+  root-is = rw g (parts-of s 16 0 (h .node) (h .here))
+
+  pub root-parts : HasParts s c
+  root-parts = record { depth = 16; node = h .node; is = root-is }
+
+  pub root-table : HasTable s (c .table) (c .children)
+  root-table = record { depth = 16; forest = h .node .children; is = root-is .table }
+
+  pub root-asked : (fronts : List ℕ) (count : ℕ) (lists : List ℕ) → RootFronts s (c .table) (c .children) fronts count → 8704 ≤ length fronts → 1024 ≤ length lists → ChildrenAsked s c 0 fronts count lists 16
+  root-asked fronts count lists f l m =
+      record { node = h .node; is = root-is; nodes = siblings (h .node .children); fronts-here = f .are 16 (h .node .children) (root-is .table); levels = omega arith; room = l; lists-room = m }
+
+  module _ (v : Bool) (e : SaysNode s c 0 v) where
+    pub rule-not-node : v ≡ false → false ≡ index-rule (trie-in s)
+    rule-not-node z =
+        let n = h .node in
+        and-not (node-right 0 (n .lists) (n .children)) (fronts-within (siblings (n .children)) (n .children) && forest-right (siblings (n .children)) 1 (n .children)) (sym z ∙ e 16 n root-is)
+        ∙ ap index-rule (sym (h .trie))
+
+    pub rule-by-children : v ≡ true → (fronts : List ℕ) (count : ℕ) → RootFronts s (c .table) (c .children) fronts count → (last : List ℕ) (r : Bool) → ChildrenSays s c 0 fronts count 16 last r →
+        r ≡ index-rule (trie-in s)
+    unfolding children-right
+    rule-by-children z fronts count f last r x =
+        let n = h .node in
+        let w : r ≡ (fronts-within (siblings (n .children)) (n .children) && forest-right (siblings (n .children)) 1 (n .children)) =
+        x .says n (siblings (n .children)) root-is (f .are 16 (n .children) (root-is .table)) in
+        and-so (node-right 0 (n .lists) (n .children)) (fronts-within (siblings (n .children)) (n .children) && forest-right (siblings (n .children)) 1 (n .children)) r (sym z ∙ e 16 n root-is) w
+        ∙ ap index-rule (sym (h .trie))
+
+-- ── the whole check ──
+
+module _ (s : List ℕ) where
+  pub check-refused : (n : ℕ) → refused n ≡ read-image s → refused n ≡ check-image s
+  unfolding check-image
+  check-refused n e = ap (and-rule (index-rule (trie-in s))) e
+
+  module _ (k e : ℕ) (q : right k e ≡ read-image s) (r : Bool) (f : r ≡ index-rule (trie-in s)) where
+    check-by : cond r (right k e) (refused 15) ≡ check-image s
+    unfolding check-image
+    check-by = ap (λ (x : Bool). and-rule x (right k e)) f ∙ ap (and-rule (index-rule (trie-in s))) q
+
+    pub check-holds : r ≡ true → right k e ≡ check-image s
+    check-holds z = ap (λ (x : Bool). cond x (right k e) (refused 15)) (sym z) ∙ check-by
+
+    pub check-fails : r ≡ false → refused 15 ≡ check-image s
+    check-fails z = ap (λ (x : Bool). cond x (right k e) (refused 15)) (sym z) ∙ check-by

@@ -1,0 +1,54 @@
+-- `index_rule::check` meets its contract: the layout, and then the rule. Assumes nothing.
+use mathlib.Core.Path.{sym, ap, _∙_}
+use borrow.Author.Needs.{needs}
+use denote.Ref.{now}
+use Rattle.image.specs.Answers.{layout-of}
+use Rattle.index_rule.proofs.Whole.{check-fails, check-holds, check-refused}
+use Rattle.index_rule.proofs.check.Statement.{statement}
+use Rattle.index_rule.proofs.check.Tie as tie
+
+read-image-requires : tie.Need-read-image-requires
+read-image-requires c κs = search needs
+
+enum-known-n : tie.Need-enum-known-n
+enum-known-n c = search needs
+
+enum-known-t : tie.Need-enum-known-t
+enum-known-t c = search needs
+
+index-rule-requires : tie.Need-index-rule-requires
+index-rule-requires c κs =
+    let t = c .before .t .given in
+    let q = ap layout-of (sym (t .1)) ∙ c .before .before .before .read-image .ensures in
+    record { nodes = _; entries = _; is = sym q }
+
+returns : tie.Need-returns
+returns c = check-refused (now (c .before .before .before .before .before .args .s)) _ (ap layout-of (sym (c .before .n .given .1)) ∙ c .before .before .before .read-image .ensures)
+
+returns-2 : tie.Need-returns-2
+returns-2 c =
+    let a = c .before .before .before .before .before .before .before .args in
+    let t = c .before .before .before .t .given in
+    let q = ap layout-of (sym (t .1)) ∙ c .before .before .before .before .before .read-image .ensures in
+    let r = c .before .index-rule in
+    check-holds (now (a .s)) _ _ q (r .result) (r .ensures) (c .if1 .taken)
+
+returns-3 : tie.Need-returns-3
+returns-3 c =
+    let a = c .before .before .before .before .before .before .before .args in
+    let t = c .before .before .before .t .given in
+    let q = ap layout-of (sym (t .1)) ∙ c .before .before .before .before .before .read-image .ensures in
+    let r = c .before .index-rule in
+    check-fails (now (a .s)) _ _ q (r .result) (r .ensures) (c .if1 .left)
+
+pub check-spec : {M : Type 1} → statement M
+check-spec =
+    tie.close
+    (tie.spec
+    read-image-requires
+    enum-known-n
+    enum-known-t
+    index-rule-requires
+    returns
+    returns-2
+    returns-3)

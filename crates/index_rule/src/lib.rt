@@ -1,0 +1,317 @@
+// The finished index rule, tested on an image in place; and the whole check of an image.
+use image_walk::Child;
+use image_walk::Node;
+use image_walk::Slot;
+ghost use mathlib.Core.Path.{_≡_};
+ghost use Prim.Native.Nat.{_+_, _*_, _^_, _≤_, _<_};
+ghost use lib.ListN.{length};
+ghost use Rattle.trie.specs.Test.{index-rule};
+ghost use Rattle.location_lists.specs.Lists.{count-with};
+ghost use Rattle.image.specs.Held.{trie-in};
+ghost use Rattle.image.specs.Answers.{layout-of};
+ghost use Rattle.index_rule.specs.Parts.{HasTable, HasParts};
+ghost use Rattle.index_rule.specs.Fronts.{HasFronts, with-front};
+ghost use Rattle.index_rule.specs.Says.{with-two, ChildLists, SaysOwed, SaysLists, SaysSuffixes, SaysNode, SaysWithin, SaysFronts, RootFronts, NextFronts, ChildAsked, ChildSays, ChildrenAsked, ChildrenSays};
+ghost use Rattle.index_rule.specs.Check.{LayoutRight, check-image};
+
+// Whether a node other than the root that has no child has a prefix or a chunk, and the root has no prefix.
+fn is_owed(n: Node, depth: usize) -> bool
+    ensures { λ r. ⌜ SaysOwed n depth r ⌝ }
+{
+    if depth == 0 {
+        return n.prefix_count == 0;
+    }
+    if 0 < n.children {
+        return true;
+    }
+    if 0 < n.prefix_count {
+        return true;
+    }
+    0 < n.chunk_count
+}
+
+// Whether the three lists are sorted, and the chunks pass the checks on a piece of depth bytes.
+fn lists_right(s: &[u8], n: Node, depth: usize) -> bool
+    requires { ⌜ HasParts (now s) n × (depth ≤ 16) ⌝ }
+    ensures { λ r. ⌜ SaysLists (now (s .entry)) n depth r ⌝ }
+{
+    if !location_lists::is_ascending(s, n.prefixes, n.prefix_count) {
+        return false;
+    }
+    if !location_lists::is_ascending(s, n.chunks, n.chunk_count) {
+        return false;
+    }
+    if !location_lists::is_ascending(s, n.suffixes, n.suffix_count) {
+        return false;
+    }
+    location_lists::are_sound(s, n.chunks, n.chunk_count, depth)
+}
+
+// Adds two lists of locations to count lists; how many there are then.
+fn add_two(lists: &mut [usize], count: usize, at: usize, n: usize, then: usize, m: usize) -> usize
+    requires { ⌜ (count * 2 + 4 ≤ length (now lists)) × (at + n * 24 < 2 ^ 64) × (then + m * 24 < 2 ^ 64) ⌝ }
+    ensures { λ r. ⌜ (now (lists .exit) ≡ with-two (now (lists .entry)) count at n then m) × (r ≡ count-with (count-with count n) m) ⌝ }
+{
+    let c = location_lists::add_list(lists, count, at, n);
+    location_lists::add_list(lists, c, then, m)
+}
+
+// The chunks and suffixes of the children in a table, as lists; how many.
+fn child_lists(s: &[u8], table: usize, children: usize, lists: &mut [usize]) -> usize
+    requires { ⌜ HasTable (now s) table children × (1024 ≤ length (now lists)) ⌝ }
+    ensures { λ r. ⌜ ChildLists (now (s .entry)) table children (now (lists .exit)) r ⌝ }
+{
+    let mut count = 0;
+    let mut j = 0;
+    while j < children {
+        let slot = image_walk::slot_in(s, table, children, j);
+        j += 1;
+        if let Slot::Taken { byte: _, at } = slot {
+            let c = image_walk::node_at(s, at);
+            count = add_two(
+                lists,
+                count,
+                c.chunks,
+                c.chunk_count,
+                c.suffixes,
+                c.suffix_count,
+            );
+        }
+    }
+    count
+}
+
+// Whether the suffixes of n are the chunks and suffixes of its children.
+fn suffixes_right(s: &[u8], n: Node, lists: &mut [usize]) -> bool
+    requires { ⌜ HasParts (now s) n × (1024 ≤ length (now lists)) ⌝ }
+    ensures { λ r. ⌜ SaysSuffixes (now (s .entry)) n r ⌝ }
+{
+    let count = child_lists(s, n.table, n.children, lists);
+    location_lists::is_union(s, n.suffixes, n.suffix_count, 0, lists, count)
+}
+
+// What the rule says of one node and the lists of its children.
+fn node_right(s: &[u8], n: Node, depth: usize, lists: &mut [usize]) -> bool
+    requires { ⌜ HasParts (now s) n × (depth ≤ 16) × (1024 ≤ length (now lists)) ⌝ }
+    ensures { λ r. ⌜ SaysNode (now (s .entry)) n depth r ⌝ }
+{
+    if !is_owed(n, depth) {
+        return false;
+    }
+    if !lists_right(s, n, depth) {
+        return false;
+    }
+    suffixes_right(s, n, lists)
+}
+
+// The nodes whose path has one byte more in front are a node's fronts. Each is two numbers on a stack of 256 for each
+// depth: its table and how many entries that has.
+
+// Puts a front at an index of the stack.
+fn put_front(fronts: &mut [usize], at: usize, table: usize, children: usize)
+    requires { ⌜ at + 2 ≤ length (now fronts) ⌝ }
+    ensures { λ _. ⌜ now (fronts .exit) ≡ with-front (now (fronts .entry)) at table children ⌝ }
+{
+    fronts[at] = table;
+    fronts[at + 1] = children;
+}
+
+// The fronts of the root, which are its children in a table; how many.
+fn root_fronts(s: &[u8], table: usize, children: usize, fronts: &mut [usize]) -> usize
+    requires { ⌜ HasTable (now s) table children × (512 ≤ length (now fronts)) ⌝ }
+    ensures { λ r. ⌜ RootFronts (now (s .entry)) table children (now (fronts .exit)) r ⌝ }
+{
+    let mut count = 0;
+    let mut j = 0;
+    while j < children {
+        let slot = image_walk::slot_in(s, table, children, j);
+        j += 1;
+        if let Slot::Taken { byte: _, at } = slot {
+            let c = image_walk::node_at(s, at);
+            put_front(fronts, count * 2, c.table, c.children);
+            count += 1;
+        }
+    }
+    count
+}
+
+// Whether a table has a child for each byte for which another has one.
+fn table_within(s: &[u8], table: usize, children: usize, other: usize, others: usize) -> bool
+    requires { ⌜ HasTable (now s) table children × HasTable (now s) other others ⌝ }
+    ensures { λ r. ⌜ SaysWithin (now (s .entry)) table children other others r ⌝ }
+{
+    let mut j = 0;
+    while j < others {
+        let slot = image_walk::slot_in(s, other, others, j);
+        j += 1;
+        if let Slot::Taken { byte, at: _ } = slot {
+            let c = image_walk::child_in(s, table, children, byte);
+            let Child::At(_) = c else {
+                return false;
+            };
+        }
+    }
+    true
+}
+
+// Whether a table has a child for each byte for which one of the fronts from an index on has one.
+fn fronts_within(
+    s: &[u8],
+    table: usize,
+    children: usize,
+    fronts: &[usize],
+    from: usize,
+    count: usize,
+) -> bool
+    requires { ⌜ HasTable (now s) table children × HasFronts (now s) (now fronts) from count × (from + count * 2 ≤ length (now fronts)) ⌝ }
+    ensures { λ r. ⌜ SaysFronts (now (s .entry)) table children (now (fronts .entry)) from count r ⌝ }
+{
+    let mut i = 0;
+    while i < count {
+        let f = from + i * 2;
+        i += 1;
+        if !table_within(s, table, children, fronts[f], fronts[f + 1]) {
+            return false;
+        }
+    }
+    true
+}
+
+// How many fronts, and how many lists of their chunks and prefixes.
+struct Found {
+    pub fronts: usize,
+    pub lists: usize,
+}
+
+// The fronts of a child by byte, one depth further on: the children by byte of the fronts at depth.
+fn next_fronts(
+    s: &[u8],
+    byte: u8,
+    depth: usize,
+    fronts: &mut [usize],
+    count: usize,
+    lists: &mut [usize],
+) -> Found
+    requires { ⌜ HasFronts (now s) (now fronts) (depth * 512) count × (depth ≤ 15) × (8704 ≤ length (now fronts)) × (1024 ≤ length (now lists)) ⌝ }
+    ensures { λ r. ⌜ NextFronts (now (s .entry)) byte depth (now (fronts .entry)) count (now (fronts .exit)) (r .fronts) (now (lists .exit)) (r .lists) ⌝ }
+{
+    let from = depth * 512;
+    let to = (depth + 1) * 512;
+    let mut met = 0;
+    let mut listed = 0;
+    let mut i = 0;
+    while i < count {
+        let f = from + i * 2;
+        i += 1;
+        let c = image_walk::child_in(s, fronts[f], fronts[f + 1], byte);
+        if let Child::At(at) = c {
+            let n = image_walk::node_at(s, at);
+            put_front(fronts, to + met * 2, n.table, n.children);
+            met += 1;
+            listed = add_two(
+                lists,
+                listed,
+                n.chunks,
+                n.chunk_count,
+                n.prefixes,
+                n.prefix_count,
+            );
+        }
+    }
+    Found {
+        fronts: met,
+        lists: listed,
+    }
+}
+
+// One child of a node at depth, by byte at index at: its prefixes are the chunks and prefixes of its fronts, one address
+// further on, and it and all below it is right, where left levels are left below it.
+fn child_right(
+    s: &[u8],
+    byte: u8,
+    at: usize,
+    depth: usize,
+    fronts: &mut [usize],
+    count: usize,
+    lists: &mut [usize],
+    left: usize,
+) -> bool
+    requires { ⌜ ChildAsked (now s) at depth (now fronts) count (now lists) left ⌝ }
+    ensures { λ r. ⌜ ChildSays (now (s .entry)) byte at depth (now (fronts .entry)) count left (now (fronts .exit)) r ⌝ }
+{
+    let c = image_walk::node_at(s, at);
+    let found = next_fronts(s, byte, depth, fronts, count, lists);
+    if !location_lists::is_union(s, c.prefixes, c.prefix_count, 1, lists, found.lists) {
+        return false;
+    }
+    if !node_right(s, c, depth + 1, lists) {
+        return false;
+    }
+    children_right(s, c, depth + 1, fronts, found.fronts, lists, left)
+}
+
+// The children of a node at depth: each child of a front is a front of one of them, and each is right.
+fn children_right(
+    s: &[u8],
+    n: Node,
+    depth: usize,
+    fronts: &mut [usize],
+    count: usize,
+    lists: &mut [usize],
+    left: usize,
+) -> bool
+    requires { ⌜ ChildrenAsked (now s) n depth (now fronts) count (now lists) left ⌝ }
+    ensures { λ r. ⌜ ChildrenSays (now (s .entry)) n depth (now (fronts .entry)) count left (now (fronts .exit)) r ⌝ }
+{
+    if left == 0 {
+        return true;
+    }
+    if !fronts_within(s, n.table, n.children, fronts, depth * 512, count) {
+        return false;
+    }
+    let mut j = 0;
+    while j < n.children {
+        let slot = image_walk::slot_in(s, n.table, n.children, j);
+        j += 1;
+        if let Slot::Taken { byte, at } = slot {
+            if !child_right(s, byte, at, depth, fronts, count, lists, left - 1) {
+                return false;
+            }
+        }
+    }
+    true
+}
+
+// Whether the finished index rule holds of an image whose layout is right.
+pub fn index_rule(s: &[u8]) -> bool
+    requires { ⌜ LayoutRight (now s) ⌝ }
+    ensures { λ r. ⌜ r ≡ index-rule (trie-in (now (s .entry))) ⌝ }
+{
+    if s[0] == 0 {
+        return true;
+    }
+    let mut fronts = [0usize; 8704];
+    let mut lists = [0usize; 1024];
+    let root = image_walk::node_at(s, 0);
+    if !node_right(s, root, 0, &mut lists) {
+        return false;
+    }
+    let count = root_fronts(s, root.table, root.children, &mut fronts);
+    children_right(s, root, 0, &mut fronts, count, &mut lists, 16)
+}
+
+// An image: its layout, and then the index rule of what it holds.
+pub fn check(s: &[u8]) -> image::Layout
+    ensures { λ r. ⌜ layout-of r ≡ check-image (now (s .entry)) ⌝ }
+{
+    match image::read_image(s) {
+        image::Layout::Refused(n) => image::Layout::Refused(n),
+        image::Layout::Right(t) => {
+            if index_rule(s) {
+                image::Layout::Right(t)
+            } else {
+                image::Layout::Refused(15)
+            }
+        }
+    }
+}
