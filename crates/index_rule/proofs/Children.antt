@@ -32,7 +32,7 @@ pub next-parts : {s : List ℕ} {d table children j : ℕ} {e : Entry} {f : Fore
 next-parts {s} {d} {e = e} c q x = rw q (parts-of s (d - 1) (e .node) (record { lists = x .lists; children = x .below }) (x .here))
 
 module _ (s : List ℕ) (table children : ℕ) where
-  -- what is ahead of siblings, where P of the whole is P of what is ahead with what was gone over
+  -- the lists in the buffer, and then those of the siblings ahead, are those of all
   pub record Listed (d j : ℕ) (lists : List ℕ) (count : ℕ) (f : Forest) : Type 0 where
     pub rest : Forest
     pub ahead : Ahead s d table children j rest

@@ -26,6 +26,7 @@ use Rattle.index_rule.proofs.Fronts.{Front, front-next, fronts-end, fro
 
 -- fronts from `from` on stand in `old`; those of their children by byte b are put from `to` on
 module _ (s : List ℕ) (b from to : ℕ) (old : List ℕ) (count : ℕ) where
+  -- what was found, and then what the fronts ahead lead to, is all
   pub record Found-so-far (d i : ℕ) (fronts : List ℕ) (met : ℕ) (lists : List ℕ) (listed : ℕ) (fs : List Node) : Type 0 where
     pub rest : List Node
     pub ahead : FrontsFrom s d old (from + i * 2) rest

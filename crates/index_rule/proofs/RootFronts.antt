@@ -20,6 +20,7 @@ use Rattle.index_rule.proofs.Children.{next-laid, next-parts}
 use Rattle.index_rule.proofs.Fronts.{fronts-put, length-more}
 
 module _ (s : List ℕ) (table children : ℕ) where
+  -- the fronts put, and then the siblings ahead, are all siblings
   pub record Put (d j : ℕ) (fronts : List ℕ) (count : ℕ) (f : Forest) : Type 0 where
     pub rest : Forest
     pub ahead : Ahead s d table children j rest

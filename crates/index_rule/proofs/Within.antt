@@ -21,6 +21,7 @@ use Rattle.index_rule.proofs.Fronts.{Front, front-next, fronts-end, fro
 -- ── a table within a table ──
 
 module _ (s : List ℕ) (table children other others : ℕ) where
+  -- what is ahead decides
   pub record Ahead-within (d j : ℕ) (g f : Forest) : Type 0 where
     pub rest : Forest
     pub ahead : Ahead s d other others j rest

@@ -43,23 +43,28 @@ fn image(blocks: usize) -> Vec<u8> {
     sink.take()
 }
 
-fn best<F: FnMut() -> u64>(mut f: F) -> (f64, u64) {
-    let mut least = f64::MAX;
+/// The middle of nine timings, the caches filled with other bytes before each.
+fn middle<F: FnMut() -> u64>(other: &mut [u8], mut f: F) -> (f64, u64) {
+    let mut times = Vec::new();
     let mut answer = 0;
-    for _ in 0..9 {
+    for round in 0..9u8 {
+        other.iter_mut().for_each(|b| *b = b.wrapping_add(round));
+        std::hint::black_box(&other);
         let t = Instant::now();
         answer = std::hint::black_box(f());
-        least = least.min(t.elapsed().as_secs_f64() * 1000.0);
+        times.push(t.elapsed().as_secs_f64() * 1000.0);
     }
-    (least, answer)
+    times.sort_by(f64::total_cmp);
+    (times[4], answer)
 }
 
 fn main() {
-    let img = image(7500);
-    let sum = || img.chunks_exact(8).fold(0u64, |s, c| s.wrapping_add(u64::from_le_bytes(c.try_into().unwrap())));
-    let (read, _) = best(sum);
-    let (layout, a) = best(|| unsafe { helmapricot_layout(img.as_ptr(), img.len()) });
-    let (check, b) = best(|| unsafe { helmapricot_check(img.as_ptr(), img.len()) });
+    let img = image(std::env::args().nth(1).map_or(7500, |n| n.parse().unwrap()));
+    let mut other = vec![1u8; 256 << 20];
+    let sum = || img.chunks_exact(8).fold(0u64, |s, c| s ^ u64::from_le_bytes(c.try_into().unwrap()));
+    let (read, _) = middle(&mut other, sum);
+    let (layout, a) = middle(&mut other, || unsafe { helmapricot_layout(img.as_ptr(), img.len()) });
+    let (check, b) = middle(&mut other, || unsafe { helmapricot_check(img.as_ptr(), img.len()) });
     println!("image {} bytes, answers {a} {b}", img.len());
     println!("read once {read:.2} ms, layout {layout:.2} ms, layout and rule {check:.2} ms: {:.1} times reading", check / read);
 }
