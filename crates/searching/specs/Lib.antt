@@ -1,0 +1,4 @@
+-- `Found` has the places of a query stage by stage, `Layout` how they stand in scratch, `Search` the answer. Assumes nothing.
+pub mod Found
+pub mod Layout
+pub mod Search
