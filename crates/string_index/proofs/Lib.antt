@@ -3,3 +3,4 @@ pub mod Demand
 pub mod SavedTrie
 pub mod ReadFinished
 pub mod Theorem
+pub mod Calling

@@ -56,11 +56,14 @@ abbrev pub found-or-refused : Option Cause → List Location → List ℕ → Fo
 found-or-refused none rs buffer = record { refusal = 0; count = length rs; buffer = sets buffer 0 (row-numbers rs) }
 found-or-refused (some c) rs buffer = record { refusal = number c; count = 0; buffer = buffer }
 
+abbrev pub search-pieces : List Piece → List ℕ → ℕ → List ℕ → Found
+search-pieces ps q scratch buffer = found-or-refused (first-cause (query-checks ps q scratch (length buffer))) (rows ps q) buffer
+
 -- scratch has so many bytes; rows are handed over in the buffer, numbers after the last row stay
 abbrev pub search-by : Index → List ℕ → ℕ → List ℕ → Found
 search-by broken q scratch buffer = record { refusal = number index-rule-broken; count = 0; buffer = buffer }
 search-by (opened c ps) q scratch buffer = record { refusal = number before-finish; count = 0; buffer = buffer }
-search-by (finished c t) q scratch buffer = found-or-refused (first-cause (query-checks (trie-pieces t) q scratch (length buffer))) (rows (trie-pieces t) q) buffer
+search-by (finished c t) q scratch buffer = search-pieces (trie-pieces t) q scratch buffer
 
 unfoldable pub search-memory : List ℕ → List ℕ → ℕ → List ℕ → Found
 search-memory m q scratch buffer = search-by (read-index m) q scratch buffer

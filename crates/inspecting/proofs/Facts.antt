@@ -1,0 +1,133 @@
+-- What each test tells of the memory. Assumes nothing.
+use Prim.Native.Nat.{ℕ, _+_, _-_, _≤_, _<_, _^_}
+use native.Mathlib.Omega.{arith}
+use mathlib.Core.Path.{_≡_, refl, sym, ap, _∙_, subst}
+use mathlib.Core.Bool.{Bool, true, false, _&&_, cond}
+use mathlib.Core.List.{List}
+use mathlib.Core.Option.{none, some}
+use lib.ListN.{length, take, drop}
+use lib.Dec.{eqb}
+use borrow.Author.Tests.{eq-eqb, ne-eqb}
+use Rattle.definitions.specs.Calls.{needed}
+use Rattle.trie.specs.Test.{index-rule}
+use Rattle.image.specs.Held.{trie-in}
+use Rattle.image.specs.Reading.{Layout, right, refused, read-image}
+use Rattle.index_rule.specs.Check.{and-rule, check-image}
+use Rattle.index_memory.specs.Layout.{Header, header-at, log-in, payload-size}
+use Rattle.index_memory.specs.Index.{Index, broken, finished, image-part, if-right, finished-index, log-right, read-index}
+use Rattle.index_memory.specs.Answers.{header-of, heading-at}
+use Rattle.index_memory.specs.declared.Header as C
+use Rattle.index_memory.proofs.HeaderFacts.{HeaderFacts, heading-is}
+use Rattle.index_memory.proofs.Holding.{index-broken, open-by-log, broken-by-log, index-by-image}
+use Rattle.inspecting.specs.Held.{SaysImage, Inspects}
+use Rattle.inspecting.specs.declared.Held.the-variants.{Broken, Open, Finished}
+
+-- ── the image of a finished index ──
+
+finished-payload : (m : List ℕ) (h : Header) → HeaderFacts m h → h .phase ≡ 1 → h .payload ≤ payload-size (h .capacity)
+finished-payload m h f z = subst (λ (o : Bool). h .payload ≤ cond o (h .capacity .entries) (payload-size (h .capacity))) (ne-eqb (h .phase) 0 (λ k. omega arith)) (f .payload)
+
+-- it lies within the memory
+pub image-room : (m : List ℕ) (h : Header) → heading-at m ≡ some h → h .phase ≡ 1 → 64 + h .payload ≤ length m
+image-room m h e z =
+    let f : HeaderFacts m h = heading-is m h e .0 in
+    omega (arith, finished-payload m h f z, f .held)
+
+pub image-small : (m : List ℕ) (h : Header) → heading-at m ≡ some h → h .phase ≡ 1 → 64 + h .payload < 2 ^ 64
+image-small m h e z =
+    let f : HeaderFacts m h = heading-is m h e .0 in
+    omega (arith, finished-payload m h f z, f .few-nodes, f .few-entries)
+
+-- the part from byte 64 on
+pub same-part : (m : List ℕ) (n : ℕ) → take (64 + n - 64) (drop 64 m) ≡ take n (drop 64 m)
+same-part m n = ap (λ (k : ℕ). take k (drop 64 m)) (let e : 64 + n - 64 ≡ n = omega arith in e)
+
+-- the tally, by two tests
+pub other-nodes : (a b c d : ℕ) → (a ≡ b → ⊥) → false ≡ (eqb a b && eqb c d)
+other-nodes a b c d h = rw (ne-eqb a b h) refl
+
+pub same-nodes : (a b c d : ℕ) → a ≡ b → eqb c d ≡ (eqb a b && eqb c d)
+same-nodes a b c d h = rw (eq-eqb a b h) refl
+
+-- what the layout and the rule make of an image
+abbrev judged : Layout → Bool → Header → List ℕ → Index
+judged (refused n) o h s = broken
+judged (right k j) o h s = cond (eqb (h .nodes) k && (eqb (h .entries) j && o)) (finished (h .capacity) (trie-in s)) broken
+
+and-none : (a b : Bool) → (a && (b && false)) ≡ false
+and-none true true = refl
+and-none true false = refl
+and-none false b = refl
+
+and-last : (a b : Bool) → (a && (b && true)) ≡ (a && b)
+and-last true true = refl
+and-last true false = refl
+and-last false b = refl
+
+true-false : false ≡ true → ⊥
+true-false f = let z : _≡_ {A = ℕ} 0 1 = cc in omega arith
+
+clash : {n k e : ℕ} → refused n ≡ right k e → ⊥
+clash f = let z : _≡_ {A = ℕ} 0 1 = cc in omega arith
+
+module _ (m : List ℕ) (h : Header) (s : List ℕ) (part : s ≡ image-part m h) where
+  judged-is : finished-index m h ≡ judged (read-image (image-part m h)) (index-rule (trie-in (image-part m h))) h (image-part m h)
+  judged-is = go (read-image (image-part m h))
+    where
+      go : (l : Layout) → if-right l h (image-part m h) ≡ judged l (index-rule (trie-in (image-part m h))) h (image-part m h)
+      go (refused n) = refl
+      go (right k j) = refl
+
+  -- refused by its layout or by the rule
+  pub image-refused : (n : ℕ) → refused n ≡ check-image s → SaysImage m h false
+  unfolding check-image
+  image-refused n e = record { is = judged-is ∙ go (read-image (image-part m h)) (index-rule (trie-in (image-part m h))) (e ∙ ap check-image part); tested = λ t. absurd (true-false t) }
+    where
+      go : (l : Layout) (o : Bool) → refused n ≡ and-rule o l → judged l o h (image-part m h) ≡ broken
+      go (refused k) o e = refl
+      go (right k j) true e = absurd (clash e)
+      go (right k j) false e = rw (and-none (eqb (h .nodes) k) (eqb (h .entries) j)) refl
+
+  -- right by both: the tally decides
+  pub image-right : (k j : ℕ) → right k j ≡ check-image s → (r : Bool) → r ≡ (eqb (h .nodes) k && eqb (h .entries) j) → SaysImage m h r
+  unfolding check-image
+  image-right k j e r q = record { is = judged-is ∙ go (read-image (image-part m h)) (index-rule (trie-in (image-part m h))) (e ∙ ap check-image part); tested = λ t. record { nodes = k; entries = j; is = e ∙ ap check-image part } }
+    where
+      fin : Index
+      fin = finished (h .capacity) (trie-in (image-part m h))
+
+      go : (l : Layout) (o : Bool) → right k j ≡ and-rule o l → judged l o h (image-part m h) ≡ cond r fin broken
+      go (refused n) o e = absurd (clash (sym e))
+      go (right k′ j′) false e = absurd (clash (sym e))
+      go (right k′ j′) true e =
+          let a : k ≡ k′ = cc in
+          let b : j ≡ j′ = cc in
+          rw (and-last (eqb (h .nodes) k′) (eqb (h .entries) j′), q, a, b) refl
+
+-- ── the whole memory ──
+
+module _ (m : List ℕ) where
+  pub held-broken : none ≡ heading-at m → Inspects m Broken
+  held-broken e = record { holds = index-broken m (sym e); told = tt }
+
+  module _ (h : C.Header) (e : some (header-of h) ≡ heading-at m) where
+    pub held-open : h .phase ≡ 0 → (r : Bool) → r ≡ log-right m (header-of h) → r ≡ true → Inspects m (Open h)
+    held-open z r q t = record { holds = open-by-log m (header-of h) (sym e) z (sym q ∙ t); told = heading-is m (header-of h) (sym e) .1 }
+
+    pub held-log-broken : h .phase ≡ 0 → (r : Bool) → r ≡ log-right m (header-of h) → r ≡ false → Inspects m Broken
+    held-log-broken z r q t = record { holds = broken-by-log m (header-of h) (sym e) z (sym q ∙ t); told = tt }
+
+    pub phase-one : (h .phase ≡ 0 → ⊥) → h .phase ≡ 1
+    phase-one z = omega (arith, heading-is m (header-of h) (sym e) .0 .phase, z)
+
+    pub held-finished : (h .phase ≡ 0 → ⊥) → (r : Bool) → SaysImage m (header-of h) r → r ≡ true → Inspects m (Finished h)
+    held-finished z r q t = record {
+      holds = index-by-image m (header-of h) (sym e) z ∙ q .is ∙ ap (λ (o : Bool). cond o (finished (header-of h .capacity) (trie-in (image-part m (header-of h)))) broken) t;
+      told = record { tested = q .tested t; within = image-room m (header-of h) (sym e) (phase-one z) };
+    }
+
+    pub held-image-broken : (h .phase ≡ 0 → ⊥) → (r : Bool) → SaysImage m (header-of h) r → r ≡ false → Inspects m Broken
+    held-image-broken z r q t = record {
+      holds = index-by-image m (header-of h) (sym e) z ∙ q .is ∙ ap (λ (o : Bool). cond o (finished (header-of h .capacity) (trie-in (image-part m (header-of h)))) broken) t;
+      told = tt;
+    }

@@ -1,0 +1,2 @@
+-- What each test tells of the memory. Assumes nothing.
+pub mod Facts

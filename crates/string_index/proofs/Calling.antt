@@ -1,0 +1,125 @@
+-- What an inspection tells the calls. Assumes nothing.
+use Prim.Native.Nat.{ℕ, _+_, _-_, _/_, _≤_, _<_, _^_}
+use native.Mathlib.Omega.{arith}
+use mathlib.Core.Path.{_≡_, refl, sym, ap, _∙_, subst}
+use mathlib.Core.Bool.{Bool, true, false, cond}
+use mathlib.Core.Logic.{_⊎_, inl, inr}
+use mathlib.Core.List.{List}
+use mathlib.Core.Option.{none, some}
+use lib.ListN.{length, getD, take, drop, length-take, length-drop, List·getD-eq-default}
+use lib.Seq.{sets, getD-take, getD-drop}
+use lib.Dec.{ltb}
+use borrow.Author.Tests.{lt-ltb, le-ltb}
+use Rattle.definitions.specs.Location.{Location}
+use Rattle.definitions.specs.Blocks.{Block, Piece}
+use Rattle.definitions.specs.Places.{places-counted, sizes}
+use Rattle.definitions.specs.Rows.{rows}
+use Rattle.definitions.proofs.Views.{lt-or-le}
+use Rattle.trie.specs.Trie.{Trie, trie-pieces}
+use Rattle.trie.specs.Rule.{Rule}
+use Rattle.trie.specs.Find.{table-found}
+use Rattle.image.specs.Held.{trie-in}
+use Rattle.image.specs.Reading.{read-image, right}
+use Rattle.image.specs.Savable.{AllBytes}
+use Rattle.index_rule.proofs.Theorems.{check-image-is}
+use Rattle.row_buffer.specs.Numbers.{row-numbers}
+use Rattle.index_memory.specs.Index.{Index, broken, opened, finished, read-index}
+use Rattle.index_memory.specs.Record.{Done, record-by, record-memory}
+use Rattle.inspecting.specs.Held.{RightImage as Tested}
+use Rattle.inspecting.proofs.Facts.{same-part}
+use Rattle.searching.specs.Search.{RightImage, Outcome, Answers, search-answer}
+use Rattle.searching.proofs.Equations.{outcome-is, answer-places, answer-too-many, answer-rows, rows-found, rows-found-are, places-found-counted}
+use Rattle.searching.specs.declared.Answer.{Answer}
+use Rattle.searching.specs.declared.Answer.the-variants.{Rows, Refused}
+use Rattle.string_index.specs.Finish.{Found, search-pieces, search-by, search-memory}
+use Rattle.string_index.specs.Answers.{found-by, part-of, Searchable}
+
+-- ── what a memory holds decides ──
+
+pub record-as : (m : List ℕ) (kind : ℕ) (b : Block) (i : Index) → read-index m ≡ i → record-by i m kind b ≡ record-memory m kind b
+unfolding record-memory
+record-as m kind b i e = ap (λ (x : Index). record-by x m kind b) (sym e)
+
+pub search-as : (m q : List ℕ) (scratch : ℕ) (buffer : List ℕ) (i : Index) → read-index m ≡ i → search-by i q scratch buffer ≡ search-memory m q scratch buffer
+unfolding search-memory
+search-as m q scratch buffer i e = ap (λ (x : Index). search-by x q scratch buffer) (sym e)
+
+-- ── the image ──
+
+pub part-bytes : (m : List ℕ) (n : ℕ) → AllBytes m → AllBytes (part-of m n)
+part-bytes m n a i = go (lt-or-le i n)
+  where
+    go : (i < n) ⊎ (n ≤ i) → getD (part-of m n) i 0 < 256
+    go (inl h) = omega (arith, getD-take n (drop 64 m) i 0 h, getD-drop 64 m i 0, a (64 + i))
+    go (inr h) =
+        let l : length (part-of m n) ≤ i = omega (arith, length-take n (drop 64 m)) in
+        omega (arith, List·getD-eq-default (part-of m n) 0 l)
+
+module _ (s : List ℕ) (a : AllBytes s) (l : length s < 2 ^ 64) (t : Tested s) where
+  both : (read-image s ≡ right (t .nodes) (t .entries)) × Rule (trie-in s)
+  both = check-image-is s a l (t .nodes) (t .entries) .0 (sym (t .is))
+
+  pub right-image : RightImage s
+  right-image = record { nodes = t .nodes; entries = t .entries; read = both .0 }
+
+  pub rule-image : Rule (trie-in s)
+  rule-image = both .1
+
+-- ── the answer by the nodes is that by the pieces ──
+
+pub answered : (t : Trie) → Rule t → (q : List ℕ) (scratch : ℕ) (buffer : List ℕ) (r : Answer) (after : List ℕ) → length q ≤ 256
+    → Answers (search-answer t q scratch buffer) r after → found-by r after ≡ search-pieces (trie-pieces t) q scratch buffer
+answered t rule q scratch buffer r after h w = from-outcome ∙ go (lt-or-le (scratch / 24) (sizes (table-found t q))) (lt-or-le (length buffer / 3) (length (rows-found t q)))
+  where
+    ps : List Piece
+    ps = trie-pieces t
+
+    said : Outcome → Found
+    said o = found-by (o .answer) (o .rows)
+
+    from-outcome : found-by r after ≡ said (search-answer t q scratch buffer)
+    from-outcome = ap said (sym (outcome-is w))
+
+    short : ltb 256 (length q) ≡ false
+    short = le-ltb 256 (length q) h
+
+    counted : sizes (table-found t q) ≡ places-counted ps q
+    counted = places-found-counted t rule q
+
+    are : rows-found t q ≡ rows ps q
+    are = rows-found-are t rule q
+
+    go : (scratch / 24 < sizes (table-found t q)) ⊎ (sizes (table-found t q) ≤ scratch / 24) → (length buffer / 3 < length (rows-found t q)) ⊎ (length (rows-found t q) ≤ length buffer / 3)
+        → said (search-answer t q scratch buffer) ≡ search-pieces ps q scratch buffer
+    go (inl k) l = ap said (answer-places t q scratch buffer k) ∙ sym (rw (short, lt-ltb (scratch / 24) (places-counted ps q) (subst (λ (n : ℕ). scratch / 24 < n) counted k)) refl)
+    go (inr k) (inl l) =
+        ap said (answer-too-many t q scratch buffer k l)
+        ∙ sym (rw (short, le-ltb (scratch / 24) (places-counted ps q) (subst (λ (n : ℕ). n ≤ scratch / 24) counted k), lt-ltb (length buffer / 3) (length (rows ps q)) (subst (λ (x : List Location). length buffer / 3 < length x) are l)) refl)
+    go (inr k) (inr l) =
+        ap said (answer-rows t q scratch buffer k l)
+        ∙ ap (λ (x : List Location). found-by (Rows (length x)) (sets buffer 0 (row-numbers x))) are
+        ∙ sym (rw (short, le-ltb (scratch / 24) (places-counted ps q) (subst (λ (n : ℕ). n ≤ scratch / 24) counted k), le-ltb (length buffer / 3) (length (rows ps q)) (subst (λ (x : List Location). length x ≤ length buffer / 3) are l)) refl)
+
+-- a query that is too long is refused before anything is found
+pub too-long : (ps : List Piece) (q : List ℕ) (scratch : ℕ) (buffer : List ℕ) → 256 < length q → found-by (Refused 9) buffer ≡ search-pieces ps q scratch buffer
+too-long ps q scratch buffer h = sym (rw (lt-ltb 256 (length q) h) refl)
+
+-- ── the part that the code cuts out ──
+
+module _ (m : List ℕ) (n : ℕ) (a : AllBytes m) (l : length m < 2 ^ 64) (h : Searchable m n) where
+  small : length (part-of m n) < 2 ^ 64
+  small = omega (arith, length-take n (drop 64 m), length-drop 64 m)
+
+  right-part : RightImage (part-of m n)
+  right-part = right-image (part-of m n) (part-bytes m n a) small (h .tested)
+
+  rule-part : Rule (trie-in (part-of m n))
+  rule-part = rule-image (part-of m n) (part-bytes m n a) small (h .tested)
+
+  pub searchable : RightImage (take (64 + n - 64) (drop 64 m)) × Rule (trie-in (take (64 + n - 64) (drop 64 m)))
+  searchable = subst (λ (s : List ℕ). RightImage s × Rule (trie-in s)) (sym (same-part m n)) (right-part, rule-part)
+
+  pub answered-part : (q : List ℕ) (scratch : ℕ) (buffer : List ℕ) (r : Answer) (after : List ℕ) → length q ≤ 256
+      → Answers (search-answer (trie-in (take (64 + n - 64) (drop 64 m))) q scratch buffer) r after → found-by r after ≡ search-pieces (trie-pieces (trie-in (part-of m n))) q scratch buffer
+  answered-part q scratch buffer r after k w =
+      answered (trie-in (part-of m n)) rule-part q scratch buffer r after k (subst (λ (s : List ℕ). Answers (search-answer (trie-in s) q scratch buffer) r after) (same-part m n) w)

@@ -1,0 +1,80 @@
+-- `string_index::record` meets its contract: what the memory holds decides. Assumes nothing.
+use mathlib.Core.Path.{sym, ap, _∙_, subst}
+use borrow.Author.Needs.{needs}
+use denote.Ref.{now}
+use Rattle.location.specs.Plain.{plain}
+use Rattle.index_memory.specs.Record.{Done}
+use Rattle.inspecting.specs.Held.{Inspects}
+use Rattle.string_index.proofs.Calling.{record-as}
+use Rattle.string_index.proofs.record.Statement.{statement}
+use Rattle.string_index.proofs.record.Tie as tie
+
+inspect-requires : tie.Need-inspect-requires
+inspect-requires c κs = search needs
+
+enum-told : tie.Need-enum-told
+enum-told c = search needs
+
+enum-known-h : tie.Need-enum-known-h
+enum-known-h c = search needs
+
+record-open-requires : tie.Need-record-open-requires
+record-open-requires c κs =
+    let c₂ = c .before .before in
+    let c₄ = c₂ .before .before in
+    let w = subst (Inspects (now (c₄ .before .before .before .before .args .mem))) (c₂ .h .given .1) (c₄ .inspect .ensures) in
+    (w .told, w .holds)
+
+enum-told-2 : tie.Need-enum-told-2
+enum-told-2 c = search needs
+
+same-length : tie.Need-same-length
+same-length c = search needs
+
+returns : tie.Need-returns
+returns c =
+    let c₂ = c .before .before in
+    let a = c₂ .before .before .before .before .args in
+    let w = subst (Inspects (now (a .mem))) (c .enum-told .given .1) (c₂ .inspect .ensures) in
+    let e = record-as (now (a .mem)) (a .kind) (record { bytes = now (a .«data»); at = plain (a .l) }) _ (w .holds) in
+    (ap (λ (d : Done). d .refusal) e, ap (λ (d : Done). d .memory) e)
+
+same-length-2 : tie.Need-same-length-2
+same-length-2 c = search needs
+
+returns-2 : tie.Need-returns-2
+returns-2 c =
+    let r = c .before .before .record-open in
+    let c₅ = c .before .before .before .before .before in
+    let c₇ = c₅ .before .before in
+    let a = c₇ .before .before .before .before .args in
+    let w = subst (Inspects (now (a .mem))) (c₅ .h .given .1) (c₇ .inspect .ensures) in
+    let e = record-as (now (a .mem)) (a .kind) (record { bytes = now (a .«data»); at = plain (a .l) }) _ (w .holds) in
+    (r .ensures .0 ∙ ap (λ (d : Done). d .refusal) e, r .ensures .1 ∙ ap (λ (d : Done). d .memory) e)
+
+same-length-3 : tie.Need-same-length-3
+same-length-3 c = search needs
+
+returns-3 : tie.Need-returns-3
+returns-3 c =
+    let c₂ = c .before .before in
+    let a = c₂ .before .before .before .before .args in
+    let w = subst (Inspects (now (a .mem))) (c .enum-told2 .given .1) (c₂ .inspect .ensures) in
+    let e = record-as (now (a .mem)) (a .kind) (record { bytes = now (a .«data»); at = plain (a .l) }) _ (w .holds) in
+    (ap (λ (d : Done). d .refusal) e, ap (λ (d : Done). d .memory) e)
+
+pub record-spec : {M : Type 1} → statement M
+record-spec =
+    tie.close
+    (tie.spec
+    inspect-requires
+    enum-told
+    enum-known-h
+    record-open-requires
+    enum-told-2
+    same-length
+    returns
+    same-length-2
+    returns-2
+    same-length-3
+    returns-3)
