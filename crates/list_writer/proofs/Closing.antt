@@ -1,0 +1,116 @@
+-- Locations sorted, each once, with their count before them: a list of the image. Assumes nothing.
+use Prim.Native.Nat.{ℕ, zero, suc, _+_, _-_, _*_, _≤_, _<_}
+use native.Mathlib.Omega.{arith}
+use mathlib.Core.Path.{_≡_, refl, sym, ap, subst, _∙_}
+use mathlib.Core.Logic.{_⊎_, inl, inr}
+use mathlib.Core.List.{List, [], _∷_, _++_}
+use lib.ListN.{length, getD}
+use lib.Seq.{sets, length-sets}
+use Rattle.words.specs.Words.{setLe64, bytes64}
+use Rattle.words.proofs.Laws.{length-setLe64, getD-setLe64}
+use Rattle.words.proofs.Parts.{getD-sets-out, setLe64-sets, length-bytes64}
+use Rattle.sort.specs.Records.{records, recordsBytes, sorted, dropRepeats}
+use Rattle.sort.proofs.Bytes.{Bytes, length-records}
+use Rattle.sort.proofs.Lists.{length-dropRepeats}
+use Rattle.sort.proofs.Results.{length-sorted-bytes, length-dropRepeats-bytes, records-after-sort, records-after-drop}
+use Rattle.definitions.specs.Location.{Location, normal, locations-in, locations-bytes}
+use Rattle.place_buffer.proofs.Triples.{triples, records-triples, triples-path, length-triples, normal-triples}
+use Rattle.image.specs.Image.{list-bytes}
+use Rattle.image.proofs.Holding.{Holds, holds-at, list-length}
+use Rattle.image.proofs.BytesRead.{holds-append, locs-read}
+use Rattle.tails.specs.Tails.{Tail}
+use Rattle.tails.specs.Groups.{locations-of}
+use Rattle.list_writer.specs.Written.{Copied, Closed, ListWritten}
+use Rattle.list_writer.specs.declared.End.{End}
+use Rattle.list_writer.proofs.Copying.{length-locations-of}
+use Rattle.list_writer.proofs.Standing.{holds-ext, holds-sets}
+
+module _ (s s₁ s₂ s₃ : List ℕ) (at n k : ℕ) (b : Bytes s) (b₁ : Bytes s₁) (b₂ : Bytes s₂) (fits : at + 8 + 24 * n ≤ length s)
+    (e₁ : s₁ ≡ sets s (at + 8) (recordsBytes (sorted (records 3 n s (at + 8)))))
+    (e₂ : s₂ ≡ sets s₁ (at + 8) (recordsBytes (dropRepeats (records 3 n s₁ (at + 8)))))
+    (ek : k ≡ length (dropRepeats (records 3 n s₁ (at + 8))))
+    (e₃ : s₃ ≡ setLe64 s₂ at k) where
+  long : length s₁ ≡ length s
+  long = ap length e₁ ∙ length-sets s (at + 8) (recordsBytes (sorted (records 3 n s (at + 8))))
+
+  long₂ : length s₂ ≡ length s₁
+  long₂ = ap length e₂ ∙ length-sets s₁ (at + 8) (recordsBytes (dropRepeats (records 3 n s₁ (at + 8))))
+
+  -- the records kept are the set of places
+  kept : dropRepeats (records 3 n s₁ (at + 8)) ≡ triples (normal (locations-in s n (at + 8)))
+  kept =
+      let a : records 3 n s₁ (at + 8) ≡ sorted (records 3 n s (at + 8)) = ap (λ (x : List ℕ). records 3 n x (at + 8)) e₁ ∙ records-after-sort 3 n s (at + 8) b (omega arith) in
+      ap dropRepeats a ∙ ap (λ (x : List (List ℕ)). dropRepeats (sorted x)) (records-triples n s (at + 8)) ∙ normal-triples (locations-in s n (at + 8))
+
+  size : k ≡ length (normal (locations-in s n (at + 8)))
+  size = ek ∙ ap length kept ∙ length-triples (normal (locations-in s n (at + 8)))
+
+  pub closed-few : k ≤ n
+  closed-few = omega (arith, length-dropRepeats (records 3 n s₁ (at + 8)), length-records 3 n s₁ (at + 8))
+
+  places : locations-in s₂ k (at + 8) ≡ normal (locations-in s n (at + 8))
+  places =
+      let a : records 3 k s₂ (at + 8) ≡ dropRepeats (records 3 n s₁ (at + 8)) = ap (λ (x : List ℕ). records 3 k x (at + 8)) e₂ ∙ records-after-drop 3 n s₁ (at + 8) b₁ k ek (omega (arith, long)) in
+      triples-path (locations-in s₂ k (at + 8)) (normal (locations-in s n (at + 8))) (sym (records-triples k s₂ (at + 8)) ∙ a ∙ kept)
+
+  -- the count, and behind it the locations
+  count-stands : Holds s₃ at (bytes64 k)
+  count-stands =
+      subst (λ (x : List ℕ). Holds x at (bytes64 k)) (sym (e₃ ∙ setLe64-sets s₂ at k)) (holds-sets (bytes64 k) s₂ at (omega (arith, length-bytes64 k, long, long₂)))
+
+  places-stand : Holds s₃ (at + 8) (locations-bytes (normal (locations-in s n (at + 8))))
+  places-stand =
+      holds-ext s₂ s₃ (at + 8) (locations-bytes (normal (locations-in s n (at + 8))))
+      (λ j x y. ap (λ (z : List ℕ). getD z j 0) e₃ ∙ getD-setLe64 s₂ at k j (inr x))
+      (subst (λ (ls : List Location). Holds s₂ (at + 8) (locations-bytes ls)) places (locs-read s₂ k (at + 8) b₂))
+
+  away : (j : ℕ) → (j < at) ⊎ (at + 8 + 24 * n ≤ j) → getD s₃ j 0 ≡ getD s j 0
+  away j o =
+      ap (λ (x : List ℕ). getD x j 0) e₃ ∙ getD-setLe64 s₂ at k j (third o) ∙ ap (λ (x : List ℕ). getD x j 0) e₂
+      ∙ getD-sets-out (recordsBytes (dropRepeats (records 3 n s₁ (at + 8)))) s₁ (at + 8) j (second o) ∙ ap (λ (x : List ℕ). getD x j 0) e₁
+      ∙ getD-sets-out (recordsBytes (sorted (records 3 n s (at + 8)))) s (at + 8) j (first o)
+    where
+      first : (j < at) ⊎ (at + 8 + 24 * n ≤ j) → (j < at + 8) ⊎ (at + 8 + length (recordsBytes (sorted (records 3 n s (at + 8)))) ≤ j)
+      first (inl h) = inl (omega arith)
+      first (inr h) = inr (omega (arith, length-sorted-bytes 3 n s (at + 8) b))
+
+      second : (j < at) ⊎ (at + 8 + 24 * n ≤ j) → (j < at + 8) ⊎ (at + 8 + length (recordsBytes (dropRepeats (records 3 n s₁ (at + 8)))) ≤ j)
+      second (inl h) = inl (omega arith)
+      second (inr h) = inr (omega (arith, length-dropRepeats-bytes 3 n s₁ (at + 8) b₁, closed-few, ek))
+
+      third : (j < at) ⊎ (at + 8 + 24 * n ≤ j) → (j < at) ⊎ (at + 8 ≤ j)
+      third (inl h) = inl h
+      third (inr h) = inr (omega arith)
+
+  pub closed : Closed s s₃ at n (locations-in s n (at + 8)) k
+  unfolding list-bytes
+  closed = record {
+    count = size;
+    few = closed-few;
+    bytes =
+        holds-append s₃ at 8 (bytes64 (length (normal (locations-in s n (at + 8))))) (locations-bytes (normal (locations-in s n (at + 8))))
+        (length-bytes64 (length (normal (locations-in s n (at + 8))))) (subst (λ (x : ℕ). Holds s₃ at (bytes64 x)) size count-stands) places-stand;
+    long = ap length e₃ ∙ length-setLe64 s₂ at k ∙ long₂ ∙ long;
+    away = away;
+  }
+
+-- locations copied, then made a list
+pub written : {s s₁ s₂ : List ℕ} {n k : ℕ} {ls : List Location} (e r : End) → Copied s s₁ (e .at) n ls → Closed s₁ s₂ (e .at) n (locations-in s₁ n (e .at + 8)) k
+    → (r .at ≡ e .at + 8 + 24 * k) × (r .nodes ≡ e .nodes) × (r .entries ≡ e .entries + k) → ListWritten s s₂ ls e r
+written {s} {s₁} {s₂} {n} {k} {ls} e r w c q =
+    let p : locations-in s₁ n (e .at + 8) ≡ ls = w .places in
+    let m : k ≡ length (normal ls) = c .count ∙ ap (λ (x : List Location). length (normal x)) p in
+    record {
+      bytes = subst (λ (x : List Location). Holds s₂ (e .at) (list-bytes (normal x))) p (c .bytes);
+      at = q .0 ∙ ap (λ (x : ℕ). e .at + 8 + 24 * x) m;
+      few = omega (arith, c .few, w .count, m);
+      nodes = q .1;
+      entries = q .2 ∙ ap (λ (x : ℕ). e .entries + x) m;
+      long = c .long ∙ w .long;
+      before = λ j h. c .away j (inl h) ∙ w .away j (inl (omega arith));
+      behind = λ j h. c .away j (inr (omega (arith, w .count))) ∙ w .away j (inr (omega (arith, w .count)));
+    }
+
+-- the copies lie before the work area
+pub copied-within : {s s₁ : List ℕ} {at n work : ℕ} (ts : List Tail) → Copied s s₁ at n (locations-of ts) → at + 8 + 24 * length ts ≤ work → at + 8 + 24 * n ≤ work
+copied-within ts w h = omega (arith, w .count, length-locations-of ts)

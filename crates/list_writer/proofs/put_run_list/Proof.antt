@@ -1,0 +1,40 @@
+-- `list_writer::put_run_list` meets its contract: the locations of the tails are copied, then made a list. Assumes nothing.
+use native.Mathlib.Omega.{arith}
+use Rattle.tail_records.specs.Tail.{tails-in}
+use Rattle.list_writer.proofs.Closing.{written, copied-within}
+use borrow.Author.Needs.{needs}
+use Rattle.list_writer.proofs.put_run_list.Statement.{statement}
+use Rattle.list_writer.proofs.put_run_list.Tie as tie
+
+put-run-requires : tie.Need-put-run-requires
+put-run-requires c κs = search needs
+
+close-list-requires : tie.Need-close-list-requires
+close-list-requires c κs =
+    let copy = c .before .before .before in
+    let start = copy .before .before .before in
+    let a = start .args in
+    let h = copied-within (tails-in (a .mem .now) (a .work) (a .lo) (a .hi)) (copy .put-run .ensures) (start .pre .2) in
+    omega (arith, h, copy .put-run .ensures .long, start .pre .1)
+
+behind-list-requires : tie.Need-behind-list-requires
+behind-list-requires c κs =
+    let copy = c .before .before .before .before .before .before in
+    let start = copy .before .before .before in
+    let a = start .args in
+    let h = copied-within (tails-in (a .mem .now) (a .work) (a .lo) (a .hi)) (copy .put-run .ensures) (start .pre .2) in
+    (omega (arith, h, c .before .before .close-list .ensures .few, start .pre .1), start .pre .3)
+
+same-length : tie.Need-same-length
+same-length c = search needs
+
+returns : tie.Need-returns
+returns c =
+    let close = c .before .before .before in
+    let copy = close .before .before .before .before in
+    written _ _ (copy .put-run .ensures) (close .close-list .ensures) (c .behind-list .ensures)
+
+pub put-run-list-spec : {M : Type 1} → statement M
+put-run-list-spec =
+    tie.close
+    (tie.spec put-run-requires close-list-requires behind-list-requires same-length returns)
