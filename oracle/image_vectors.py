@@ -306,4 +306,5 @@ def main():
     print(len(data), "bytes,", sum(n for n, _ in answer), "judgements,", len(answer), "lines")
 
 
-main()
+if __name__ == "__main__":
+    main()
