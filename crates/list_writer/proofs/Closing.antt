@@ -1,9 +1,9 @@
 -- Locations sorted, each once, with their count before them: a list of the image. Assumes nothing.
-use Prim.Native.Nat.{ℕ, zero, suc, _+_, _-_, _*_, _≤_, _<_}
+use Prim.Native.Nat.{ℕ, _+_, _*_, _≤_, _<_}
 use native.Mathlib.Omega.{arith}
-use mathlib.Core.Path.{_≡_, refl, sym, ap, subst, _∙_}
+use mathlib.Core.Path.{_≡_, sym, ap, subst, _∙_}
 use mathlib.Core.Logic.{_⊎_, inl, inr}
-use mathlib.Core.List.{List, [], _∷_, _++_}
+use mathlib.Core.List.{List}
 use lib.ListN.{length, getD}
 use lib.Seq.{sets, length-sets}
 use Rattle.words.specs.Words.{setLe64, bytes64}
@@ -16,7 +16,7 @@ use Rattle.sort.proofs.Results.{length-sorted-bytes, length-dropRepeats-bytes, 
 use Rattle.definitions.specs.Location.{Location, normal, locations-in, locations-bytes}
 use Rattle.place_buffer.proofs.Triples.{triples, records-triples, triples-path, length-triples, normal-triples}
 use Rattle.image.specs.Image.{list-bytes}
-use Rattle.image.proofs.Holding.{Holds, holds-at, list-length}
+use Rattle.image.proofs.Holding.{Holds}
 use Rattle.image.proofs.BytesRead.{holds-append, locs-read}
 use Rattle.tails.specs.Tails.{Tail}
 use Rattle.tails.specs.Groups.{locations-of}

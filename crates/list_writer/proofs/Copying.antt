@@ -1,5 +1,5 @@
 -- The locations of tails copied one behind the other, all of them or those of whole pieces. Assumes nothing.
-use Prim.Native.Nat.{ℕ, zero, suc, _+_, _-_, _*_, _%_, _≤_, _<_}
+use Prim.Native.Nat.{ℕ, suc, _+_, _-_, _*_, _%_, _≤_, _<_}
 use native.Mathlib.Omega.{arith}
 use mathlib.Core.Path.{_≡_, refl, sym, ap, subst, _∙_}
 use mathlib.Core.Bool.{Bool, true, false, cond}
@@ -19,8 +19,8 @@ use Rattle.location.specs.Fits.{Fits}
 use Rattle.location.proofs.Bytes.{length-location, location-fits}
 use Rattle.tails.specs.Tails.{Tail}
 use Rattle.tails.specs.Groups.{locations-of, wholes}
-use Rattle.tail_records.specs.Tail.{tail-of-record, record-in, tail-in, tails-in}
-use Rattle.tail_records.proofs.Memory.{tails-none, tails-step, tails-split, tails-length, tails-ext, record-ext}
+use Rattle.tail_records.specs.Tail.{tail-of-record, tail-in, tails-in}
+use Rattle.tail_records.proofs.Memory.{tails-none, tails-step, tails-split, tails-length, record-ext}
 use Rattle.place_buffer.proofs.Scratch.{locations-written}
 use Rattle.list_writer.specs.Written.{Copied}
 

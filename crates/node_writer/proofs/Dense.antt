@@ -1,19 +1,18 @@
 -- A table of kind 1 and the slots behind it, one byte at a time. Assumes nothing.
 use Prim.Native.Nat.{ℕ, zero, suc, _+_, _*_, _≤_, _<_}
-use native.Mathlib.Nat.{not-suc-le-zero}
 use native.Mathlib.Numerals.{add-one}
 use native.Mathlib.Omega.{arith}
 use mathlib.Core.Path.{_≡_, refl, sym, ap, subst, _∙_}
-use mathlib.Core.Logic.{_⊎_, inl, inr}
+use mathlib.Core.Logic.{inl, inr}
 use mathlib.Core.List.{List, [], _∷_, _++_, append-nil}
-use lib.ListN.{length, getD, take, drop, set, length-set, length-append}
+use lib.ListN.{length, getD, take, drop, set}
 use lib.Seq.{sets, length-sets, take-suc, drop-cons, getD-set-same, getD-set-other}
 use borrow.Author.Tests.{eq-eqb}
 use Rattle.words.specs.Words.{bytes64}
 use Rattle.words.proofs.Laws.{Outside}
 use Rattle.words.proofs.Parts.{getD-sets-out, length-bytes64}
 use Rattle.image.specs.Image.{Child, with-byte, slot-size, slot-bytes, slot-offsets, slots-bytes, slots-size}
-use Rattle.image.proofs.Holding.{Holds, holds-at, holds-left, holds-right}
+use Rattle.image.proofs.Holding.{Holds, holds-left, holds-right}
 use Rattle.image.proofs.BytesRead.{holds-append}
 use Rattle.image.proofs.KindOne.{offsets-length}
 use Rattle.list_writer.proofs.Standing.{holds-ext, holds-sets}
@@ -146,7 +145,6 @@ module _ (base start o : ℕ) (ws : List Child) (z : Sized ws) (table : base + 2
         → Holds s₂ (start + slots-size j 0 ws + 1) (getD ws met no-child .bytes (o + slots-size j 0 ws + 1)) → Dense base start o ws s₂ (j + 1) (met + 1)
     unfolding Holds slot-bytes slot-size with-byte
     dense-child e i q node =
-        let k = getD ws met no-child in
         let cut : drop met ws ≡ getD ws met no-child ∷ drop (suc met) ws = drop-cons ws met no-child i in
         let cl : Climbs j (getD ws met no-child ∷ drop (suc met) ws) = subst (Climbs j) cut (w .rest) in
         let none : with-byte j (drop (suc met) ws) ≡ [] = climbs-none (getD ws met no-child .byte + 1) j (drop (suc met) ws) (omega arith) (cl .2) in

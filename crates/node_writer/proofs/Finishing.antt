@@ -1,8 +1,8 @@
 -- A table whose turns are done: its bytes, its size and its counts. Assumes nothing.
-use Prim.Native.Nat.{ℕ, zero, suc, _+_, _-_, _*_, _≤_, _<_}
+use Prim.Native.Nat.{ℕ, suc, _+_, _-_, _*_, _≤_, _<_}
 use native.Mathlib.Omega.{arith}
 use mathlib.Core.Path.{_≡_, refl, sym, ap, subst, _∙_}
-use mathlib.Core.Bool.{Bool, true, false, cond}
+use mathlib.Core.Bool.{Bool, true, false}
 use mathlib.Core.Logic.{_⊎_, inl, inr}
 use mathlib.Core.List.{List, [], _∷_, _++_}
 use lib.ListN.{length, getD, take, drop, length-drop}
@@ -11,14 +11,13 @@ use lib.Dec.{eqb}
 use Rattle.words.specs.Words.{bytes64}
 use Rattle.words.proofs.Parts.{length-bytes64}
 use Rattle.definitions.proofs.Views.{Eq, eq, lt-or-le}
-use Rattle.tails.specs.Tails.{Tail}
 use Rattle.tails.specs.Groups.{Group, by-arrival, kept-groups}
 use Rattle.tails.proofs.Budget.{group-weights}
 use Rattle.image.specs.Kinds.{kind-of}
 use Rattle.image.specs.Image.{Child, nodes-in, entries-in, children-size, children-bytes, size-below, ascending, table-by-arrival, table-by-byte, slot-offsets, slots-bytes, slots-size, table-bytes, table-size}
 use Rattle.image.proofs.Holding.{Holds, holds-at}
 use Rattle.image.proofs.BytesRead.{holds-append}
-use Rattle.image.proofs.ByByte.{total, total-nodes, total-entries}
+use Rattle.image.proofs.ByByte.{total-nodes, total-entries}
 use Rattle.image.proofs.KindOne.{offsets-length}
 use Rattle.image.proofs.KindThree.{table-length}
 use Rattle.image.proofs.KindRule.{kind-one, kind-two, kind-three}
@@ -35,7 +34,7 @@ use Rattle.node_writer.proofs.Sized.{by-byte-length}
 use Rattle.node_writer.proofs.Orders.{Climbs, getD-kids, length-kids, ascending-climbs, ascending-by-arrival, below-climbs, below-by-arrival}
 use Rattle.node_writer.proofs.Places.{rising-climbs, rising-apart, order-three, order-other, order-total, kept-length, kept-total, kept-few, kept-many, place-of, costs}
 use Rattle.node_writer.proofs.Sparse.{entry-bytes, table-three, table-two}
-use Rattle.node_writer.proofs.Walking.{TableOpen, in-order, kids-in, asked-count, asked-costs, kind-large, opened, OnTurns, first-end, where-is, later-groups, later-tails}
+use Rattle.node_writer.proofs.Walking.{TableOpen, in-order, kids-in, asked-count, asked-costs, kind-large, opened, OnTurns, first-end, where-is, later-groups}
 use Rattle.node_writer.proofs.Stepping.{size-sum}
 
 -- ── the bytes, by the kind ──
@@ -125,7 +124,6 @@ module _ {s₀ : List ℕ} {work lo hi d n : ℕ} {t : Table} {e : End} {buf₀ 
   ended-three : kind-of n ≡ 3 → n ≤ 8 → Ended s (e .at) n (children-in s₀ work lo hi d left) (end .at)
   ended-three k f =
       let h : ¬ (kind-of n ≡ 1) = λ x. absurd (omega arith) in
-      let gs = groups-in s₀ work lo hi d in
       let ks = children-in s₀ work lo hi d left in
       let same : kids-in s₀ work lo hi d n left ≡ children-in s₀ work lo hi d left =
       ap (kids (child-node left d)) (order-three (kind-of n) (groups-in s₀ work lo hi d) k ∙ sym (kept-few (groups-in s₀ work lo hi d) (omega (arith, count)))) in
@@ -149,7 +147,6 @@ module _ {s₀ : List ℕ} {work lo hi d n : ℕ} {t : Table} {e : End} {buf₀ 
       let h : ¬ (kind-of n ≡ 1) = λ x. absurd (omega arith) in
       let h₃ : ¬ (kind-of n ≡ 3) = λ x. absurd (omega arith) in
       let ks = children-in s₀ work lo hi d left in
-      let G = kids (child-node left d) (groups-in s₀ work lo hi d) in
       let order : kids-in s₀ work lo hi d n left ≡ kids (child-node left d) (groups-in s₀ work lo hi d) = ap (kids (child-node left d)) (order-other (kind-of n) (groups-in s₀ work lo hi d) h₃) in
       let kept : children-in s₀ work lo hi d left ≡ kids (child-node left d) (by-arrival (groups-in s₀ work lo hi d)) = ap (kids (child-node left d)) (kept-few (groups-in s₀ work lo hi d) (omega (arith, count))) in
       let climbs : Climbs 0 (kids (child-node left d) (groups-in s₀ work lo hi d)) = rising-climbs (child-node left d) (groups-in s₀ work lo hi d) 0 (o .asked .rising) (λ g m. (omega arith, o .asked .small g m)) in

@@ -1,30 +1,28 @@
 -- A node up to its table: where its runs end, and what its kind and its lists are. Assumes nothing.
-use Prim.Native.Nat.{ℕ, zero, suc, _+_, _-_, _*_, _≤_, _<_}
+use Prim.Native.Nat.{ℕ, suc, _+_, _-_, _≤_, _<_}
 use native.Mathlib.Omega.{arith}
 use mathlib.Core.Path.{_≡_, refl, sym, ap, subst, _∙_}
 use mathlib.Core.Bool.{Bool, true, false, cond}
-use mathlib.Core.Logic.{_⊎_, inl, inr}
-use mathlib.Core.List.{List, [], _∷_, _++_, List·Memᴰ as Mem, List·Memᴰ·head as here, List·Memᴰ·tail as later}
+use mathlib.Core.List.{List, [], _∷_, _++_, List·Memᴰ as Mem}
 use lib.ListN.{length, getD, set, length-set, length-append}
 use lib.Seq.{getD-set-same, getD-set-other}
-use Rattle.definitions.specs.Location.{Location, normal}
+use Rattle.definitions.specs.Location.{normal}
 use Rattle.trie.specs.Trie.{Lists, entries-of}
 use Rattle.tails.specs.Tails.{Tail}
 use Rattle.tails.specs.Groups.{ends-as, run, after-run, wholes, below, byte-at, locations-of, group-lists, groups}
-use Rattle.tails.proofs.High.{SoundPath, sound-bytes}
+use Rattle.tails.proofs.High.{sound-bytes}
 use Rattle.tails.proofs.Keep.{keep, keep-mem, Kept, Pairs, pairs-keep}
 use Rattle.tails.proofs.Runs.{Run, longer, longer-is, below-here, bytes-upto}
 use Rattle.tails.proofs.Budget.{weights, group-weights, budget}
 use Rattle.image.specs.Kinds.{kind-of}
 use Rattle.image.specs.Image.{lists-bytes, lists-size}
-use Rattle.image.proofs.Holding.{Holds, holds-at, head-length}
+use Rattle.image.proofs.Holding.{Holds, holds-at}
 use Rattle.tail_records.specs.Tail.{tails-in, Held}
-use Rattle.tail_records.specs.Found.{Longer, Grouped, Found}
+use Rattle.tail_records.specs.Found.{Longer, Found}
 use Rattle.tail_records.proofs.Memory.{tails-split, tails-length, tails-ext, held-part}
 use Rattle.tail_records.proofs.Buffer.{grouped-memory}
 use Rattle.tail_records.proofs.Distinct.{ByByte, few-groups}
 use Rattle.list_writer.specs.declared.End.{End}
-use Rattle.node_writer.specs.declared.Head.{Head}
 use Rattle.node_writer.specs.Heads.{copies, cut-lists, ListsAsked, ListsWritten, HeadAsked, HeadWritten}
 
 -- ── runs as parts of the tails in memory ──
@@ -56,7 +54,6 @@ pub record RunCut (s : List ℕ) (work lo mid hi : ℕ) (f : Tail → Bool) : Ty
 
 pub run-cut : (s : List ℕ) (work lo mid hi : ℕ) (f : Tail → Bool) → lo ≤ hi → mid ≡ lo + length (run f (tails-in s work lo hi)) → RunCut s work lo mid hi f
 run-cut s work lo mid hi f h e =
-    let ts = tails-in s work lo hi in
     let all = run-after f (tails-in s work lo hi) in
     let n : length (run f (tails-in s work lo hi)) + length (after-run f (tails-in s work lo hi)) ≡ hi - lo =
     sym (length-append (run f (tails-in s work lo hi)) (after-run f (tails-in s work lo hi))) ∙ ap length all ∙ tails-length s work lo hi in

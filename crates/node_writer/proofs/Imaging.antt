@@ -1,19 +1,17 @@
 -- The image of all tails: that of the root, or 25 zero bytes where there are none. Assumes nothing.
-use Prim.Native.Nat.{ℕ, zero, suc, _+_, _-_, _*_, _≤_, _<_}
+use Prim.Native.Nat.{ℕ, _+_, _-_, _≤_, _<_}
 use native.Mathlib.Omega.{arith}
 use mathlib.Core.Path.{_≡_, refl, sym, ap, subst, _∙_}
 use mathlib.Core.Logic.{_⊎_, inl, inr}
-use mathlib.Core.List.{List, [], _∷_}
+use mathlib.Core.List.{List, []}
 use lib.ListN.{length, getD, replicate, length-replicate}
 use lib.Seq.{sets, length-sets}
 use Rattle.words.proofs.Parts.{getD-sets-out}
-use Rattle.trie.specs.Trie.{Trie, empty, root, nodes, entries, forest-nodes, forest-entries, entries-of}
-use Rattle.tails.specs.Tails.{Tail}
+use Rattle.trie.specs.Trie.{Trie, empty, root, nodes, entries, forest-nodes}
 use Rattle.tails.specs.Groups.{group-node}
-use Rattle.tails.proofs.Budget.{weights}
-use Rattle.image.specs.Image.{image, children-of, node-bytes, node-size}
+use Rattle.image.specs.Image.{image, children-of, node-bytes}
 use Rattle.image.proofs.Holding.{Holds}
-use Rattle.tail_records.specs.Tail.{tail-in, tails-in}
+use Rattle.tail_records.specs.Tail.{tails-in}
 use Rattle.tail_records.proofs.Memory.{tails-none, tails-step}
 use Rattle.list_writer.specs.declared.End.{End}
 use Rattle.list_writer.proofs.Standing.{holds-sets}

@@ -1,13 +1,14 @@
--- `Sized` and `Orders` are on an image's parts; `Sparse` and `Dense` say how a table and its children stand, one more at a time;
--- `Turning` and `Listing` are the steps of a table and of the lists. Assumes nothing.
+-- On an image's parts: `Sized` says how long they are, `Orders` and `Places` in which order children stand and are written.
+-- `Sparse` and `Dense` say how a table and its children stand, one more at a time. `Turning`, `Listing` and `Heading` are the steps of a turn,
+-- of the lists and of a head; `Walking`, `Stepping` and `Finishing` the turns of a table; `Noding` a node, `Imaging` the image. Assumes nothing.
 pub mod Sized
 pub mod Orders
+pub mod Places
 pub mod Sparse
 pub mod Dense
 pub mod Turning
 pub mod Listing
 pub mod Heading
-pub mod Places
 pub mod Walking
 pub mod Stepping
 pub mod Finishing

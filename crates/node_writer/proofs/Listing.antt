@@ -1,11 +1,11 @@
 -- The three lists of a node, one after the other. Assumes nothing.
-use Prim.Native.Nat.{ℕ, _+_, _-_, _*_, _≤_, _<_}
+use Prim.Native.Nat.{ℕ, _+_, _*_, _≤_}
 use native.Mathlib.Omega.{arith}
-use mathlib.Core.Path.{_≡_, refl, sym, ap, subst, _∙_}
-use mathlib.Core.List.{List, [], _∷_, _++_}
+use mathlib.Core.Path.{_≡_, ap, subst, _∙_}
+use mathlib.Core.List.{List, _++_}
 use lib.ListN.{length, getD}
 use Rattle.definitions.specs.Location.{Location, normal}
-use Rattle.trie.specs.Trie.{Lists, entries-of}
+use Rattle.trie.specs.Trie.{Lists}
 use Rattle.tails.specs.Tails.{Tail}
 use Rattle.tails.specs.Groups.{locations-of, wholes}
 use Rattle.image.specs.Image.{list-bytes, lists-bytes, lists-size}
@@ -17,7 +17,7 @@ use Rattle.list_writer.specs.declared.End.{End}
 use Rattle.list_writer.specs.Written.{ListWritten}
 use Rattle.list_writer.proofs.Copying.{length-locations-of}
 use Rattle.list_writer.proofs.Standing.{holds-ext}
-use Rattle.node_writer.specs.Heads.{copies, cut-lists, ListsAsked, ListsWritten}
+use Rattle.node_writer.specs.Heads.{cut-lists, ListsAsked, ListsWritten}
 
 -- the tails are not written by a list before the work area
 module _ {s s′ : List ℕ} (ts : List Tail) {e r : End} (w : ListWritten s s′ (locations-of ts) e r) (work : ℕ) (h : e .at + 8 + 24 * length ts ≤ work) where
@@ -40,15 +40,6 @@ pub record ListAsked (len work hi count : ℕ) (e : End) : Type 0 where
   pub counted : e .entries ≤ e .at
 
 module _ {s : List ℕ} {work lo parts below hi : ℕ} {e : End} (q : ListsAsked s work lo parts below hi e) where
-  P : List Tail
-  P = tails-in s work lo parts
-
-  C : List Tail
-  C = tails-in s work parts below
-
-  S : List Tail
-  S = wholes (tails-in s work below hi)
-
   module _ {s₁ : List ℕ} {e₁ : End} (w₁ : ListWritten s s₁ (locations-of (tails-in s work lo parts)) e e₁) where
     first-room : e .at + 8 + 24 * length (tails-in s work lo parts) ≤ work
     first-room = omega (arith, q .room)

@@ -2,26 +2,26 @@
 use Prim.Native.Nat.{ℕ, zero, suc, _+_, _-_, _*_, _≤_, _<_}
 use native.Mathlib.Omega.{arith}
 use mathlib.Core.Path.{_≡_, refl, sym, ap, subst, _∙_}
-use mathlib.Core.Logic.{_⊎_, inl, inr}
-use mathlib.Core.List.{List, [], _∷_, _++_, List·Memᴰ as Mem, List·Memᴰ·head as here, List·Memᴰ·tail as later}
-use lib.ListN.{length, getD}
-use Rattle.trie.specs.Trie.{Node, Lists, entries-of, forest-nodes, forest-entries}
+use mathlib.Core.Logic.{inl}
+use mathlib.Core.List.{List, [], _∷_, _++_, List·Memᴰ as Mem, List·Memᴰ·head as here}
+use lib.ListN.{length}
+use Rattle.trie.specs.Trie.{Lists, entries-of, forest-nodes, forest-entries}
 use Rattle.trie.proofs.BuildBytes.{Rising}
 use Rattle.tails.specs.Tails.{Tail}
-use Rattle.tails.specs.Groups.{Group, byte-at, below, groups, kept-groups, group-lists, group-node}
+use Rattle.tails.specs.Groups.{Group, below, groups, kept-groups, group-lists, group-node}
 use Rattle.tails.proofs.High.{sound-bytes}
 use Rattle.tails.proofs.Keep.{keep-mem}
 use Rattle.tails.proofs.Runs.{Run, goes, goes-is, longer, below-here}
 use Rattle.tails.proofs.Groups.{bytes-of, mem-bytes, groups-rising, group-run, byte-goes}
-use Rattle.tails.proofs.Budget.{weights, group-weights}
+use Rattle.tails.proofs.Budget.{group-weights}
 use Rattle.image.specs.Kinds.{kind-of}
 use Rattle.image.specs.Image.{Child, children-of, nodes-in, entries-in, lists-bytes, lists-size, table-bytes, table-size, node-bytes, node-size}
-use Rattle.image.proofs.Holding.{Holds, holds-at, head-length}
+use Rattle.image.proofs.Holding.{Holds, head-length}
 use Rattle.image.proofs.BytesRead.{holds-append}
 use Rattle.image.proofs.ByByte.{total-nodes}
 use Rattle.image.proofs.Shapes.{count-nodes, count-entries}
-use Rattle.tail_records.specs.Tail.{tails-in, Held}
-use Rattle.tail_records.specs.Ranks.{Different, Apart}
+use Rattle.tail_records.specs.Tail.{tails-in}
+use Rattle.tail_records.specs.Ranks.{Apart}
 use Rattle.tail_records.proofs.Memory.{tails-ext, held-ext, held-part}
 use Rattle.tail_records.proofs.Distinct.{groups-different, apart-part}
 use Rattle.list_writer.specs.declared.End.{End}

@@ -1,5 +1,5 @@
 -- Children in another order: sums stay, and by ascending byte they are those of rising groups. Assumes nothing.
-use Prim.Native.Nat.{ℕ, zero, suc, _+_, _*_, _≤_, _<_}
+use Prim.Native.Nat.{ℕ, zero, suc, _+_, _≤_, _<_}
 use native.Mathlib.Nat.{not-suc-le-zero}
 use native.Mathlib.Omega.{arith}
 use mathlib.Core.Path.{_≡_, refl, sym, ap, _∙_}
@@ -7,16 +7,16 @@ use mathlib.Core.Bool.{Bool, true, false, cond}
 use mathlib.Core.List.{List, [], _∷_, _++_, List·Memᴰ as Mem, List·Memᴰ·head as here, List·Memᴰ·tail as later}
 use lib.ListN.{length, getD, take}
 use lib.Dec.{eqb, leb, ltb}
-use borrow.Author.Tests.{eq-eqb, ne-eqb, lt-ltb, le-ltb}
+use borrow.Author.Tests.{ne-eqb, lt-ltb, le-ltb}
 use Rattle.definitions.proofs.Views.{Eq, eq}
-use Rattle.trie.specs.Trie.{Node, Forest}
+use Rattle.trie.specs.Trie.{Node}
 use Rattle.tails.specs.Tails.{Tail}
 use Rattle.tails.specs.Groups.{Group, arrive, by-arrival, group-forest}
-use Rattle.image.specs.Image.{Child, as-child, children-of, with-byte, ascending, size-below, children-size, nodes-in, entries-in}
+use Rattle.image.specs.Image.{Child, as-child, children-of, with-byte, ascending, size-below, children-size}
 use Rattle.image.proofs.ByByte.{total}
 use Rattle.tails.proofs.Children.{by-arrival-mem}
 use Rattle.tail_records.specs.Found.{no-group}
-use Rattle.node_writer.specs.Kids.{kid, kids, sizes, no-child}
+use Rattle.node_writer.specs.Kids.{kid, kids, no-child}
 
 -- ── the children of a forest of groups ──
 
@@ -128,9 +128,6 @@ module _ (f : List Tail → Node) (b : ℕ) where
   with-arrive g [] n = refl
   with-arrive g (h ∷ hs) n = go (leb (g .first) (h .first)) (eqb (g .byte) b) (eqb (h .byte) b) refl refl (eq (g .byte) b) (eq (h .byte) b) (with-arrive g hs (λ x m. n x (later m)))
     where
-      W : List Child
-      W = with-byte b (kids f hs)
-
       go : (o p q : Bool) → eqb (g .byte) b ≡ p → eqb (h .byte) b ≡ q → Eq p (g .byte) b → Eq q (h .byte) b → with-byte b (kids f (arrive g hs)) ≡ cond (eqb (g .byte) b) (kid f g ∷ with-byte b (kids f hs)) (with-byte b (kids f hs))
           → with-byte b (kids f (cond o (g ∷ h ∷ hs) (h ∷ arrive g hs))) ≡ cond (eqb (g .byte) b) (kid f g ∷ with-byte b (kids f (h ∷ hs))) (with-byte b (kids f (h ∷ hs)))
       go true p q u v x y ih = refl

@@ -2,9 +2,8 @@
 use Prim.Native.Nat.{ℕ, zero, suc, _+_, _-_, _*_, _≤_, _<_}
 use native.Mathlib.Nat.{not-suc-le-zero}
 use native.Mathlib.Omega.{arith}
-use mathlib.Core.Path.{_≡_, refl, sym, ap, subst, _∙_}
+use mathlib.Core.Path.{_≡_, refl, sym, ap, _∙_}
 use mathlib.Core.Bool.{Bool, true, false, cond}
-use mathlib.Core.Logic.{_⊎_, inl, inr}
 use mathlib.Core.List.{List, [], _∷_, _++_, List·Memᴰ as Mem, List·Memᴰ·head as here, List·Memᴰ·tail as later}
 use lib.ListN.{length, getD, take}
 use lib.Seq.{take-suc}
@@ -16,15 +15,15 @@ use Rattle.tails.specs.Tails.{Tail}
 use Rattle.tails.specs.Groups.{Group, arrive, by-arrival, kept-groups}
 use Rattle.tails.proofs.Groups.{bytes-of, mem-bytes}
 use Rattle.tails.proofs.Budget.{weights, group-weights}
-use Rattle.image.specs.Image.{Child, as-child, children-of, nodes-in, entries-in, children-size, node-bytes, node-size}
-use Rattle.image.proofs.ByByte.{total, total-nodes, total-entries, total-size}
+use Rattle.image.specs.Image.{Child, as-child, children-of, nodes-in, node-bytes, node-size}
+use Rattle.image.proofs.ByByte.{total}
 use Rattle.image.proofs.Shapes.{count-nodes, count-entries}
 use Rattle.tail_records.specs.Found.{no-group}
 use Rattle.tail_records.specs.Ranks.{rank-of, firsts, Different}
 use Rattle.tail_records.proofs.Arrival.{length-by-arrival, arrival-rank, rank-place, rank-inside}
-use Rattle.node_writer.specs.Kids.{kid, kids, sizes, no-child}
+use Rattle.node_writer.specs.Kids.{kid, kids}
 use Rattle.node_writer.proofs.Sized.{Sized, node-long, all-sized}
-use Rattle.node_writer.proofs.Orders.{Climbs, Apart, total-by-arrival, length-kids}
+use Rattle.node_writer.proofs.Orders.{Climbs, Apart, total-by-arrival}
 
 -- ── a kid ──
 

@@ -1,12 +1,12 @@
 -- A table of kind 2 or 3 and the children behind it, one child at a time. Assumes nothing.
-use Prim.Native.Nat.{ℕ, zero, suc, _+_, _*_, _≤_, _<_}
+use Prim.Native.Nat.{ℕ, suc, _+_, _*_, _≤_, _<_}
 use native.Mathlib.Nat.{not-suc-le-zero}
 use native.Mathlib.Numerals.{add-one}
 use native.Mathlib.Omega.{arith}
-use mathlib.Core.Path.{_≡_, refl, sym, ap, subst, _∙_}
+use mathlib.Core.Path.{_≡_, ap, subst, _∙_}
 use mathlib.Core.Logic.{_⊎_, inl, inr}
 use mathlib.Core.List.{List, [], _∷_, _++_, append-nil}
-use lib.ListN.{length, getD, take, set, length-set, length-append}
+use lib.ListN.{length, getD, take, set}
 use lib.Seq.{sets, length-sets, take-suc, getD-set-same, getD-set-other}
 use Rattle.words.specs.Words.{bytes64}
 use Rattle.words.proofs.Laws.{Outside}
@@ -64,9 +64,6 @@ module _ (base start o : ℕ) (ws : List Child) (pl : ℕ → ℕ) (z : Sized ws
       (flag : s₁ ≡ set (sets s (base + pl j * 9) (entry-bytes (getD ws j no-child) (o + children-size (take j ws)))) (start + children-size (take j ws)) 1)
       (same : (k : ℕ) → k < start + children-size (take j ws) + 1 → getD s₂ k 0 ≡ getD s₁ k 0)
       (node : Holds s₂ (start + children-size (take j ws) + 1) (getD ws j no-child .bytes (o + children-size (take j ws) + 1))) where
-    p : ℕ
-    p = start + children-size (take j ws)
-
     entry : List ℕ
     entry = entry-bytes (getD ws j no-child) (o + children-size (take j ws))
 

@@ -5,23 +5,22 @@ use native.Mathlib.Omega.{arith}
 use mathlib.Core.Path.{_≡_, refl, sym, ap, subst, _∙_}
 use mathlib.Core.Bool.{Bool, true, false}
 use mathlib.Core.Logic.{_⊎_, inl, inr}
-use mathlib.Core.List.{List, [], _∷_, _++_, List·Memᴰ as Mem}
+use mathlib.Core.List.{List, [], _∷_, _++_}
 use lib.ListN.{length, getD, take, drop, set, length-set, length-take}
 use lib.Seq.{sets, length-sets, getD-set-other, take-suc}
 use lib.Dec.{eqb}
 use Rattle.words.specs.Words.{bytes64}
 use Rattle.words.proofs.Parts.{getD-sets-out, length-bytes64}
-use Rattle.definitions.proofs.Views.{Eq, eq, lt-or-le}
+use Rattle.definitions.proofs.Views.{Eq, eq}
 use Rattle.trie.specs.Trie.{Node, entries-of, forest-nodes, forest-entries}
-use Rattle.tails.specs.Tails.{Tail}
-use Rattle.tails.specs.Groups.{Group, groups, group-node}
+use Rattle.tails.specs.Groups.{Group, group-node}
 use Rattle.tails.proofs.Runs.{Run}
 use Rattle.tails.proofs.Budget.{weights}
 use Rattle.image.specs.Kinds.{kind-of}
 use Rattle.image.specs.Image.{Child, children-of, children-size, nodes-in, entries-in, slots-size, node-bytes, node-size}
 use Rattle.image.proofs.Holding.{Holds}
-use Rattle.tail_records.specs.Tail.{tails-in, Held}
-use Rattle.tail_records.specs.Found.{no-group, IsGroup}
+use Rattle.tail_records.specs.Tail.{tails-in}
+use Rattle.tail_records.specs.Found.{no-group}
 use Rattle.tail_records.specs.Ranks.{Apart, rank-of, firsts}
 use Rattle.tail_records.proofs.Memory.{tails-ext, held-part, held-ext}
 use Rattle.tail_records.proofs.Arrival.{rank-inside}
@@ -30,11 +29,11 @@ use Rattle.list_writer.specs.declared.End.{End}
 use Rattle.node_writer.specs.declared.Table.{Table}
 use Rattle.node_writer.specs.declared.Turn.{Turn}
 use Rattle.node_writer.specs.Kids.{kid, kids, sizes, no-child}
-use Rattle.node_writer.specs.Turns.{groups-in, group-in, group-bytes, GroupEntry, Picked, Turned}
-use Rattle.node_writer.specs.Nodes.{child-node, TableAsked, node-of, NodeAsked, NodeWritten}
+use Rattle.node_writer.specs.Turns.{groups-in, group-in, group-bytes, GroupEntry, Turned}
+use Rattle.node_writer.specs.Nodes.{child-node, node-of, NodeAsked, NodeWritten}
 use Rattle.node_writer.proofs.Sized.{Sized}
 use Rattle.node_writer.proofs.Orders.{Climbs, getD-kids, kid-byte, length-kids}
-use Rattle.node_writer.proofs.Places.{kid-nodes, kid-entries, kid-size, kid-bytes, kids-sized, getD-in, rising-climbs, written-order, order-other, order-length, place-of, place-inside, place-apart, cost, costs, costs-more}
+use Rattle.node_writer.proofs.Places.{kid-nodes, kid-entries, kid-size, kid-bytes, kids-sized, getD-in, rising-climbs, order-other, place-of, place-inside, place-apart, cost, costs, costs-more}
 use Rattle.node_writer.proofs.Sparse.{entry-bytes, Sparse, sparse-start, sparse-child}
 use Rattle.node_writer.proofs.Dense.{Dense, dense-start, dense-none, dense-child, sizes-snoc}
 use Rattle.node_writer.proofs.Walking.{TableOpen, in-order, kids-in, asked-count, OnTurns, first-end, where-is, flag-room, node-room, now-asked, now-groups, now-grouped, levels, next-group}

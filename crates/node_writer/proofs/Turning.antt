@@ -1,19 +1,17 @@
 -- A turn of a table: which group it is for, and what is written. Assumes nothing.
-use Prim.Native.Nat.{ℕ, zero, suc, _+_, _-_, _*_, _≤_, _<_}
-use native.Mathlib.Numerals.{add-one}
+use Prim.Native.Nat.{ℕ, suc, _+_, _-_, _*_, _≤_, _<_}
 use native.Mathlib.Omega.{arith}
-use mathlib.Core.Path.{_≡_, refl, sym, ap, subst, _∙_}
+use mathlib.Core.Path.{_≡_, refl, sym, ap, _∙_}
 use mathlib.Core.Logic.{_⊎_, inl, inr}
-use mathlib.Core.List.{List, [], _∷_}
+use mathlib.Core.List.{List, _∷_}
 use lib.ListN.{length, getD, set, take, drop}
 use lib.Seq.{sets}
 use Rattle.words.specs.Words.{bytes64}
 use Rattle.definitions.proofs.Views.{lt-or-le}
-use Rattle.tails.specs.Groups.{Group, byte-at}
+use Rattle.tails.specs.Groups.{byte-at}
 use Rattle.image.specs.Kinds.{kind-of}
 use Rattle.image.proofs.KindRule.{kind-one, kind-two, kind-three}
 use Rattle.tail_records.specs.Tail.{tail-in, record-in, ValidRecord}
-use Rattle.tail_records.specs.Found.{no-group}
 use Rattle.tail_records.specs.Ranks.{rank-of, with-rank, firsts}
 use Rattle.tail_records.proofs.Buffer.{grouped-firsts}
 use Rattle.tail_records.proofs.Arrival.{rank-inside, with-rank-inside}

@@ -1,29 +1,28 @@
 -- The turns of a table: what holds between them, and what is asked of each. Assumes nothing.
-use Prim.Native.Nat.{ℕ, zero, suc, _+_, _-_, _*_, _≤_, _<_}
-use native.Mathlib.Numerals.{add-one}
+use Prim.Native.Nat.{ℕ, suc, _+_, _-_, _*_, _≤_, _<_}
 use native.Mathlib.Omega.{arith}
-use mathlib.Core.Path.{_≡_, refl, sym, ap, subst, _∙_}
+use mathlib.Core.Path.{_≡_, sym, ap, subst, _∙_}
 use mathlib.Core.Bool.{Bool, true, false}
 use mathlib.Core.Logic.{_⊎_, inl, inr}
-use mathlib.Core.List.{List, [], _∷_, _++_, List·Memᴰ as Mem}
-use lib.ListN.{length, getD, take, drop, set, length-set}
-use lib.Seq.{sets, length-sets, getD-set-other}
+use mathlib.Core.List.{List, List·Memᴰ as Mem}
+use lib.ListN.{length, getD, take}
+use lib.Seq.{length-sets}
 use lib.Dec.{eqb}
 use Rattle.words.specs.Words.{bytes64}
 use Rattle.words.proofs.Parts.{getD-sets-out, length-bytes64}
 use Rattle.definitions.proofs.Views.{Eq, eq, lt-or-le}
 use Rattle.trie.proofs.BuildBytes.{Rising}
 use Rattle.tails.specs.Tails.{Tail}
-use Rattle.tails.specs.Groups.{Group, groups, kept-groups}
+use Rattle.tails.specs.Groups.{Group, groups}
 use Rattle.tails.proofs.Groups.{bytes-of}
 use Rattle.tails.proofs.Runs.{Run}
-use Rattle.tails.proofs.Budget.{weights, group-weights}
+use Rattle.tails.proofs.Budget.{group-weights}
 use Rattle.image.specs.Kinds.{kind-of}
 use Rattle.image.specs.Image.{Child, nodes-in, entries-in}
 use Rattle.image.proofs.Holding.{Holds}
 use Rattle.image.proofs.KindRule.{kind-one, kind-two, kind-three}
-use Rattle.tail_records.specs.Tail.{tail-in, tails-in, Held}
-use Rattle.tail_records.specs.Found.{no-group, Grouped, IsGroup}
+use Rattle.tail_records.specs.Tail.{tail-in, tails-in}
+use Rattle.tail_records.specs.Found.{no-group, Grouped}
 use Rattle.tail_records.specs.Ranks.{Different, Apart, with-rank, firsts}
 use Rattle.tail_records.proofs.Memory.{tails-ext, tails-mem, held-ext}
 use Rattle.tail_records.proofs.Buffer.{grouped-buffer, grouped-memory}
@@ -31,8 +30,8 @@ use Rattle.tail_records.proofs.Arrival.{with-rank-place}
 use Rattle.list_writer.specs.declared.End.{End}
 use Rattle.list_writer.proofs.Standing.{holds-sets}
 use Rattle.node_writer.specs.declared.Table.{Table}
-use Rattle.node_writer.specs.Kids.{kid, kids, sizes, no-child}
-use Rattle.node_writer.specs.Turns.{Opened, groups-in, group-in, Known, TurnAsked, Picked}
+use Rattle.node_writer.specs.Kids.{kids, sizes}
+use Rattle.node_writer.specs.Turns.{Opened, groups-in, group-in, TurnAsked, Picked}
 use Rattle.node_writer.specs.Nodes.{child-node, TableAsked}
 use Rattle.node_writer.proofs.Places.{written-order, order-three, order-other, order-length, place-of, cost, costs, costs-are, costs-order, costs-more, costs-left, getD-in}
 use Rattle.node_writer.proofs.Sparse.{Sparse}
@@ -100,7 +99,6 @@ module _ {s : List ℕ} {work lo hi d n : ℕ} {e : End} {buf : List ℕ} {left 
   pub asked-deep : 0 < n → d < 16
   asked-deep h =
       let x = q .grouped .each 0 h in
-      let a = getD buf (d * 513 + 0) 0 in
       let m = tails-mem s work (getD buf (d * 513 + 0) 0) (getD buf (d * 513 + 0 + 1) 0) (getD buf (d * 513 + 0) 0) (omega arith) (x .some) in
       let m′ : Mem (tail-in s work (getD buf (d * 513 + 0) 0)) (group-in s work lo hi d 0 .tails) = subst (λ (ts : List Tail). Mem (tail-in s work (getD buf (d * 513 + 0) 0)) ts) (x .tails) m in
       let l = q .runs (group-in s work lo hi d 0) (getD-in (groups-in s work lo hi d) 0 (omega (arith, q .grouped .count))) .long (tail-in s work (getD buf (d * 513 + 0) 0)) m′ in

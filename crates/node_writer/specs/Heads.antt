@@ -2,7 +2,7 @@
 use Prim.Native.Nat.{ℕ, suc, _+_, _*_, _≤_, _<_}
 use mathlib.Core.Path.{_≡_}
 use mathlib.Core.Logic.{_⊎_}
-use mathlib.Core.List.{List, _∷_, _++_}
+use mathlib.Core.List.{List, _∷_}
 use lib.ListN.{length, getD}
 use Rattle.definitions.specs.Location.{normal}
 use Rattle.trie.specs.Trie.{Lists, entries-of}

@@ -3,7 +3,7 @@ use Prim.Native.Nat.{ℕ, _+_, _*_, _≤_, _<_}
 use mathlib.Core.Path.{_≡_}
 use mathlib.Core.List.{List, [], _∷_}
 use lib.ListN.{length, getD}
-use Rattle.trie.specs.Trie.{Trie, empty, root, nodes, entries, forest-nodes}
+use Rattle.trie.specs.Trie.{Trie, empty, root, nodes, entries}
 use Rattle.tails.specs.Tails.{Tail}
 use Rattle.tails.specs.Groups.{group-node}
 use Rattle.tails.proofs.Runs.{Run}

@@ -1,9 +1,9 @@
 -- The children of a node, one for each group of tails. Assumes nothing.
-use Prim.Native.Nat.{ℕ, zero, suc, _+_, _-_}
+use Prim.Native.Nat.{ℕ, _+_}
 use mathlib.Core.List.{List, [], _∷_}
 use Rattle.trie.specs.Trie.{Node}
 use Rattle.tails.specs.Tails.{Tail}
-use Rattle.tails.specs.Groups.{Group, group-node}
+use Rattle.tails.specs.Groups.{Group}
 use Rattle.image.specs.Image.{Child, as-child, children-of}
 
 -- the child that a group is

@@ -1,7 +1,7 @@
 -- A table's turns: what is asked of each, and what it leaves. Assumes nothing.
 use Prim.Native.Nat.{ℕ, _+_, _-_, _*_, _≤_, _<_}
 use mathlib.Core.Path.{_≡_}
-use mathlib.Core.List.{List, [], _∷_}
+use mathlib.Core.List.{List, _∷_}
 use lib.ListN.{length, getD, set}
 use lib.Seq.{sets}
 use Rattle.words.specs.Words.{bytes64}

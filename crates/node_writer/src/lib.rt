@@ -1,9 +1,8 @@
 // The image of sorted tails: a node with its lists, its table, and the nodes below it.
 use list_writer::End;
 ghost use mathlib.Core.Path.{_≡_};
-ghost use mathlib.Core.List.{_∷_};
 ghost use Prim.Native.Nat.{_+_, _-_, _*_, _≤_, _<_};
-ghost use lib.ListN.{length, getD, set};
+ghost use lib.ListN.{length, set};
 ghost use lib.Seq.{sets};
 ghost use Rattle.words.specs.Words.{bytes64};
 ghost use Rattle.node_writer.specs.Turns.{Opened, EntryAsked, GroupEntry, TurnAsked, Picked, Turned};
@@ -76,7 +75,7 @@ fn put_slot(mem: &mut [u8], to: usize, at: usize, flag: u8)
     mem[at] = flag;
 }
 
-// Writes the entry of group g of a table of kind 2 or 3, and the flag 1 to index at.
+// Writes the entry of group g of a table of kind 2 or 3, and the flag 1 to index at. The groups are those of the tails from lo to hi - 1.
 fn put_entry(
     mem: &mut [u8],
     work: usize,
@@ -100,6 +99,7 @@ fn put_entry(
 }
 
 // The group of turn j, where met children are written: by arrival in kind 3, by byte in kinds 2 and 1; n where there is none.
+// The groups are those of the tails from lo to hi - 1.
 fn group_of(
     mem: &[u8],
     work: usize,

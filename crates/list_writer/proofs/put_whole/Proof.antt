@@ -1,11 +1,7 @@
 -- `list_writer::put_whole` meets its contract: the third number of a tail says whether it is a whole piece. Assumes nothing.
 use native.Mathlib.Omega.{arith}
-use Prim.Native.Nat.{_%_}
-use mathlib.Core.Path.{_≡_, _∙_, ap, sym, refl}
-use mathlib.Core.Bool.{true, false}
-use lib.Dec.{eqb}
-use borrow.Author.Tests.{eq-eqb, ne-eqb}
-use Rattle.list_writer.proofs.Copying.{tail-whole, is-whole, not-whole}
+use mathlib.Core.Path.{refl}
+use Rattle.list_writer.proofs.Copying.{is-whole, not-whole}
 use borrow.Author.Needs.{needs}
 use Rattle.list_writer.proofs.put_whole.Statement.{statement}
 use Rattle.list_writer.proofs.put_whole.Tie as tie

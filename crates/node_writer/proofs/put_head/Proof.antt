@@ -1,5 +1,4 @@
 -- `node_writer::put_head` meets its contract: the runs end where the tails say, and the lists are those of the node. Assumes nothing.
-use native.Mathlib.Omega.{arith}
 use mathlib.Core.Path.{_∙_}
 use lib.ListN.{length-set}
 use Rattle.node_writer.proofs.Heading.{parts-held, parts-upto, mid-held, mid-upto, mid-longer, mid-few, lists-asked, head-written}

@@ -1,6 +1,5 @@
 -- `node_writer::put_turn` meets its contract. Assumes nothing.
 use native.Mathlib.Omega.{arith}
-use mathlib.Core.Path.{_∙_, sym}
 use Rattle.node_writer.proofs.Turning.{slot-inside, turned-none, turned-dense, turned-sparse, entry-asked}
 use borrow.Author.Needs.{needs}
 use Rattle.node_writer.proofs.put_turn.Statement.{statement}
