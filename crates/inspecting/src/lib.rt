@@ -1,5 +1,6 @@
 // What a lent memory holds, tested before any call relies on it: no index, an open one, or a finished one.
 use image::Layout;
+use index_memory::HEADER_SIZE;
 use index_memory::Header;
 use index_memory::Heading;
 ghost use mathlib.Core.Path.{_≡_};
@@ -19,7 +20,7 @@ fn image_right(mem: &[u8], h: Header) -> bool
     requires { ⌜ (heading-at (now mem) ≡ some (header-of h)) × (h .phase ≡ 1) ⌝ }
     ensures { λ r. ⌜ SaysImage (now (mem .entry)) (header-of h) r ⌝ }
 {
-    let Layout::Right(t) = index_rule::check(&mem[64..64 + h.payload]) else {
+    let Layout::Right(t) = index_rule::check(&mem[HEADER_SIZE..HEADER_SIZE + h.payload]) else {
         return false;
     };
     if h.nodes != t.nodes {

@@ -23,16 +23,17 @@ use Rattle.image.specs.Reading.{read-image, right}
 use Rattle.image.specs.Savable.{AllBytes}
 use Rattle.index_rule.proofs.Theorems.{check-image-is}
 use Rattle.row_buffer.specs.Numbers.{row-numbers}
-use Rattle.index_memory.specs.Index.{Index, broken, opened, finished, read-index}
+use Rattle.index_memory.specs.Layout.{Header}
+use Rattle.index_memory.specs.Index.{Index, image-part, read-index}
 use Rattle.index_memory.specs.Record.{Done, record-by, record-memory}
-use Rattle.inspecting.specs.Held.{RightImage as Tested}
+use Rattle.inspecting.specs.Held.{RightImage as Tested, ImageIn}
 use Rattle.inspecting.proofs.Facts.{same-part}
 use Rattle.searching.specs.Search.{RightImage, Outcome, Answers, search-answer}
 use Rattle.searching.proofs.Equations.{outcome-is, answer-places, answer-too-many, answer-rows, rows-found, rows-found-are, places-found-counted}
 use Rattle.searching.specs.declared.Answer.{Answer}
 use Rattle.searching.specs.declared.Answer.the-variants.{Rows, Refused}
 use Rattle.string_index.specs.Finish.{Found, search-pieces, search-by, search-memory}
-use Rattle.string_index.specs.Answers.{found-by, part-of, Searchable}
+use Rattle.string_index.specs.Answers.{found-by}
 
 -- ── what a memory holds decides ──
 
@@ -46,28 +47,28 @@ search-as m q scratch buffer i e = ap (λ (x : Index). search-by x q scratch buf
 
 -- ── the image ──
 
-pub part-bytes : (m : List ℕ) (n : ℕ) → AllBytes m → AllBytes (part-of m n)
-part-bytes m n a i = go (lt-or-le i n)
+part-bytes : (m : List ℕ) (h : Header) → AllBytes m → AllBytes (image-part m h)
+part-bytes m h a i = go (lt-or-le i (h .payload))
   where
-    go : (i < n) ⊎ (n ≤ i) → getD (part-of m n) i 0 < 256
-    go (inl h) = omega (arith, getD-take n (drop 64 m) i 0 h, getD-drop 64 m i 0, a (64 + i))
-    go (inr h) =
-        let l : length (part-of m n) ≤ i = omega (arith, length-take n (drop 64 m)) in
-        omega (arith, List·getD-eq-default (part-of m n) 0 l)
+    go : (i < h .payload) ⊎ (h .payload ≤ i) → getD (image-part m h) i 0 < 256
+    go (inl k) = omega (arith, getD-take (h .payload) (drop 64 m) i 0 k, getD-drop 64 m i 0, a (64 + i))
+    go (inr k) =
+        let l : length (image-part m h) ≤ i = omega (arith, length-take (h .payload) (drop 64 m)) in
+        omega (arith, List·getD-eq-default (image-part m h) 0 l)
 
 module _ (s : List ℕ) (a : AllBytes s) (l : length s < 2 ^ 64) (t : Tested s) where
   both : (read-image s ≡ right (t .nodes) (t .entries)) × Rule (trie-in s)
   both = check-image-is s a l (t .nodes) (t .entries) .0 (sym (t .is))
 
-  pub right-image : RightImage s
+  right-image : RightImage s
   right-image = record { nodes = t .nodes; entries = t .entries; read = both .0 }
 
-  pub rule-image : Rule (trie-in s)
+  rule-image : Rule (trie-in s)
   rule-image = both .1
 
 -- ── the answer by the nodes is that by the pieces ──
 
-pub answered : (t : Trie) → Rule t → (q : List ℕ) (scratch : ℕ) (buffer : List ℕ) (r : Answer) (after : List ℕ) → length q ≤ 256
+answered : (t : Trie) → Rule t → (q : List ℕ) (scratch : ℕ) (buffer : List ℕ) (r : Answer) (after : List ℕ) → length q ≤ 256
     → Answers (search-answer t q scratch buffer) r after → found-by r after ≡ search-pieces (trie-pieces t) q scratch buffer
 answered t rule q scratch buffer r after h w = from-outcome ∙ go (lt-or-le (scratch / 24) (sizes (table-found t q))) (lt-or-le (length buffer / 3) (length (rows-found t q)))
   where
@@ -106,20 +107,20 @@ too-long ps q scratch buffer h = sym (rw (lt-ltb 256 (length q) h) refl)
 
 -- ── the part that the code cuts out ──
 
-module _ (m : List ℕ) (n : ℕ) (a : AllBytes m) (l : length m < 2 ^ 64) (h : Searchable m n) where
-  small : length (part-of m n) < 2 ^ 64
-  small = omega (arith, length-take n (drop 64 m), length-drop 64 m)
+module _ (m : List ℕ) (h : Header) (a : AllBytes m) (l : length m < 2 ^ 64) (w : ImageIn m h) where
+  small : length (image-part m h) < 2 ^ 64
+  small = omega (arith, length-take (h .payload) (drop 64 m), length-drop 64 m)
 
-  right-part : RightImage (part-of m n)
-  right-part = right-image (part-of m n) (part-bytes m n a) small (h .tested)
+  right-part : RightImage (image-part m h)
+  right-part = right-image (image-part m h) (part-bytes m h a) small (w .tested)
 
-  rule-part : Rule (trie-in (part-of m n))
-  rule-part = rule-image (part-of m n) (part-bytes m n a) small (h .tested)
+  rule-part : Rule (trie-in (image-part m h))
+  rule-part = rule-image (image-part m h) (part-bytes m h a) small (w .tested)
 
-  pub searchable : RightImage (take (64 + n - 64) (drop 64 m)) × Rule (trie-in (take (64 + n - 64) (drop 64 m)))
-  searchable = subst (λ (s : List ℕ). RightImage s × Rule (trie-in s)) (sym (same-part m n)) (right-part, rule-part)
+  pub searchable : RightImage (take (64 + h .payload - 64) (drop 64 m)) × Rule (trie-in (take (64 + h .payload - 64) (drop 64 m)))
+  searchable = subst (λ (s : List ℕ). RightImage s × Rule (trie-in s)) (sym (same-part m (h .payload))) (right-part, rule-part)
 
   pub answered-part : (q : List ℕ) (scratch : ℕ) (buffer : List ℕ) (r : Answer) (after : List ℕ) → length q ≤ 256
-      → Answers (search-answer (trie-in (take (64 + n - 64) (drop 64 m))) q scratch buffer) r after → found-by r after ≡ search-pieces (trie-pieces (trie-in (part-of m n))) q scratch buffer
-  answered-part q scratch buffer r after k w =
-      answered (trie-in (part-of m n)) rule-part q scratch buffer r after k (subst (λ (s : List ℕ). Answers (search-answer (trie-in s) q scratch buffer) r after) (same-part m n) w)
+      → Answers (search-answer (trie-in (take (64 + h .payload - 64) (drop 64 m))) q scratch buffer) r after → found-by r after ≡ search-pieces (trie-pieces (trie-in (image-part m h))) q scratch buffer
+  answered-part q scratch buffer r after k e =
+      answered (trie-in (image-part m h)) rule-part q scratch buffer r after k (subst (λ (s : List ℕ). Answers (search-answer (trie-in s) q scratch buffer) r after) (same-part m (h .payload)) e)

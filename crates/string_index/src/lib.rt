@@ -1,4 +1,6 @@
 // The calls of the index. Each inspects the lent memory first, so none asks anything of it.
+use index_memory::HEADER_SIZE;
+use index_memory::Header;
 use index_memory::Recorded;
 use inspecting::Held;
 use location::SpacetimeLocation;
@@ -9,11 +11,11 @@ ghost use Rattle.location.specs.Plain.{plain};
 ghost use Rattle.trie.specs.Trie.{trie-pieces};
 ghost use Rattle.image.specs.Held.{trie-in};
 ghost use Rattle.index_memory.specs.Record.{record-memory};
-ghost use Rattle.index_memory.specs.Answers.{recorded-number};
+ghost use Rattle.index_memory.specs.Index.{image-part};
+ghost use Rattle.index_memory.specs.Answers.{header-of, recorded-number};
+ghost use Rattle.inspecting.specs.Held.{ImageIn};
 ghost use Rattle.string_index.specs.Finish.{search-memory, search-pieces};
-ghost use Rattle.string_index.specs.Answers.{found-by, part-of, Searchable};
-
-pub const PLACE_SIZE: usize = 24;
+ghost use Rattle.string_index.specs.Answers.{found-by};
 
 // Records a block: the bytes of one of kind Memory go into an open index.
 pub fn record(mem: &mut [u8], kind: u64, l: SpacetimeLocation, data: &[u8]) -> Recorded
@@ -27,21 +29,15 @@ pub fn record(mem: &mut [u8], kind: u64, l: SpacetimeLocation, data: &[u8]) -> R
     }
 }
 
-// The rows of a query in a finished index, whose image has so many bytes.
-fn search_finished(
-    mem: &[u8],
-    payload: usize,
-    q: &[u8],
-    scratch: &mut [u8],
-    rows: &mut [u64],
-) -> Answer
-    requires { ⌜ Searchable (now mem) payload ⌝ }
-    ensures { λ r. ⌜ found-by r (now (rows .exit)) ≡ search-pieces (trie-pieces (trie-in (part-of (now (mem .entry)) payload))) (now (q .entry)) (length (now (scratch .entry))) (now (rows .entry)) ⌝ }
+// The rows of a query in a finished index: h is the header of its memory.
+fn search_finished(mem: &[u8], h: Header, q: &[u8], scratch: &mut [u8], rows: &mut [u64]) -> Answer
+    requires { ⌜ ImageIn (now mem) (header-of h) ⌝ }
+    ensures { λ r. ⌜ found-by r (now (rows .exit)) ≡ search-pieces (trie-pieces (trie-in (image-part (now (mem .entry)) (header-of h)))) (now (q .entry)) (length (now (scratch .entry))) (now (rows .entry)) ⌝ }
 {
     if definitions::QUERY_LIMIT < q.len() {
         return Answer::Refused(definitions::QUERY_TOO_LONG);
     }
-    searching::search_image(&mem[64..64 + payload], q, scratch, rows)
+    searching::search_image(&mem[HEADER_SIZE..HEADER_SIZE + h.payload], q, scratch, rows)
 }
 
 // The rows of a query, in the row buffer.
@@ -51,6 +47,6 @@ pub fn search(mem: &[u8], q: &[u8], scratch: &mut [u8], rows: &mut [u64]) -> Ans
     match inspecting::inspect(mem) {
         Held::Broken => Answer::Refused(definitions::INDEX_RULE_BROKEN),
         Held::Open(_) => Answer::Refused(definitions::BEFORE_FINISH),
-        Held::Finished(h) => search_finished(mem, h.payload, q, scratch, rows),
+        Held::Finished(h) => search_finished(mem, h, q, scratch, rows),
     }
 }

@@ -26,7 +26,7 @@ search-finished-requires c κs =
     let c₅ = c₃ .before .before in
     let a = c₅ .before .before .before .before .before .args in
     let w = subst (Inspects (now (a .mem))) (c₃ .h .given .1) (c₅ .inspect .ensures) in
-    record { tested = w .told .tested; within = w .told .within }
+    w .told
 
 returns : tie.Need-returns
 returns c =

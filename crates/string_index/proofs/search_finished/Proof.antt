@@ -5,7 +5,8 @@ use borrow.Author.Needs.{needs}
 use denote.Ref.{now}
 use Rattle.trie.specs.Trie.{trie-pieces}
 use Rattle.image.specs.Held.{trie-in}
-use Rattle.string_index.specs.Answers.{part-of}
+use Rattle.index_memory.specs.Index.{image-part}
+use Rattle.index_memory.specs.Answers.{header-of}
 use Rattle.string_index.proofs.Calling.{too-long, searchable, answered-part}
 use Rattle.string_index.proofs.search_finished.Statement.{statement}
 use Rattle.string_index.proofs.search_finished.Tie as tie
@@ -13,7 +14,7 @@ use Rattle.string_index.proofs.search_finished.Tie as tie
 returns : tie.Need-returns
 returns c =
     let a = c .before .before .before .before .before .args in
-    too-long (trie-pieces (trie-in (part-of (now (a .mem)) (a .payload)))) (now (a .q)) (length (now (a .scratch))) (now (a .rows)) (c .if1 .taken)
+    too-long (trie-pieces (trie-in (image-part (now (a .mem)) (header-of (a .h))))) (now (a .q)) (length (now (a .scratch))) (now (a .rows)) (c .if1 .taken)
 
 add-search-image : tie.Need-add-search-image
 add-search-image c = search needs
@@ -29,12 +30,12 @@ part-search-image-end c = search needs
 
 search-image-requires : tie.Need-search-image-requires
 search-image-requires c κs =
-    let c₃ = c .before .before .before in
-    let c₇ = c₃ .before .before .before .before in
-    let start = c₇ .before in
+    let c₄ = c .before .before .before .before in
+    let c₈ = c₄ .before .before .before .before in
+    let start = c₈ .before in
     let a = start .args in
-    let w = searchable (now (a .mem)) (a .payload) (λ j. omega (arith, c₇ .shared-slice-known .given j)) (omega arith) (start .pre) in
-    (w .0, w .1, omega (arith, c₃ .if1 .left))
+    let w = searchable (now (a .mem)) (header-of (a .h)) (λ j. omega (arith, c₈ .shared-slice-known .given j)) (omega arith) (start .pre) in
+    (w .0, w .1, omega (arith, c₄ .if1 .left))
 
 same-length : tie.Need-same-length
 same-length c = search needs
@@ -45,13 +46,13 @@ same-length-2 c = search needs
 returns-2 : tie.Need-returns-2
 returns-2 c =
     let c₄ = c .before .before .before .before in
-    let c₈ = c₄ .before .before .before .before in
-    let c₁₂ = c₈ .before .before .before .before in
-    let start = c₁₂ .before in
+    let c₉ = c₄ .before .before .before .before .before in
+    let c₁₃ = c₉ .before .before .before .before in
+    let start = c₁₃ .before in
     let a = start .args in
     let r = c₄ .search-image in
-    answered-part (now (a .mem)) (a .payload) (λ j. omega (arith, c₁₂ .shared-slice-known .given j)) (omega arith) (start .pre) (now (a .q)) (length (now (a .scratch))) (now (a .rows)) (r .result) (r .last .1 .1 .1 .0)
-    (omega (arith, c₈ .if1 .left)) (r .ensures)
+    answered-part (now (a .mem)) (header-of (a .h)) (λ j. omega (arith, c₁₃ .shared-slice-known .given j)) (omega arith) (start .pre) (now (a .q)) (length (now (a .scratch))) (now (a .rows)) (r .result) (r .last .1 .1 .1 .0)
+    (omega (arith, c₉ .if1 .left)) (r .ensures)
 
 pub search-finished-spec : {M : Type 1} → statement M
 search-finished-spec =
