@@ -102,11 +102,11 @@ fn read_list(s: &[u8], at: usize) -> Past
 {
     let room = s.len() - at;
     if room < 8 {
-        return refuse(13);
+        return refuse(definitions::CUT_SHORT);
     }
     let n = words::get64(s, at) as usize;
     if (room - 8) / 24 < n {
-        return refuse(13);
+        return refuse(definitions::CUT_SHORT);
     }
     Past {
         at: at + 8 + n * 24,
@@ -122,26 +122,26 @@ fn read_head(s: &[u8], at: usize) -> Head
     ensures { λ r. ⌜ head-of r ≡ read-head (now (s .entry)) at ⌝ }
 {
     if at == s.len() {
-        return refuse_head(13);
+        return refuse_head(definitions::CUT_SHORT);
     }
     let kind = s[at];
     if kind == 0 {
-        return refuse_head(14);
+        return refuse_head(definitions::UNKNOWN_KIND);
     }
     if 3 < kind {
-        return refuse_head(14);
+        return refuse_head(definitions::UNKNOWN_KIND);
     }
     let a = read_list(s, at + 1);
     if a.refusal != 0 {
-        return refuse_head(13);
+        return refuse_head(definitions::CUT_SHORT);
     }
     let b = read_list(s, a.at);
     if b.refusal != 0 {
-        return refuse_head(13);
+        return refuse_head(definitions::CUT_SHORT);
     }
     let c = read_list(s, b.at);
     if c.refusal != 0 {
-        return refuse_head(13);
+        return refuse_head(definitions::CUT_SHORT);
     }
     Head {
         kind,
@@ -157,7 +157,7 @@ fn open_dense(s: &[u8], at: usize) -> Children
     ensures { λ r. ⌜ table-of r ≡ open-table (now (s .entry)) 1 at ⌝ }
 {
     if s.len() - at < 2048 {
-        return refuse_children(13);
+        return refuse_children(definitions::CUT_SHORT);
     }
     Children {
         kind: 1,
@@ -185,11 +185,11 @@ fn open_table(s: &[u8], kind: u8, at: usize) -> Children
         return open_dense(s, at);
     }
     if s.len() - at < 8 {
-        return refuse_children(13);
+        return refuse_children(definitions::CUT_SHORT);
     }
     let n = words::get64(s, at) as usize;
     if !kinds::fits_kind(kind, n) {
-        return refuse_children(15);
+        return refuse_children(definitions::IMAGE_BROKEN);
     }
     let base = at + 8;
     let fault = sparse::table_fault(s, base, n);
@@ -211,19 +211,23 @@ fn flag_at(s: &[u8], kind: u8, off: u64, at: usize) -> Due
     ensures { λ r. ⌜ turn-of r ≡ slot-turn (now (s .entry)) kind at (offset off) ⌝ }
 {
     if off != at as u64 {
-        return Due::Wrong(15);
+        return Due::Wrong(definitions::IMAGE_BROKEN);
     }
     if s.len() <= at {
-        return Due::Wrong(13);
+        return Due::Wrong(definitions::CUT_SHORT);
     }
     let flag = s[at];
     if flag == 1 {
         return Due::Child;
     }
     if flag != 0 {
-        return Due::Wrong(15);
+        return Due::Wrong(definitions::IMAGE_BROKEN);
     }
-    if kind == 1 { Due::Gap } else { Due::Wrong(15) }
+    if kind == 1 {
+        Due::Gap
+    } else {
+        Due::Wrong(definitions::IMAGE_BROKEN)
+    }
 }
 
 // What stands at an index at turn i: kinds 3 and 1 have an offset for each turn, kind 2 for each byte that its table has.
@@ -262,7 +266,7 @@ fn all_met(c: Children, met: usize, at: usize, nodes: usize, entries: usize) -> 
 {
     if c.kind == 1 {
         if !kinds::fits_kind(1, met) {
-            return refuse(15);
+            return refuse(definitions::IMAGE_BROKEN);
         }
     }
     Past {
@@ -311,7 +315,7 @@ fn read_node(s: &[u8], at: usize, left: usize) -> Past
     ensures { λ r. ⌜ step-of r ≡ read-node (now (s .entry)) left at ⌝ }
 {
     if left == 0 {
-        return refuse(15);
+        return refuse(definitions::IMAGE_BROKEN);
     }
     let h = read_head(s, at);
     if h.refusal != 0 {
@@ -342,10 +346,10 @@ fn read_empty(s: &[u8]) -> Past
     while i < 3 {
         let at = 1 + i * 8;
         if s.len() - at < 8 {
-            return refuse(13);
+            return refuse(definitions::CUT_SHORT);
         }
         if words::get64(s, at) != 0 {
-            return refuse(15);
+            return refuse(definitions::IMAGE_BROKEN);
         }
         i += 1;
     }
@@ -361,7 +365,7 @@ fn read_root(s: &[u8]) -> Past
     ensures { λ r. ⌜ step-of r ≡ read-root (now (s .entry)) ⌝ }
 {
     if s.len() == 0 {
-        return refuse(13);
+        return refuse(definitions::CUT_SHORT);
     }
     if s[0] == 0 {
         return read_empty(s);
@@ -378,7 +382,7 @@ pub fn read_image(s: &[u8]) -> Layout
         return Layout::Refused(root.refusal);
     }
     if root.at != s.len() {
-        return Layout::Refused(15);
+        return Layout::Refused(definitions::IMAGE_BROKEN);
     }
     Layout::Right(Tally {
         nodes: root.nodes,

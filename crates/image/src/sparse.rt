@@ -29,13 +29,13 @@ pub fn table_fault(s: &[u8], base: usize, n: usize) -> u64
     while i < n {
         let p = base + i * 9;
         if p == s.len() {
-            return 13;
+            return definitions::CUT_SHORT;
         }
         if find_byte(s, base, i, s[p]) < i {
-            return 15;
+            return definitions::IMAGE_BROKEN;
         }
         if s.len() - p < 9 {
-            return 13;
+            return definitions::CUT_SHORT;
         }
         i += 1;
     }

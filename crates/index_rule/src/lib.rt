@@ -310,7 +310,7 @@ pub fn check(s: &[u8]) -> image::Layout
             if index_rule(s) {
                 image::Layout::Right(t)
             } else {
-                image::Layout::Refused(15)
+                image::Layout::Refused(definitions::IMAGE_BROKEN)
             }
         }
     }
