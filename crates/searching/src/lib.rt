@@ -125,7 +125,8 @@ fn hand_over(scratch: &[u8], from: usize, to: usize, rows: &mut [u64]) -> Answer
     if rows.len() / 3 < count {
         return Answer::Refused(definitions::TOO_MANY_ROWS);
     }
-    Answer::Rows(row_buffer::combine_split_times(scratch, at, n, rows))
+    let written = row_buffer::combine_split_times(scratch, at, n, rows);
+    Answer::Rows(written)
 }
 
 // The rows of a query of at most 256 bytes in a sound image. An empty query has none, nor has an empty index.

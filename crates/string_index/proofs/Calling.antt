@@ -32,7 +32,7 @@ use Rattle.searching.specs.Search.{RightImage, Outcome, Answers, search-answer}
 use Rattle.searching.proofs.Equations.{outcome-is, answer-places, answer-too-many, answer-rows, rows-found, rows-found-are, places-found-counted}
 use Rattle.searching.specs.declared.Answer.{Answer}
 use Rattle.searching.specs.declared.Answer.the-variants.{Rows, Refused}
-use Rattle.string_index.specs.Finish.{Found, search-pieces, search-by, search-memory}
+use Rattle.string_index.specs.Finish.{finish-by, finish-memory, Found, search-pieces, search-by, search-memory}
 use Rattle.string_index.specs.Answers.{found-by}
 
 -- ── what a memory holds decides ──
@@ -40,6 +40,10 @@ use Rattle.string_index.specs.Answers.{found-by}
 pub record-as : (m : List ℕ) (kind : ℕ) (b : Block) (i : Index) → read-index m ≡ i → record-by i m kind b ≡ record-memory m kind b
 unfolding record-memory
 record-as m kind b i e = ap (λ (x : Index). record-by x m kind b) (sym e)
+
+pub finish-as : (m : List ℕ) (i : Index) → read-index m ≡ i → finish-by i m ≡ finish-memory m
+unfolding finish-memory
+finish-as m i e = ap (λ (x : Index). finish-by x m) (sym e)
 
 pub search-as : (m q : List ℕ) (scratch : ℕ) (buffer : List ℕ) (i : Index) → read-index m ≡ i → search-by i q scratch buffer ≡ search-memory m q scratch buffer
 unfolding search-memory

@@ -28,7 +28,8 @@ use Rattle.trie.proofs.BuildPieces.{trie-of-pieces}
 use Rattle.index_memory.specs.Index.{Index, opened, finished, read-index}
 use Rattle.index_memory.specs.Record.{open-memory, log-checks, appended}
 use Rattle.row_buffer.specs.Numbers.{row-numbers}
-use Rattle.string_index.specs.Finish.{finished-memory, Found, query-checks, found-or-refused, search-by, search-memory}
+use Rattle.finished_memory.specs.Finished.{finished-memory}
+use Rattle.string_index.specs.Finish.{Found, query-checks, found-or-refused, search-by, search-memory}
 use Rattle.string_index.specs.Demand.{Fits, Recording, final, taken-in, searched, HandsOver, Exactly, RowsExact, EmptyQuery, OnlyBuffers, Answers, SameAnswers, Demand3}
 use Rattle.string_index.proofs.Follow.{AllFit, holds, Follows, follow-all}
 

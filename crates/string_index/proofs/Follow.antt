@@ -17,7 +17,8 @@ use Rattle.definitions.proofs.Taken.{Right, right-after}
 use Rattle.trie.specs.Build.{trie-of}
 use Rattle.index_memory.specs.Index.{Index, broken, opened, finished, read-index}
 use Rattle.index_memory.specs.Record.{Done, open-memory, log-checks, appended, record-open, record-by, record-memory, unless-refused}
-use Rattle.string_index.specs.Finish.{finished-memory, finish-by, finish-memory}
+use Rattle.finished_memory.specs.Finished.{finished-memory}
+use Rattle.string_index.specs.Finish.{finish-by, finish-memory}
 use Rattle.string_index.specs.Demand.{memory-after, memory-after-all, Fits, CallFits}
 
 pieces-snoc : (bs : List Block) (b : Block) → pieces-of (bs ++ (b ∷ [])) ≡ pieces-of bs ++ pieces b

@@ -34,7 +34,7 @@ use Rattle.index_memory.specs.Answers.{heading-at}
 use Rattle.index_memory.proofs.HeaderBytes.{HeaderFits, length-header, header-written, first-zero, second-zero}
 use Rattle.index_memory.proofs.HeaderFacts.{HeaderFacts, heading-some}
 use Rattle.index_memory.proofs.Holding.{index-by-image, OpenIs, open-is}
-use Rattle.string_index.specs.Finish.{finished-header, finished-memory}
+use Rattle.finished_memory.specs.Finished.{finished-header, finished-memory}
 use Rattle.string_index.proofs.SavedTrie.{PieceFits, trie-of-shaped}
 
 -- the test passes on the trie of a log

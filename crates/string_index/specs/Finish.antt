@@ -16,18 +16,12 @@ use Rattle.trie.specs.Trie.{Trie, nodes, entries, trie-pieces}
 use Rattle.trie.specs.Build.{trie-of}
 use Rattle.image.specs.Image.{image}
 use Rattle.row_buffer.specs.Numbers.{row-numbers}
+use Rattle.finished_memory.specs.Finished.{finished-memory}
 use Rattle.index_memory.specs.Layout.{Header, header-bytes}
 use Rattle.index_memory.specs.Index.{Index, broken, opened, finished, read-index}
 use Rattle.index_memory.specs.Record.{Done}
 
 -- ── finish: the log becomes an image ──
-
-abbrev pub finished-header : Capacity → Trie → Header
-finished-header c t = record { capacity = c; phase = 1; nodes = nodes t; entries = entries t; payload = length (image t) }
-
--- header, image, and zeros up to what the capacity needs; bytes behind that stay
-abbrev pub finished-memory : List ℕ → Capacity → Trie → List ℕ
-finished-memory m c t = sets m 0 (header-bytes (finished-header c t) ++ (image t ++ replicate (needed c - (header-size + length (image t))) 0))
 
 abbrev pub finish-by : Index → List ℕ → Done
 finish-by broken m = record { refusal = number index-rule-broken; memory = m }

@@ -1,10 +1,12 @@
-// The calls of the index. Each inspects the lent memory first, so none asks anything of it.
+// The calls of the index. Each but opening inspects the lent memory first, so none asks anything of it.
 use index_memory::HEADER_SIZE;
 use index_memory::Header;
-use index_memory::Recorded;
+pub use index_memory::Opened;
+pub use index_memory::Recorded;
+pub use index_memory::open;
 use inspecting::Held;
 use location::SpacetimeLocation;
-use searching::Answer;
+pub use searching::Answer;
 ghost use mathlib.Core.Path.{_≡_};
 ghost use lib.ListN.{length};
 ghost use Rattle.location.specs.Plain.{plain};
@@ -14,8 +16,8 @@ ghost use Rattle.index_memory.specs.Record.{record-memory};
 ghost use Rattle.index_memory.specs.Index.{image-part};
 ghost use Rattle.index_memory.specs.Answers.{header-of, recorded-number};
 ghost use Rattle.inspecting.specs.Held.{ImageIn};
-ghost use Rattle.string_index.specs.Finish.{search-memory, search-pieces};
-ghost use Rattle.string_index.specs.Answers.{found-by};
+ghost use Rattle.string_index.specs.Finish.{finish-memory, search-memory, search-pieces};
+ghost use Rattle.string_index.specs.Answers.{finished-number, found-by};
 
 // Records a block: the bytes of one of kind Memory go into an open index.
 pub fn record(mem: &mut [u8], kind: u64, l: SpacetimeLocation, data: &[u8]) -> Recorded
@@ -26,6 +28,27 @@ pub fn record(mem: &mut [u8], kind: u64, l: SpacetimeLocation, data: &[u8]) -> R
         Held::Broken => Recorded::Refused(definitions::INDEX_RULE_BROKEN),
         Held::Open(h) => index_memory::record_open(mem, h, kind, l, data),
         Held::Finished(_) => Recorded::Refused(definitions::RECORD_AFTER_FINISH),
+    }
+}
+
+// Whether an index is finished, or why not.
+pub enum Finished {
+    Done,
+    Refused(u64),
+}
+
+// Finishes an index: its log becomes an image. Finishing again changes nothing.
+pub fn finish(mem: &mut [u8]) -> Finished
+    ensures answer { λ r. ⌜ finished-number r ≡ finish-memory (now (mem .entry)) .refusal ⌝ }
+    ensures memory { λ _. ⌜ now (mem .exit) ≡ finish-memory (now (mem .entry)) .memory ⌝ }
+{
+    match inspecting::inspect(mem) {
+        Held::Broken => Finished::Refused(definitions::INDEX_RULE_BROKEN),
+        Held::Open(h) => {
+            finishing::finish_open(mem, h);
+            Finished::Done
+        }
+        Held::Finished(_) => Finished::Done,
     }
 }
 

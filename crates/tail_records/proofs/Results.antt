@@ -112,7 +112,7 @@ numbered-valid n (e ∷ es) h v t (later m) = numbered-valid (suc n) es (omega a
 
 -- ── after expand ──
 
-length-numbered : (n : ℕ) (es : List Entry) → length (numbered n es) ≡ length es
+pub length-numbered : (n : ℕ) (es : List Entry) → length (numbered n es) ≡ length es
 length-numbered n [] = refl
 length-numbered n (e ∷ es) = ap suc (length-numbered (suc n) es)
 

@@ -1,0 +1,61 @@
+-- The memory in which the image of a log stands, closed. Assumes nothing.
+use Prim.Native.Nat.{ℕ, _+_, _-_, _*_, _≤_}
+use native.Mathlib.Omega.{arith}
+use mathlib.Core.Path.{_≡_, refl, sym, ap, subst, _∙_}
+use mathlib.Core.Logic.{inr}
+use mathlib.Core.List.{List}
+use lib.ListN.{length, getD}
+use Rattle.sort.proofs.Bytes.{Bytes}
+use Rattle.definitions.specs.Calls.{Capacity, needed}
+use Rattle.trie.specs.Trie.{Trie, nodes, entries}
+use Rattle.trie.specs.Build.{trie-of}
+use Rattle.image.specs.Image.{image}
+use Rattle.image.proofs.Holding.{Holds}
+use Rattle.index_memory.specs.Layout.{Header, log-in}
+use Rattle.index_memory.proofs.Holding.{OpenIs}
+use Rattle.list_writer.specs.declared.End.{End}
+use Rattle.node_writer.specs.Images.{ImageWritten}
+use Rattle.finished_memory.specs.Finished.{finished-header, finished-memory, closed, Closable}
+use Rattle.finished_memory.proofs.Standing.{closed-is}
+use Rattle.finishing.specs.Steps.{TailsSorted}
+use Rattle.finishing.proofs.Image.{held-memory, small-nodes, small-entries, few-tails, trie-is}
+
+module _ (m : List ℕ) (c : Capacity) (pieces : ℕ) (b : Bytes m) (o : OpenIs m c (log-in m pieces 64))
+    (s : List ℕ) (n : ℕ) (w : TailsSorted m s pieces (64 + 64 * c .nodes + 48 * c .entries) n) (s′ : List ℕ) (r : End) (v : ImageWritten s s′ (64 + 64 * c .nodes + 48 * c .entries) n r) where
+  abbrev t : Trie
+  t = trie-of (log-in m pieces 64)
+
+  -- the header that is written
+  abbrev h : Header
+  h = record { capacity = c; phase = 1; nodes = r .nodes; entries = r .entries; payload = r .at - 64 }
+
+  stands : Holds s′ 64 (image t)
+  stands = subst (λ (u : Trie). Holds s′ 64 (image u)) (trie-is m c pieces b o s n w) (v .bytes)
+
+  ends : r .at ≡ 64 + length (image t)
+  ends = v .at ∙ ap (λ (u : Trie). 64 + length (image u)) (trie-is m c pieces b o s n w)
+
+  long : length s′ ≡ length m
+  long = v .long ∙ w .long
+
+  is-header : h ≡ finished-header c t
+  is-header =
+      let e : r .nodes ≡ nodes t = v .nodes ∙ ap nodes (trie-is m c pieces b o s n w) in
+      let f : r .entries ≡ entries t = v .entries ∙ ap entries (trie-is m c pieces b o s n w) in
+      let g : r .at - 64 ≡ length (image t) = omega (arith, ends) in
+      λ i. record { capacity = c; phase = 1; nodes = e i; entries = f i; payload = g i }
+
+  -- the tails lie within what the capacity needs
+  behind : (k : ℕ) → needed c ≤ k → getD s′ k 0 ≡ getD m k 0
+  behind k l = v .behind k (omega arith) ∙ w .kept k (inr (omega (arith, w .count, few-tails m c pieces b o)))
+
+  pub closable : Closable s′ h
+  closable = record {
+    nodes = small-nodes m c pieces b o;
+    entries = small-entries m c pieces b o;
+    payload = omega (arith, v .within, ends);
+    held = omega (arith, long, held-memory m c pieces b o);
+  }
+
+  pub closes : closed s′ h ≡ finished-memory m c t
+  closes = ap (closed s′) is-header ∙ closed-is m s′ c t long stands (omega (arith, v .within, ends)) (held-memory m c pieces b o) behind

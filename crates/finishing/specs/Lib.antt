@@ -1,0 +1,2 @@
+-- `Steps` has what the steps of finish ask and leave. Assumes nothing.
+pub mod Steps
