@@ -1,5 +1,6 @@
 -- Tests and orders; then a query's places against where it stands; then rows against runs; then whole recordings.
 pub mod Views
+pub mod Decimal
 pub mod Order
 pub mod Held
 pub mod Tails

@@ -1,7 +1,7 @@
 -- A memory in which the image stands and that is closed is that of a finished index. Assumes nothing.
-use Prim.Native.Nat.{ℕ, _+_, _-_, _*_, _≤_, _<_}
+use Prim.Native.Nat.{ℕ, _+_, _-_, _≤_, _<_}
 use native.Mathlib.Omega.{arith}
-use mathlib.Core.Path.{_≡_, refl, sym, ap, _∙_, subst}
+use mathlib.Core.Path.{_≡_, refl, sym, _∙_, subst}
 use mathlib.Core.Logic.{_⊎_, inl, inr}
 use mathlib.Core.List.{List, _++_}
 use lib.ListN.{length, getD, replicate, length-append, length-replicate}
@@ -10,7 +10,7 @@ use Rattle.words.proofs.Parts.{lt-or-ge, getD-sets-out, getD-sets}
 use Rattle.definitions.specs.Calls.{Capacity, needed}
 use Rattle.trie.specs.Trie.{Trie}
 use Rattle.image.specs.Image.{image}
-use Rattle.image.proofs.Holding.{Holds, holds-at}
+use Rattle.image.proofs.Holding.{Holds}
 use Rattle.image.proofs.BytesRead.{holds-append}
 use Rattle.image.proofs.NodeSound.{holds-get}
 use Rattle.list_writer.proofs.Standing.{holds-ext, holds-sets}

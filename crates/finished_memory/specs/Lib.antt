@@ -1,2 +1,3 @@
--- `Finished` has the memory of a finished index. Assumes nothing.
+-- `Finished` has the memory of a finished index, `Room` the capacity of one. Assumes nothing.
 pub mod Finished
+pub mod Room

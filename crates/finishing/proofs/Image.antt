@@ -3,15 +3,14 @@ use Prim.Native.Nat.{ℕ, suc, _+_, _-_, _*_, _≤_, _<_}
 use native.Mathlib.Omega.{arith}
 use mathlib.Core.Path.{_≡_, refl, sym, ap, subst, _∙_}
 use mathlib.Core.Bool.{Bool, true, false, cond}
-use mathlib.Core.Logic.{_⊎_, inl, inr}
-use mathlib.Core.List.{List, [], _∷_, _++_, List·Memᴰ as Mem, List·Memᴰ·head as here, List·Memᴰ·tail as later, List·Memᴰ·not-nil as not-nil}
-use lib.ListN.{length, getD, length-append}
+use mathlib.Core.List.{List, [], _∷_, List·Memᴰ as Mem, List·Memᴰ·head as here, List·Memᴰ·tail as later, List·Memᴰ·not-nil as not-nil}
+use lib.ListN.{length, length-append}
 use Rattle.sort.specs.Records.{sorted, Ordered}
 use Rattle.sort.proofs.Bytes.{Bytes}
 use Rattle.sort.proofs.Lists.{sorted-ordered, length-sorted}
-use Rattle.definitions.specs.Blocks.{Piece, entry-charge, charge}
+use Rattle.definitions.specs.Blocks.{Piece}
 use Rattle.definitions.specs.Calls.{Capacity, needed}
-use Rattle.trie.specs.Trie.{Trie, nodes}
+use Rattle.trie.specs.Trie.{nodes}
 use Rattle.trie.specs.Build.{Entry, parts, entered, entered-all, trie-of}
 use Rattle.trie.proofs.BuildCounts.{trie-of-nodes}
 use Rattle.index_memory.specs.Layout.{header-at, log-in, log-entries}
@@ -22,11 +21,11 @@ use Rattle.tails.specs.Tails.{Tail, numbered, tail-record, tail-records}
 use Rattle.tails.proofs.High.{SoundPath, sound-bytes}
 use Rattle.tails.proofs.Keep.{SameTails}
 use Rattle.tails.proofs.Runs.{run-all}
-use Rattle.tails.proofs.Budget.{weight, weights, sorted-weights, weights-charged}
+use Rattle.tails.proofs.Budget.{weights, sorted-weights, weights-charged}
 use Rattle.tails.proofs.Finished.{SoundPieces, sound-entered, finished-node, sorted-tails}
 use Rattle.tail_records.specs.Tail.{tail-of-record, tails-of, tails-in, Held}
 use Rattle.tail_records.proofs.Tail.{tail-read}
-use Rattle.tail_records.proofs.Memory.{length-tail-records, held-records, tails-length}
+use Rattle.tail_records.proofs.Memory.{length-tail-records, held-records}
 use Rattle.tail_records.proofs.Log.{log-is-sound}
 use Rattle.tail_records.proofs.Results.{length-numbered}
 use Rattle.tail_records.proofs.Distinct.{apart-sorted, numbered-apart}

@@ -1,19 +1,19 @@
 -- The tails of a log, written and then sorted: what the work area holds. Assumes nothing.
 use Prim.Native.Nat.{ℕ, zero, suc, _+_, _*_, _^_, _≤_, _<_}
 use native.Mathlib.Omega.{arith}
-use mathlib.Core.Path.{_≡_, refl, sym, ap, subst, _∙_}
-use mathlib.Core.Logic.{_⊎_, inl, inr}
-use mathlib.Core.List.{List, [], _∷_, List·Memᴰ as Mem, List·Memᴰ·head as here, List·Memᴰ·tail as later, List·Memᴰ·not-nil as not-nil}
+use mathlib.Core.Path.{_≡_, sym, ap, subst, _∙_}
+use mathlib.Core.Logic.{_⊎_}
+use mathlib.Core.List.{List, _∷_, List·Memᴰ as Mem, List·Memᴰ·head as here, List·Memᴰ·tail as later, List·Memᴰ·not-nil as not-nil}
 use lib.ListN.{length, getD}
 use lib.Seq.{sets, length-sets}
 use Rattle.words.proofs.Laws.{Outside}
 use Rattle.words.proofs.Parts.{getD-sets-out}
-use Rattle.sort.specs.Records.{recordAt, records, recordsBytes, sorted}
+use Rattle.sort.specs.Records.{records, recordsBytes, sorted}
 use Rattle.sort.proofs.Bytes.{Bytes, length-records, length-recordAt, length-recordsBytes}
 use Rattle.sort.proofs.Lists.{sorted-mem, length-sorted}
-use Rattle.trie.specs.Build.{Entry, entered-all}
+use Rattle.trie.specs.Build.{entered-all}
 use Rattle.index_memory.specs.Layout.{log-in}
-use Rattle.tails.specs.Tails.{Tail, numbered, tail-record, tail-records}
+use Rattle.tails.specs.Tails.{Tail, numbered, tail-records}
 use Rattle.tail_records.specs.Tail.{tails-in, Held}
 use Rattle.tail_records.proofs.Memory.{length-tail-records}
 use Rattle.tail_records.proofs.Results.{length-numbered, expanded-tails, expanded-held, sorted-tails, sorted-held}

@@ -1,13 +1,11 @@
 -- What an inspection tells the calls. Assumes nothing.
 use Prim.Native.Nat.{ℕ, _+_, _-_, _/_, _≤_, _<_, _^_}
-use native.Mathlib.Omega.{arith}
 use mathlib.Core.Path.{_≡_, refl, sym, ap, _∙_, subst}
-use mathlib.Core.Bool.{Bool, true, false, cond}
+use mathlib.Core.Bool.{false}
 use mathlib.Core.Logic.{_⊎_, inl, inr}
 use mathlib.Core.List.{List}
-use mathlib.Core.Option.{none, some}
-use lib.ListN.{length, getD, take, drop, length-take, length-drop, List·getD-eq-default}
-use lib.Seq.{sets, getD-take, getD-drop}
+use lib.ListN.{length, take, drop}
+use lib.Seq.{sets}
 use lib.Dec.{ltb}
 use borrow.Author.Tests.{lt-ltb, le-ltb}
 use Rattle.definitions.specs.Location.{Location}
@@ -25,7 +23,8 @@ use Rattle.index_rule.proofs.Theorems.{check-image-is}
 use Rattle.row_buffer.specs.Numbers.{row-numbers}
 use Rattle.index_memory.specs.Layout.{Header}
 use Rattle.index_memory.specs.Index.{Index, image-part, read-index}
-use Rattle.index_memory.specs.Record.{Done, record-by, record-memory}
+use Rattle.index_memory.specs.Record.{record-by, record-memory}
+use Rattle.finished_memory.proofs.Holds.{part-bytes, part-small}
 use Rattle.inspecting.specs.Held.{RightImage as Tested, ImageIn}
 use Rattle.inspecting.proofs.Facts.{same-part}
 use Rattle.searching.specs.Search.{RightImage, Outcome, Answers, search-answer}
@@ -50,15 +49,6 @@ unfolding search-memory
 search-as m q scratch buffer i e = ap (λ (x : Index). search-by x q scratch buffer) (sym e)
 
 -- ── the image ──
-
-part-bytes : (m : List ℕ) (h : Header) → AllBytes m → AllBytes (image-part m h)
-part-bytes m h a i = go (lt-or-le i (h .payload))
-  where
-    go : (i < h .payload) ⊎ (h .payload ≤ i) → getD (image-part m h) i 0 < 256
-    go (inl k) = omega (arith, getD-take (h .payload) (drop 64 m) i 0 k, getD-drop 64 m i 0, a (64 + i))
-    go (inr k) =
-        let l : length (image-part m h) ≤ i = omega (arith, length-take (h .payload) (drop 64 m)) in
-        omega (arith, List·getD-eq-default (image-part m h) 0 l)
 
 module _ (s : List ℕ) (a : AllBytes s) (l : length s < 2 ^ 64) (t : Tested s) where
   both : (read-image s ≡ right (t .nodes) (t .entries)) × Rule (trie-in s)
@@ -112,14 +102,11 @@ too-long ps q scratch buffer h = sym (rw (lt-ltb 256 (length q) h) refl)
 -- ── the part that the code cuts out ──
 
 module _ (m : List ℕ) (h : Header) (a : AllBytes m) (l : length m < 2 ^ 64) (w : ImageIn m h) where
-  small : length (image-part m h) < 2 ^ 64
-  small = omega (arith, length-take (h .payload) (drop 64 m), length-drop 64 m)
-
   right-part : RightImage (image-part m h)
-  right-part = right-image (image-part m h) (part-bytes m h a) small (w .tested)
+  right-part = right-image (image-part m h) (part-bytes m h a) (part-small m h l) (w .tested)
 
   rule-part : Rule (trie-in (image-part m h))
-  rule-part = rule-image (image-part m h) (part-bytes m h a) small (w .tested)
+  rule-part = rule-image (image-part m h) (part-bytes m h a) (part-small m h l) (w .tested)
 
   pub searchable : RightImage (take (64 + h .payload - 64) (drop 64 m)) × Rule (trie-in (take (64 + h .payload - 64) (drop 64 m)))
   searchable = subst (λ (s : List ℕ). RightImage s × Rule (trie-in s)) (sym (same-part m (h .payload))) (right-part, rule-part)

@@ -1,22 +1,21 @@
 -- The memory follows the recording: after each call it holds what the definitions say was taken. Assumes nothing.
-use Prim.Native.Nat.{ℕ, _+_, _≤_, _<_}
+use Prim.Native.Nat.{ℕ, _+_}
 use native.Mathlib.Omega.{arith}
 use mathlib.Core.Path.{_≡_, refl, sym, ap, _∙_, subst}
 use mathlib.Core.Bool.{Bool, true, false, cond}
-use mathlib.Core.Logic.{_⊎_, inl, inr, _↔_}
-use mathlib.Core.List.{List, [], _∷_, _++_, append-nil, append-assoc, List·Memᴰ as Mem, List·Memᴰ·head as here, List·Memᴰ·tail as later, List·Memᴰ·not-nil as not-nil, List·Memᴰ·eq-of-singleton as only-one, List·Memᴰ·append-cases as append-cases}
+use mathlib.Core.Logic.{_⊎_, inl, inr}
+use mathlib.Core.List.{List, [], _∷_, _++_, append-nil, append-assoc, List·Memᴰ as Mem, List·Memᴰ·head as here, List·Memᴰ·tail as later, List·Memᴰ·eq-of-singleton as only-one, List·Memᴰ·append-cases as append-cases}
 use mathlib.Core.Option.{Option, none, some}
-use lib.ListN.{length}
 use lib.Dec.{ltb, eqb}
 use Rattle.definitions.specs.Blocks.{Block, Piece, pieces, pieces-of, memory-kind, last-kind}
 use Rattle.definitions.specs.Causes.{Cause, number, record-after-finish, unknown-kind, Check, first-cause}
-use Rattle.definitions.specs.Calls.{Capacity, Recorded, fresh, added, memory-checks, record-checks, record-answer, recorded, finished-now}
+use Rattle.definitions.specs.Calls.{Capacity, Recorded, added, memory-checks, record-answer, recorded, finished-now}
 use Rattle.definitions.specs.Calls as D
 use Rattle.definitions.specs.Recording.{Call, record-block, finish, search, after, after-all, taken}
 use Rattle.definitions.proofs.Taken.{Right, right-after}
 use Rattle.trie.specs.Build.{trie-of}
-use Rattle.index_memory.specs.Index.{Index, broken, opened, finished, read-index}
-use Rattle.index_memory.specs.Record.{Done, open-memory, log-checks, appended, record-open, record-by, record-memory, unless-refused}
+use Rattle.index_memory.specs.Index.{Index, opened, finished, read-index}
+use Rattle.index_memory.specs.Record.{log-checks, appended, record-open, record-by, record-memory, unless-refused}
 use Rattle.finished_memory.specs.Finished.{finished-memory}
 use Rattle.string_index.specs.Finish.{finish-by, finish-memory}
 use Rattle.string_index.specs.Demand.{memory-after, memory-after-all, Fits, CallFits}

@@ -1,9 +1,8 @@
 -- Finish and search as functions on memory: the answer, and each lent slice afterwards. Assumes nothing.
-use Prim.Native.Nat.{ℕ, _+_, _-_, _*_, _/_}
-use mathlib.Core.Bool.{Bool, true, false, cond}
-use mathlib.Core.List.{List, [], _∷_, _++_}
+use Prim.Native.Nat.{ℕ, _-_, _/_}
+use mathlib.Core.List.{List, [], _∷_}
 use mathlib.Core.Option.{Option, none, some}
-use lib.ListN.{length, replicate}
+use lib.ListN.{length}
 use lib.Seq.{sets}
 use lib.Dec.{ltb}
 use Rattle.definitions.specs.Location.{Location}
@@ -11,13 +10,12 @@ use Rattle.definitions.specs.Blocks.{Piece}
 use Rattle.definitions.specs.Places.{places-counted}
 use Rattle.definitions.specs.Rows.{rows}
 use Rattle.definitions.specs.Causes.{Cause, number, index-rule-broken, before-finish, query-too-long, scratch-too-small, too-many-rows, Check, first-cause}
-use Rattle.definitions.specs.Calls.{Capacity, header-size, needed, query-limit}
-use Rattle.trie.specs.Trie.{Trie, nodes, entries, trie-pieces}
+use Rattle.definitions.specs.Calls.{query-limit}
+use Rattle.trie.specs.Trie.{trie-pieces}
 use Rattle.trie.specs.Build.{trie-of}
 use Rattle.image.specs.Image.{image}
 use Rattle.row_buffer.specs.Numbers.{row-numbers}
 use Rattle.finished_memory.specs.Finished.{finished-memory}
-use Rattle.index_memory.specs.Layout.{Header, header-bytes}
 use Rattle.index_memory.specs.Index.{Index, broken, opened, finished, read-index}
 use Rattle.index_memory.specs.Record.{Done}
 

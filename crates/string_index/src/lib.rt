@@ -6,6 +6,8 @@ pub use index_memory::Recorded;
 pub use index_memory::open;
 use inspecting::Held;
 use location::SpacetimeLocation;
+pub use saving::Loaded;
+pub use saving::Saved;
 pub use searching::Answer;
 ghost use mathlib.Core.Path.{_≡_};
 ghost use lib.ListN.{length};
@@ -16,6 +18,8 @@ ghost use Rattle.index_memory.specs.Record.{record-memory};
 ghost use Rattle.index_memory.specs.Index.{image-part};
 ghost use Rattle.index_memory.specs.Answers.{header-of, recorded-number};
 ghost use Rattle.inspecting.specs.Held.{ImageIn};
+ghost use Rattle.saving.specs.Saving.{save-memory, load-memory};
+ghost use Rattle.saving.specs.Answers.{saved-by, loaded-number};
 ghost use Rattle.string_index.specs.Finish.{finish-memory, search-memory, search-pieces};
 ghost use Rattle.string_index.specs.Answers.{finished-number, found-by};
 
@@ -71,5 +75,28 @@ pub fn search(mem: &[u8], q: &[u8], scratch: &mut [u8], rows: &mut [u64]) -> Ans
         Held::Broken => Answer::Refused(definitions::INDEX_RULE_BROKEN),
         Held::Open(_) => Answer::Refused(definitions::BEFORE_FINISH),
         Held::Finished(h) => search_finished(mem, h, q, scratch, rows),
+    }
+}
+
+// Saves the image of a finished index into the buffer.
+pub fn save(mem: &[u8], out: &mut [u8]) -> Saved
+    ensures { λ r. ⌜ saved-by r (now (out .exit)) ≡ save-memory (now (mem .entry)) (now (out .entry)) ⌝ }
+{
+    match inspecting::inspect(mem) {
+        Held::Broken => Saved::Refused(definitions::INDEX_RULE_BROKEN),
+        Held::Open(_) => Saved::Refused(definitions::BEFORE_FINISH),
+        Held::Finished(h) => saving::save_finished(mem, h, out),
+    }
+}
+
+// Loads an image in place of what the index holds; its capacity stays.
+pub fn load(mem: &mut [u8], image: &[u8]) -> Loaded
+    ensures answer { λ r. ⌜ loaded-number r ≡ load-memory (now (mem .entry)) (now (image .entry)) .refusal ⌝ }
+    ensures memory { λ _. ⌜ now (mem .exit) ≡ load-memory (now (mem .entry)) (now (image .entry)) .memory ⌝ }
+{
+    match inspecting::inspect(mem) {
+        Held::Broken => Loaded::Refused(definitions::INDEX_RULE_BROKEN),
+        Held::Open(h) => saving::load_into(mem, h, image),
+        Held::Finished(h) => saving::load_into(mem, h, image),
     }
 }

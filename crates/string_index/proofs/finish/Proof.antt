@@ -1,5 +1,5 @@
 -- `string_index::finish` meets its contract: what the memory holds decides. Assumes nothing.
-use mathlib.Core.Path.{sym, ap, _∙_, subst}
+use mathlib.Core.Path.{ap, _∙_, subst}
 use borrow.Author.Needs.{needs}
 use denote.Ref.{now}
 use Rattle.index_memory.specs.Record.{Done}

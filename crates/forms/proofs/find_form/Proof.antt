@@ -1,0 +1,31 @@
+-- `forms::find_form` meets its contract: the bytes that were counted are those of the search. Assumes nothing.
+use mathlib.Core.Path.{sym, _∙_}
+use lib.ListN.{drop}
+use denote.Ref.{now}
+use borrow.Author.Needs.{needs}
+use Rattle.forms.proofs.Ways.{find-bad, find-good}
+use Rattle.forms.specs.ReadLine.{last-bytes}
+use Rattle.forms.proofs.find_form.Statement.{statement}
+use Rattle.forms.proofs.find_form.Tie as tie
+
+count-bytes-requires : tie.Need-count-bytes-requires
+count-bytes-requires c κs = search needs
+
+enum-known-n : tie.Need-enum-known-n
+enum-known-n c = search needs
+
+enum-told : tie.Need-enum-told
+enum-told c = search needs
+
+returns : tie.Need-returns
+returns c =
+    let a = c .before .before .before .before .args in
+    find-bad (last-bytes (drop (a .at) (now (a .line)))) (sym (c .enum-told .given .1) ∙ c .before .before .count-bytes .ensures)
+
+returns-2 : tie.Need-returns-2
+returns-2 c =
+    let a = c .before .before .before .before .before .args in
+    find-good (last-bytes (drop (a .at) (now (a .line)))) (c .before .n .given .0 .0) (sym (c .before .n .given .1) ∙ c .before .before .before .count-bytes .ensures)
+
+pub find-form-spec : {M : Type 1} → statement M
+find-form-spec = tie.close (tie.spec count-bytes-requires enum-known-n enum-told returns returns-2)

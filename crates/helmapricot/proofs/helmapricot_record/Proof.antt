@@ -1,0 +1,31 @@
+-- `helmapricot_record` keeps the contract of the call that it exports. Assumes nothing.
+use mathlib.Core.Path.{_∙_, ap}
+use borrow.Author.Needs.{needs}
+use denote.Ref.{now}
+use Rattle.definitions.specs.Location.{Location}
+use Rattle.index_memory.specs.Record.{Done, record-memory}
+use Rattle.helmapricot.proofs.helmapricot_record.Statement.{statement}
+use Rattle.helmapricot.proofs.helmapricot_record.Tie as tie
+
+new-requires : tie.Need-new-requires
+new-requires c κs = search needs
+
+record-requires : tie.Need-record-requires
+record-requires c κs = search needs
+
+recorded-number-requires : tie.Need-recorded-number-requires
+recorded-number-requires c κs = search needs
+
+same-length : tie.Need-same-length
+same-length c = search needs
+
+returns : tie.Need-returns
+returns c =
+    let a = c .before .before .before .before .before .before .before .before .args in
+    let r = c .before .before .before .«record» in
+    let e = ap (λ (l : Location). record-memory (now (a .mem)) (a .kind) (record { bytes = now (a .«data»); at = l })) (c .before .before .before .before .before .new .ensures) in
+    (c .recorded-number .ensures ∙ r .ensures .0 ∙ ap (λ (d : Done). d .refusal) e, r .ensures .1 ∙ ap (λ (d : Done). d .memory) e)
+
+pub helmapricot-record-spec : {M : Type 1} → statement M
+helmapricot-record-spec =
+    tie.close (tie.spec new-requires record-requires recorded-number-requires same-length returns)

@@ -1,0 +1,179 @@
+// The calls for programs in other languages. Each answers the number of its refusal, 0 where there is none.
+use block_stream::Block;
+use block_stream::Read;
+use index_memory::Opened;
+use index_memory::Recorded;
+use location::SpacetimeLocation;
+use saving::Loaded;
+use saving::Saved;
+use searching::Answer;
+use string_index::Finished;
+ghost use mathlib.Core.Path.{_≡_};
+ghost use lib.ListN.{length, set};
+ghost use lib.Seq.{sets};
+ghost use mathlib.Core.List.{[], _∷_};
+ghost use Rattle.definitions.specs.BlockStream.{read-block};
+ghost use Rattle.index_memory.specs.Answers.{opened-number, recorded-number};
+ghost use Rattle.index_memory.specs.Record.{open-memory, record-memory};
+ghost use Rattle.string_index.specs.Finish.{finish-memory, search-memory};
+ghost use Rattle.string_index.specs.Answers.{finished-number};
+ghost use Rattle.saving.specs.Saving.{save-memory, load-memory};
+ghost use Rattle.saving.specs.Answers.{loaded-number};
+ghost use Rattle.helmapricot.specs.Stream.{stream-number, with-fields};
+
+fn opened_number(r: Opened) -> u64
+    ensures { λ n. ⌜ n ≡ opened-number r ⌝ }
+{
+    match r {
+        Opened::Done => 0,
+        Opened::Refused(n) => n,
+    }
+}
+
+fn recorded_number(r: Recorded) -> u64
+    ensures { λ n. ⌜ n ≡ recorded-number r ⌝ }
+{
+    match r {
+        Recorded::Taken => 0,
+        Recorded::Refused(n) => n,
+    }
+}
+
+fn finished_number(r: Finished) -> u64
+    ensures { λ n. ⌜ n ≡ finished-number r ⌝ }
+{
+    match r {
+        Finished::Done => 0,
+        Finished::Refused(n) => n,
+    }
+}
+
+fn loaded_number(r: Loaded) -> u64
+    ensures { λ n. ⌜ n ≡ loaded-number r ⌝ }
+{
+    match r {
+        Loaded::Done => 0,
+        Loaded::Refused(n) => n,
+    }
+}
+
+#[no_mangle]
+pub extern "C" fn helmapricot_open(mem: &mut [u8], nodes: u64, entries: u64) -> u64
+    ensures answer { λ r. ⌜ r ≡ open-memory (now (mem .entry)) (record { nodes = nodes; entries = entries }) .refusal ⌝ }
+    ensures memory { λ _. ⌜ now (mem .exit) ≡ open-memory (now (mem .entry)) (record { nodes = nodes; entries = entries }) .memory ⌝ }
+{
+    opened_number(index_memory::open(mem, nodes, entries))
+}
+
+#[no_mangle]
+pub extern "C" fn helmapricot_record(
+    mem: &mut [u8],
+    kind: u64,
+    address: u64,
+    created_at: u64,
+    destroyed_at: u64,
+    data: &[u8],
+) -> u64
+    ensures answer { λ r. ⌜ r ≡ record-memory (now (mem .entry)) kind (record { bytes = now («data» .entry); at = record { address = address; created = «created_at»; destroyed = «destroyed_at» } }) .refusal ⌝ }
+    ensures memory { λ _. ⌜ now (mem .exit) ≡ record-memory (now (mem .entry)) kind (record { bytes = now («data» .entry); at = record { address = address; created = «created_at»; destroyed = «destroyed_at» } }) .memory ⌝ }
+{
+    let l = SpacetimeLocation::new(address, created_at, destroyed_at);
+    recorded_number(string_index::record(mem, kind, l, data))
+}
+
+#[no_mangle]
+pub extern "C" fn helmapricot_finish(mem: &mut [u8]) -> u64
+    ensures answer { λ r. ⌜ r ≡ finish-memory (now (mem .entry)) .refusal ⌝ }
+    ensures memory { λ _. ⌜ now (mem .exit) ≡ finish-memory (now (mem .entry)) .memory ⌝ }
+{
+    finished_number(string_index::finish(mem))
+}
+
+// How many rows there are goes into count; 0 where the search is refused.
+#[no_mangle]
+pub extern "C" fn helmapricot_search(
+    mem: &[u8],
+    q: &[u8],
+    scratch: &mut [u8],
+    rows: &mut [u64],
+    count: &mut [u64; 1],
+) -> u64
+    ensures answer { λ r. ⌜ r ≡ search-memory (now (mem .entry)) (now (q .entry)) (length (now (scratch .entry))) (now (rows .entry)) .refusal ⌝ }
+    ensures rows { λ _. ⌜ now (rows .exit) ≡ search-memory (now (mem .entry)) (now (q .entry)) (length (now (scratch .entry))) (now (rows .entry)) .buffer ⌝ }
+    ensures count { λ _. ⌜ now (count .exit) ≡ set (now (count .entry)) 0 (search-memory (now (mem .entry)) (now (q .entry)) (length (now (scratch .entry))) (now (rows .entry)) .count) ⌝ }
+{
+    match string_index::search(mem, q, scratch, rows) {
+        Answer::Rows(n) => {
+            count[0] = n as u64;
+            0
+        }
+        Answer::Refused(n) => {
+            count[0] = 0;
+            n
+        }
+    }
+}
+
+// How many bytes the image has goes into size; 0 where saving is refused.
+#[no_mangle]
+pub extern "C" fn helmapricot_save(mem: &[u8], out: &mut [u8], size: &mut [u64; 1]) -> u64
+    ensures answer { λ r. ⌜ r ≡ save-memory (now (mem .entry)) (now (out .entry)) .refusal ⌝ }
+    ensures out { λ _. ⌜ now (out .exit) ≡ save-memory (now (mem .entry)) (now (out .entry)) .buffer ⌝ }
+    ensures size { λ _. ⌜ now (size .exit) ≡ set (now (size .entry)) 0 (save-memory (now (mem .entry)) (now (out .entry)) .size) ⌝ }
+{
+    match string_index::save(mem, out) {
+        Saved::Bytes(n) => {
+            size[0] = n as u64;
+            0
+        }
+        Saved::Refused(n) => {
+            size[0] = 0;
+            n
+        }
+    }
+}
+
+#[no_mangle]
+pub extern "C" fn helmapricot_load(mem: &mut [u8], img: &[u8]) -> u64
+    ensures answer { λ r. ⌜ r ≡ load-memory (now (mem .entry)) (now (img .entry)) .refusal ⌝ }
+    ensures memory { λ _. ⌜ now (mem .exit) ≡ load-memory (now (mem .entry)) (now (img .entry)) .memory ⌝ }
+{
+    loaded_number(string_index::load(mem, img))
+}
+
+// Writes what is known of a block, with the length of its data.
+fn put_fields(fields: &mut [u64; 7], b: Block, length: u64)
+    ensures { λ _. ⌜ now (fields .exit) ≡ sets (now (fields .entry)) 0 (1 ∷ b .kind ∷ b .address ∷ length ∷ b .«created_at» ∷ b .«destroyed_at» ∷ b .next ∷ []) ⌝ }
+{
+    fields[0] = 1;
+    fields[1] = b.kind as u64;
+    fields[2] = b.address;
+    fields[3] = length;
+    fields[4] = b.created_at;
+    fields[5] = b.destroyed_at;
+    fields[6] = b.next as u64;
+}
+
+// The block of a stream at a cursor: 1, its kind, address, length, ticks, and the cursor behind it go into fields.
+// The data are the bytes before that cursor. Where there is no block, the first field is 0.
+#[no_mangle]
+pub extern "C" fn helmapricot_read_block(s: &[u8], at: usize, fields: &mut [u64; 7]) -> u64
+    ensures answer { λ r. ⌜ r ≡ stream-number (read-block (now (s .entry)) at) ⌝ }
+    ensures fields { λ _. ⌜ now (fields .exit) ≡ with-fields (read-block (now (s .entry)) at) (now (fields .entry)) ⌝ }
+{
+    let length = block_stream::block_data(s, at).len() as u64;
+    match block_stream::read_block(s, at) {
+        Read::Block(b) => {
+            put_fields(fields, b, length);
+            0
+        }
+        Read::End => {
+            fields[0] = 0;
+            0
+        }
+        Read::Refused(n) => {
+            fields[0] = 0;
+            n
+        }
+    }
+}

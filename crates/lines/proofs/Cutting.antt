@@ -1,0 +1,116 @@
+-- Where a line ends, and that cutting there gives the lines of an input. Assumes nothing.
+use Prim.Native.Nat.{ℕ, zero, suc, _+_, _-_, _≤_, _<_}
+use native.Mathlib.Omega.{arith}
+use native.Mathlib.Numerals.{add-one}
+use mathlib.Core.Path.{_≡_, refl, sym, ap, _∙_}
+use mathlib.Core.Bool.{Bool, true, false, cond}
+use mathlib.Core.List.{List, [], _∷_}
+use lib.ListN.{length, getD, take, drop, drop-of-length-le, length-drop}
+use lib.Seq.{drop-cons, drop-drop, getD-drop}
+use lib.Dec.{eqb}
+use borrow.Author.Tests.{eq-eqb, ne-eqb}
+use Rattle.definitions.proofs.Views.{Eq, eq}
+use Rattle.lines.specs.Cut.{first-line, line-end, in-front, lines-of, Ends}
+
+-- ── the loop of `line_end` ──
+
+module _ (s : List ℕ) (i : ℕ) where
+  pub end-out : length s ≤ i → i ≡ line-end s i
+  unfolding line-end first-line
+  end-out h = rw (drop-of-length-le s h) (omega arith)
+
+  module _ (h : i < length s) where
+    step : drop i s ≡ getD s i 0 ∷ drop (i + 1) s
+    step = rw (add-one i) (drop-cons s i 0 h)
+
+    pub end-here : getD s i 0 ≡ 10 → i ≡ line-end s i
+    unfolding line-end first-line
+    end-here e = rw (step, eq-eqb (getD s i 0) 10 e) (omega arith)
+
+    pub end-on : (getD s i 0 ≡ 10 → ⊥) → line-end s (i + 1) ≡ line-end s i
+    unfolding line-end first-line
+    end-on n = rw (step, ne-eqb (getD s i 0) 10 n) (omega arith)
+
+-- ── the first newline ──
+
+-- f is the front of a text t; a newline stands behind it or nothing, and none in it
+record Front (t f : List ℕ) : Type 0 where
+  within : length f ≤ length t
+  same : take (length f) t ≡ f
+  newline : length f < length t → getD t (length f) 0 ≡ 10
+  first : (k : ℕ) → k < length f → getD t k 0 ≡ 10 → ⊥
+
+front : (t : List ℕ) → Front t (first-line t)
+unfolding first-line
+front [] = record { within = omega arith; same = refl; newline = λ h. absurd (omega arith); first = λ k h. absurd (omega arith) }
+front (b ∷ bs) = go (eqb b 10) (eq b 10) (front bs)
+  where
+    later : (b ≡ 10 → ⊥) → Front bs (first-line bs) → (k : ℕ) → k < suc (length (first-line bs)) → getD (b ∷ bs) k 0 ≡ 10 → ⊥
+    later n r zero h e = n e
+    later n r (suc k) h e = r .first k (omega arith) e
+
+    go : (o : Bool) → Eq o b 10 → Front bs (first-line bs) → Front (b ∷ bs) (cond o [] (b ∷ first-line bs))
+    go true e r = record { within = omega arith; same = refl; newline = λ h. e; first = λ k h. absurd (omega arith) }
+    go false n r = record {
+      within = omega (arith, r .within);
+      same = ap (λ (l : List ℕ). b ∷ l) (r .same);
+      newline = λ h. r .newline (omega arith);
+      first = λ k h. later n r k h;
+    }
+
+module _ (s : List ℕ) (at : ℕ) where
+  -- the line ends at the first newline, or at the input's end
+  pub line-ends : at ≤ length s → Ends s at (line-end s at)
+  unfolding line-end
+  line-ends h =
+      let r = front (drop at s) in
+      let d = length-drop at s in
+      record {
+        from = omega arith;
+        within = omega (arith, r .within);
+        newline = λ k. sym (getD-drop at s (length (first-line (drop at s))) 0) ∙ r .newline (omega arith);
+        first = λ k a b e.
+            let p : at + (k - at) ≡ k = omega arith in
+            r .first (k - at) (omega arith) (getD-drop at s (k - at) 0 ∙ ap (λ (j : ℕ). getD s j 0) p ∙ e);
+      }
+
+-- ── cutting ──
+
+cut-first : (b : ℕ) (bs : List ℕ) → lines-of (b ∷ bs) ≡ first-line (b ∷ bs) ∷ lines-of (drop (suc (length (first-line (b ∷ bs)))) (b ∷ bs))
+unfolding lines-of first-line
+cut-first b [] = go (eqb b 10)
+  where
+    go : (o : Bool) → cond o ([] ∷ lines-of []) (in-front b (lines-of [])) ≡ cond o [] (b ∷ []) ∷ lines-of (drop (suc (length (cond o [] (b ∷ [])))) (b ∷ []))
+    go true = refl
+    go false = refl
+cut-first b (c ∷ cs) = go (eqb b 10) (cut-first c cs)
+  where
+    go : (o : Bool) → lines-of (c ∷ cs) ≡ first-line (c ∷ cs) ∷ lines-of (drop (suc (length (first-line (c ∷ cs)))) (c ∷ cs))
+        → cond o ([] ∷ lines-of (c ∷ cs)) (in-front b (lines-of (c ∷ cs)))
+        ≡ cond o [] (b ∷ first-line (c ∷ cs)) ∷ lines-of (drop (suc (length (cond o [] (b ∷ first-line (c ∷ cs))))) (b ∷ c ∷ cs))
+    go true e = refl
+    go false e = ap (in-front b) e
+
+cut-text : (t : List ℕ) → 0 < length t → lines-of t ≡ take (length (first-line t)) t ∷ lines-of (drop (suc (length (first-line t))) t)
+cut-text [] h = absurd (omega arith)
+cut-text (b ∷ bs) h =
+    let e = front (b ∷ bs) .same in
+    cut-first b bs ∙ ap (λ (l : List ℕ). l ∷ lines-of (drop (suc (length (first-line (b ∷ bs)))) (b ∷ bs))) (sym e)
+
+-- the line that begins at an index, and the lines behind its newline
+pub lines-cut : (s : List ℕ) (at : ℕ) → at < length s
+    → lines-of (drop at s) ≡ take (line-end s at - at) (drop at s) ∷ lines-of (drop (line-end s at + 1) s)
+unfolding line-end
+lines-cut s at h =
+    let t = drop at s in
+    let n = length (first-line t) in
+    let p : at + n - at ≡ n = omega arith in
+    let q : at + suc n ≡ at + n + 1 = omega arith in
+    cut-text t (omega (arith, length-drop at s))
+    ∙ ap (λ (m : ℕ). take m t ∷ lines-of (drop (suc n) t)) (sym p)
+    ∙ ap (λ (l : List ℕ). take (at + n - at) t ∷ lines-of l) (drop-drop (suc n) at s ∙ ap (λ (m : ℕ). drop m s) q)
+
+-- an input that has been read has no lines left
+pub lines-done : (s : List ℕ) (at : ℕ) → length s ≤ at → lines-of (drop at s) ≡ []
+unfolding lines-of
+lines-done s at h = rw (drop-of-length-le s h)

@@ -1,0 +1,2 @@
+-- `Cutting` has the laws of lines. Assumes nothing.
+pub mod Cutting

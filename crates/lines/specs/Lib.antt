@@ -1,0 +1,2 @@
+-- `Cut` has the lines of an input. Assumes nothing.
+pub mod Cut

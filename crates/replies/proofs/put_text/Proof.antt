@@ -1,0 +1,24 @@
+-- `replies::put_text` meets its contract. Assumes nothing.
+use denote.Ref.{now}
+use borrow.Author.Needs.{needs}
+use Rattle.replies.proofs.Writing.{written-all}
+use Rattle.replies.proofs.put_text.Statement.{statement}
+use Rattle.replies.proofs.put_text.Tie as tie
+
+copy-requires : tie.Need-copy-requires
+copy-requires c κs = search needs
+
+add-result : tie.Need-add-result
+add-result c = search needs
+
+same-length : tie.Need-same-length
+same-length c = search needs
+
+returns : tie.Need-returns
+returns c =
+    let a = c .before .before .before .before .before .before .args in
+    let r = c .before .before .copy in
+    written-all (now (a .out)) (now (a .text)) (r .last .1 .1 .0) (a .at) (r .ensures)
+
+pub put-text-spec : {M : Type 1} → statement M
+put-text-spec = tie.close (tie.spec copy-requires add-result same-length returns)

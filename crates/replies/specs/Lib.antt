@@ -1,0 +1,2 @@
+-- `Written` has what the contracts cite. Assumes nothing.
+pub mod Written

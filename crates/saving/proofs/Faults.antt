@@ -1,0 +1,168 @@
+-- An image that is not accepted is refused with 13, 14 or 15. Assumes nothing.
+use Prim.Native.Nat.{ℕ, zero, suc, _+_, _*_, _≤_}
+use native.Mathlib.Omega.{arith}
+use mathlib.Core.Path.{_≡_, refl}
+use mathlib.Core.Bool.{Bool, true, false, cond}
+use mathlib.Core.List.{List}
+use lib.ListN.{length, getD}
+use lib.Dec.{leb, ltb, eqb}
+use borrow.Author.Tests.{eqb-false}
+use Rattle.words.specs.Words.{le64}
+use Rattle.trie.specs.Test.{index-rule}
+use Rattle.image.specs.Kinds.{fits}
+use Rattle.image.specs.Held.{trie-in}
+use Rattle.image.specs.Reading.{ListRead, past, cut, HeadRead, head, no-head, behind-list, read-list, read-lists, read-head, Table, find-byte, table-fault, sparse-table, TableRead, table, no-table, unless-fault, open-table, Slot, offset, skip, slot-at, Step, done, fault, behind, Turn, child, gap, none-due, wrong, slot-turn, turn-at, by-turn, read-child, all-met, read-turns, read-table, behind-table, behind-head, read-node, read-counts, read-root, Layout, right, refused, to-the-end, read-image}
+use Rattle.index_rule.specs.Check.{and-rule, check-image}
+
+-- the numbers of an image's faults
+pub record Number (n : ℕ) : Type 0 where
+  pub least : 13 ≤ n
+  pub most : n ≤ 15
+
+thirteen : Number 13
+thirteen = record { least = omega arith; most = omega arith }
+
+fourteen : Number 14
+fourteen = record { least = omega arith; most = omega arith }
+
+fifteen : Number 15
+fifteen = record { least = omega arith; most = omega arith }
+
+-- both ways out have it
+either : {A : Type 0} (P : A → Type 0) (o : Bool) {x y : A} → P x → P y → P (cond o x y)
+either P true a b = a
+either P false a b = b
+
+-- ── lists and tables ──
+
+abbrev InHead : HeadRead → Type 0
+InHead (head kind next entries) = Unit {0}
+InHead (no-head c) = Number c
+
+behind-list-in : (l : ListRead) (f : ℕ → ℕ → HeadRead) → ((next n : ℕ) → InHead (f next n)) → InHead (behind-list l f)
+behind-list-in cut f h = thirteen
+behind-list-in (past next n) f h = h next n
+
+head-in : (s : List ℕ) (at : ℕ) → InHead (read-head s at)
+unfolding read-head read-lists
+head-in s at = either InHead (ltb at (length s)) (either InHead (eqb (getD s at 0) 0) fourteen (either InHead (ltb 3 (getD s at 0)) fourteen lists)) thirteen
+  where
+    lists : InHead (behind-list (read-list s (at + 1)) (λ a x. behind-list (read-list s a) (λ b y. behind-list (read-list s b) (λ c z. head (getD s at 0) c (x + y + z)))))
+    lists =
+        behind-list-in (read-list s (at + 1)) (λ a x. behind-list (read-list s a) (λ b y. behind-list (read-list s b) (λ c z. head (getD s at 0) c (x + y + z))))
+        (λ a x. behind-list-in (read-list s a) (λ b y. behind-list (read-list s b) (λ c z. head (getD s at 0) c (x + y + z)))
+        (λ b y. behind-list-in (read-list s b) (λ c z. head (getD s at 0) c (x + y + z)) (λ c z. tt)))
+
+abbrev IfFault : ℕ → Type 0
+IfFault c = (c ≡ 0 → ⊥) → Number c
+
+entries-in : (s : List ℕ) (base k i : ℕ) → IfFault (table-fault s base k i)
+unfolding table-fault
+entries-in s base zero i = λ z. absurd (z refl)
+entries-in s base (suc k) i =
+    either IfFault (leb (length s) (base + i * 9)) (λ z. thirteen)
+    (either IfFault (ltb (find-byte s base (getD s (base + i * 9) 0) i 0) i) (λ z. fifteen)
+    (either IfFault (ltb (length s) (base + i * 9 + 9)) (λ z. thirteen) (entries-in s base k (i + 1))))
+
+abbrev InTable : TableRead → Type 0
+InTable (table t) = Unit {0}
+InTable (no-table c) = Number c
+
+unless-in : (c : ℕ) (t : Table) → IfFault c → InTable (unless-fault c t)
+unless-in c t f = go (eqb c 0) refl
+  where
+    go : (o : Bool) → eqb c 0 ≡ o → InTable (cond o (table t) (no-table c))
+    go true e = tt
+    go false e = f (eqb-false c 0 e)
+
+table-in : (s : List ℕ) (kind at : ℕ) → InTable (open-table s kind at)
+unfolding open-table
+table-in s kind at =
+    either InTable (eqb kind 1)
+    (either InTable (leb (at + 2048) (length s)) tt thirteen)
+    (either InTable (leb (at + 8) (length s))
+    (either InTable (fits kind (le64 s at)) (unless-in (table-fault s (at + 8) (le64 s at) 0) (sparse-table kind at (le64 s at)) (entries-in s (at + 8) (le64 s at) 0)) fifteen)
+    thirteen)
+
+-- ── children and nodes ──
+
+abbrev InStep : Step → Type 0
+InStep (done next met nodes entries) = Unit {0}
+InStep (fault c) = Number c
+
+behind-in : (x : Step) (f : ℕ → ℕ → ℕ → ℕ → Step) → InStep x → ((next met nodes entries : ℕ) → InStep (f next met nodes entries)) → InStep (behind x f)
+behind-in (fault c) f i h = i
+behind-in (done next met nodes entries) f i h = h next met nodes entries
+
+abbrev InTurn : Turn → Type 0
+InTurn child = Unit {0}
+InTurn gap = Unit {0}
+InTurn none-due = Unit {0}
+InTurn (wrong c) = Number c
+
+slot-in : (s : List ℕ) (kind at : ℕ) (x : Slot) → InTurn (slot-turn s kind at x)
+slot-in s kind at skip = tt
+slot-in s kind at (offset off) =
+    either InTurn (eqb off at)
+    (either InTurn (leb (length s) at) thirteen (either InTurn (eqb (getD s at 0) 1) tt (either InTurn (eqb (getD s at 0) 0) (either InTurn (eqb kind 1) tt fifteen) fifteen)))
+    fifteen
+
+module _ (s : List ℕ) (rd : ℕ → Step) (h : (at : ℕ) → InStep (rd at)) where
+  turn-in : (at : ℕ) (x : Turn) → InTurn x → InStep (by-turn rd at x)
+  turn-in at child i = h (at + 1)
+  turn-in at gap i = tt
+  turn-in at none-due i = tt
+  turn-in at (wrong c) i = i
+
+  child-in : (t : Table) (i at : ℕ) → InStep (read-child s rd t i at)
+  unfolding read-child turn-at
+  child-in t i at = turn-in at (slot-turn s (t .kind) at (slot-at s t i)) (slot-in s (t .kind) at (slot-at s t i))
+
+  turns-in : (t : Table) (k i at met nodes entries : ℕ) → InStep (read-turns s rd t k i at met nodes entries)
+  unfolding read-turns all-met
+  turns-in t zero i at met nodes entries = either InStep (eqb (t .kind) 1) (either InStep (fits 1 met) tt fifteen) tt
+  turns-in t (suc k) i at met nodes entries =
+      behind-in (read-child s rd t i at) (λ next c a b. read-turns s rd t k (i + 1) next (met + c) (nodes + a) (entries + b)) (child-in t i at)
+      (λ next c a b. turns-in t k (i + 1) next (met + c) (nodes + a) (entries + b))
+
+  behind-table-in : (entries : ℕ) (x : TableRead) → InTable x → InStep (behind-table s rd entries x)
+  unfolding read-table
+  behind-table-in entries (no-table c) i = i
+  behind-table-in entries (table t) i = behind-in (read-turns s rd t (t .turns) 0 (t .start) 0 0 0) (λ next met nodes more. done next 1 (nodes + 1) (entries + more)) (turns-in t (t .turns) 0 (t .start) 0 0 0) (λ next met nodes more. tt)
+
+  behind-head-in : (x : HeadRead) → InHead x → InStep (behind-head s rd x)
+  behind-head-in (no-head c) i = i
+  behind-head-in (head kind next entries) i = behind-table-in entries (open-table s kind next) (table-in s kind next)
+
+node-in : (s : List ℕ) (left at : ℕ) → InStep (read-node s left at)
+unfolding read-node
+node-in s zero at = fifteen
+node-in s (suc left) at = behind-head-in s (read-node s left) (λ x. node-in s left x) (read-head s at) (head-in s at)
+
+-- ── the image ──
+
+counts-in : (s : List ℕ) (n at : ℕ) → InStep (read-counts s n at)
+unfolding read-counts
+counts-in s zero at = tt
+counts-in s (suc n) at = either InStep (leb (at + 8) (length s)) (either InStep (eqb (le64 s at) 0) (counts-in s n (at + 8)) fifteen) thirteen
+
+abbrev pub InLayout : Layout → Type 0
+InLayout (right nodes entries) = Unit {0}
+InLayout (refused c) = Number c
+
+end-in : (s : List ℕ) (x : Step) → InStep x → InLayout (to-the-end s x)
+end-in s (fault c) i = i
+end-in s (done next met nodes entries) i = either InLayout (eqb next (length s)) tt fifteen
+
+image-in : (s : List ℕ) → InLayout (read-image s)
+unfolding read-image read-root
+image-in s = end-in s (read-root s) (either InStep (eqb (length s) 0) thirteen (either InStep (eqb (getD s 0 0) 0) (counts-in s 3 1) (node-in s 17 0)))
+
+pub check-in : (s : List ℕ) → InLayout (check-image s)
+unfolding check-image
+check-in s = go (index-rule (trie-in s)) (read-image s) (image-in s)
+  where
+    go : (o : Bool) (x : Layout) → InLayout x → InLayout (and-rule o x)
+    go o (refused c) i = i
+    go true (right nodes entries) i = tt
+    go false (right nodes entries) i = fifteen

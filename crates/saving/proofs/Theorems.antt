@@ -1,0 +1,199 @@
+-- What save and load promise of each other holds. Assumes nothing.
+use Prim.Native.Nat.{ℕ, _+_, _≤_}
+use native.Mathlib.Omega.{arith}
+use mathlib.Core.Path.{_≡_, refl, sym, ap, _∙_, subst}
+use mathlib.Core.Bool.{Bool, true, false, cond}
+use mathlib.Core.List.{List}
+use mathlib.Core.Option.{Option, none, some}
+use lib.ListN.{length, take, drop}
+use lib.Seq.{sets, sets-eq, take-append-seam}
+use lib.Dec.{ltb}
+use borrow.Author.Tests.{le-ltb, ltb-false}
+use Rattle.definitions.specs.Causes.{Cause, save-buffer-too-short, too-many-nodes, too-many-entries, first-cause, causes, checked, load-call}
+use Rattle.definitions.specs.Calls.{Capacity, save-checks}
+use Rattle.trie.specs.Trie.{Trie, nodes, entries}
+use Rattle.trie.specs.Test.{index-rule}
+use Rattle.image.specs.Image.{image}
+use Rattle.image.specs.Held.{trie-in}
+use Rattle.image.specs.Reading.{Layout, right, refused}
+use Rattle.image.specs.Savable.{Savable}
+use Rattle.image.proofs.Theorems.{image-read}
+use Rattle.index_rule.specs.Check.{and-rule, check-image}
+use Rattle.index_rule.proofs.Theorems.{check-image-is, index-rule-is}
+use Rattle.index_memory.specs.Index.{Index, broken, opened, finished, read-index}
+use Rattle.index_memory.specs.Record.{Done, unless-refused}
+use Rattle.finished_memory.specs.Finished.{finished-memory}
+use Rattle.finished_memory.specs.Room.{capacity-of, Within}
+use Rattle.finished_memory.proofs.Holds.{FinishedIs, finished-holds, finished-is, room-of}
+use Rattle.saving.specs.Saving.{Saving, saved-or-refused, save-image, save-by, save-memory, load-checks, load-right, load-by, load-memory}
+use Rattle.saving.specs.Promises.{Lent, LoadHolds, SaveOfLoaded, bytes-of, SaveIsImage, LoadOfSaved, ImageRefusal, RefusedLeaves}
+use Rattle.saving.proofs.Laws.{accepted, both-within}
+use Rattle.saving.proofs.Faults.{InLayout, check-in}
+
+-- ── load's checks stand in the order of the table, behind those of the memory and the image ──
+
+load-order : (c : Capacity) (n k : ℕ) → causes (load-checks c n k) ≡ drop 4 (checked load-call)
+load-order c n k = refl
+
+-- ── what a memory holds decides ──
+
+pub save-as : (m buffer : List ℕ) (i : Index) → read-index m ≡ i → save-by i buffer ≡ save-memory m buffer
+unfolding save-memory
+save-as m buffer i e = ap (λ (x : Index). save-by x buffer) (sym e)
+
+pub load-as : (m s : List ℕ) (i : Index) → read-index m ≡ i → load-by i m s ≡ load-memory m s
+unfolding load-memory
+load-as m s i e = ap (λ (x : Index). load-by x m s) (sym e)
+
+-- an open index and a finished one are replaced alike
+pub load-in : (m s : List ℕ) (c : Capacity) → capacity-of (read-index m) ≡ some c → load-right (check-image s) c m s ≡ load-memory m s
+load-in m s c e = go (read-index m) e ∙ load-as m s (read-index m) refl
+  where
+    go : (i : Index) → capacity-of i ≡ some c → load-right (check-image s) c m s ≡ load-by i m s
+    go broken f = absurd (let z : _≡_ {A = ℕ} 0 1 = cc in omega arith)
+    go (opened d ps) f =
+        let q : c ≡ d = cc in
+        ap (λ (x : Capacity). load-right (check-image s) x m s) q
+    go (finished d t) f =
+        let q : c ≡ d = cc in
+        ap (λ (x : Capacity). load-right (check-image s) x m s) q
+
+-- ── a load that is not refused ──
+
+record Accepted (c : Capacity) (x : Layout) : Type 0 where
+  nodes : ℕ
+  entries : ℕ
+  is : x ≡ right nodes entries
+  few-nodes : nodes ≤ c .nodes
+  few-entries : entries ≤ c .entries
+
+accepted-by : (m s : List ℕ) (c : Capacity) (x : Layout) → InLayout x → load-right x c m s .refusal ≡ 0 → Accepted c x
+accepted-by m s c (refused n) i e = absurd (omega (arith, i .least))
+accepted-by m s c (right n k) i e = go (ltb (c .nodes) n) refl (ltb (c .entries) k) refl e
+  where
+    go : (o₁ : Bool) → ltb (c .nodes) n ≡ o₁ → (o₂ : Bool) → ltb (c .entries) k ≡ o₂
+        → unless-refused (cond o₁ (some too-many-nodes) (cond o₂ (some too-many-entries) none)) m (finished-memory m c (trie-in s)) .refusal ≡ 0 → Accepted c (right n k)
+    go true a o₂ b e = absurd (omega arith)
+    go false a true b e = absurd (omega arith)
+    go false a false b e = record { nodes = n; entries = k; is = refl; few-nodes = ltb-false (c .nodes) n a; few-entries = ltb-false (c .entries) k b }
+
+-- the capacity that was there
+had : (m s : List ℕ) (i : Index) → load-by i m s .refusal ≡ 0 → (c : Capacity) × (capacity-of i ≡ some c)
+had m s broken e = absurd (omega arith)
+had m s (opened c ps) e = (c, refl)
+had m s (finished c t) e = (c, refl)
+
+-- an image that passes the test, loaded where there is room for it
+held : (m s : List ℕ) (c : Capacity) (t : Trie) → capacity-of (read-index m) ≡ some c → check-image s ≡ right (nodes t) (entries t) → trie-in s ≡ t → Within c t → Savable t → index-rule t ≡ true
+    → (load-memory m s .refusal ≡ 0) × (read-index (load-memory m s .memory) ≡ finished c t)
+held m s c t h e q w v rule =
+    let is : load-memory m s ≡ record { refusal = 0; memory = finished-memory m c (trie-in s) } =
+    sym (both-within c m s (nodes t) (entries t) (w .nodes) (w .entries) ∙ ap (λ (x : Layout). load-right x c m s) (sym e) ∙ load-in m s c h) in
+    (ap (λ (d : Done). d .refusal) is, ap (λ (d : Done). read-index (d .memory)) is ∙ ap (λ (x : Trie). read-index (finished-memory m c x)) q ∙ finished-holds m c t (room-of m c h) w v rule)
+
+-- what a load that was not refused had before it
+record Before (m s : List ℕ) : Type 0 where
+  capacity : Capacity
+  had : capacity-of (read-index m) ≡ some capacity
+  image : Accepted capacity (check-image s)
+
+before : (m s : List ℕ) → load-memory m s .refusal ≡ 0 → Before m s
+before m s e =
+    let h = had m s (read-index m) (ap (λ (d : Done). d .refusal) (load-as m s (read-index m) refl) ∙ e) in
+    record { capacity = h .0; had = h .1; image = accepted-by m s (h .0) (check-image s) (check-in s) (ap (λ (d : Done). d .refusal) (load-in m s (h .0) (h .1)) ∙ e) }
+
+pub load-holds : LoadHolds
+load-holds m s l e =
+    let h = before m s e in
+    let i = h .image in
+    let w = accepted s (l .bytes) (l .small) (i .nodes) (i .entries) (i .is) in
+    let rule : index-rule (trie-in s) ≡ true = index-rule-is (trie-in s) (w .3 .shaped) .1 (check-image-is s (l .bytes) (l .small) (i .nodes) (i .entries) .0 (i .is) .1) in
+    let within : Within (h .capacity) (trie-in s) = record { nodes = omega (arith, w .1, i .few-nodes); entries = omega (arith, w .2, i .few-entries) } in
+    let passes : check-image s ≡ right (nodes (trie-in s)) (entries (trie-in s)) = i .is ∙ sym (rw (w .1, w .2) refl) in
+    record { capacity = h .capacity; had = h .had; holds = held m s (h .capacity) (trie-in s) (h .had) passes refl within (w .3) rule .1 }
+
+-- ── saving what was loaded ──
+
+image-saved : (s buffer : List ℕ) → length s ≤ length buffer → save-image s buffer ≡ record { refusal = 0; size = length s; buffer = sets buffer 0 s }
+image-saved s buffer h = rw (le-ltb (length buffer) (length s) h)
+
+-- an image that was loaded is that of its trie
+loaded-is : (m s : List ℕ) → Lent s → load-memory m s .refusal ≡ 0 → image (trie-in s) ≡ s
+loaded-is m s l e =
+    let i = before m s e .image in
+    accepted s (l .bytes) (l .small) (i .nodes) (i .entries) (i .is) .0
+
+pub save-of-loaded : SaveOfLoaded
+save-of-loaded m s buffer l e h =
+    let w = load-holds m s l e in
+    sym (save-as (load-memory m s .memory) buffer (finished (w .capacity) (trie-in s)) (w .holds)) ∙ ap (λ (x : List ℕ). save-image x buffer) (loaded-is m s l e) ∙ image-saved s buffer h
+
+-- ── loading what was saved ──
+
+-- a save that is not refused hands over the image
+handed : (s buffer : List ℕ) → save-image s buffer .refusal ≡ 0 → bytes-of (save-image s buffer) ≡ s
+handed s buffer e = go (ltb (length buffer) (length s)) refl e
+  where
+    go : (o : Bool) → ltb (length buffer) (length s) ≡ o → saved-or-refused (cond o (some save-buffer-too-short) none) s buffer .refusal ≡ 0 → bytes-of (saved-or-refused (cond o (some save-buffer-too-short) none) s buffer) ≡ s
+    go true q f = absurd (omega arith)
+    go false q f = ap (take (length s)) (sets-eq s buffer 0 (omega (arith, ltb-false (length buffer) (length s) q))) ∙ take-append-seam s (drop (0 + length s) buffer)
+
+pub save-is-image : SaveIsImage
+save-is-image m buffer c t e r =
+    let q : save-image (image t) buffer ≡ save-memory m buffer = save-as m buffer (finished c t) e in
+    ap bytes-of (sym q) ∙ handed (image t) buffer (ap (λ (x : Saving). x .refusal) q ∙ r)
+
+-- the image of what can be saved and meets the rule passes the test
+image-passes : (t : Trie) → Savable t → index-rule t ≡ true → check-image (image t) ≡ right (nodes t) (entries t)
+unfolding check-image
+image-passes t v rule =
+    let r = image-read t v in
+    ap (and-rule (index-rule (trie-in (image t)))) (r .0) ∙ ap (λ (o : Bool). and-rule o (right (nodes t) (entries t))) (ap index-rule (r .1) ∙ rule)
+
+pub load-of-saved : LoadOfSaved
+load-of-saved m m′ buffer c c′ t l e r h w =
+    subst (λ (s : List ℕ). (load-memory m′ s .refusal ≡ 0) × (read-index (load-memory m′ s .memory) ≡ finished c′ t)) (sym (save-is-image m buffer c t e r)) loaded
+  where
+    loaded : (load-memory m′ (image t) .refusal ≡ 0) × (read-index (load-memory m′ (image t) .memory) ≡ finished c′ t)
+    loaded =
+        let f : FinishedIs m c t = finished-is m c t (l .bytes) (l .small) e in
+        held m′ (image t) c′ t h (image-passes t (f .savable) (f .rule)) (image-read t (f .savable) .1) w (f .savable) (f .rule)
+
+-- ── a call that is refused ──
+
+pub image-refusal : ImageRefusal
+image-refusal s n e =
+    let k : InLayout (refused n) = subst InLayout e (check-in s) in
+    (k .least, k .most)
+
+load-refused : (m s : List ℕ) (i : Index) → (load-by i m s .refusal ≡ 0 → ⊥) → load-by i m s .memory ≡ m
+load-refused m s i f = by-index i f
+  where
+    by-cause : (o : Option Cause) (new : List ℕ) → (unless-refused o m new .refusal ≡ 0 → ⊥) → unless-refused o m new .memory ≡ m
+    by-cause none new f = absurd (f refl)
+    by-cause (some x) new f = refl
+
+    by-layout : (c : Capacity) (x : Layout) → (load-right x c m s .refusal ≡ 0 → ⊥) → load-right x c m s .memory ≡ m
+    by-layout c (refused n) f = refl
+    by-layout c (right n k) f = by-cause (first-cause (load-checks c n k)) (finished-memory m c (trie-in s)) f
+
+    by-index : (i : Index) → (load-by i m s .refusal ≡ 0 → ⊥) → load-by i m s .memory ≡ m
+    by-index broken f = refl
+    by-index (opened c ps) f = by-layout c (check-image s) f
+    by-index (finished c t) f = by-layout c (check-image s) f
+
+save-refused : (buffer : List ℕ) (i : Index) → (save-by i buffer .refusal ≡ 0 → ⊥) → save-by i buffer .buffer ≡ buffer
+save-refused buffer i f = by-index i f
+  where
+    by-cause : (o : Option Cause) (s : List ℕ) → (saved-or-refused o s buffer .refusal ≡ 0 → ⊥) → saved-or-refused o s buffer .buffer ≡ buffer
+    by-cause none s f = absurd (f refl)
+    by-cause (some x) s f = refl
+
+    by-index : (i : Index) → (save-by i buffer .refusal ≡ 0 → ⊥) → save-by i buffer .buffer ≡ buffer
+    by-index broken f = refl
+    by-index (opened c ps) f = refl
+    by-index (finished c t) f = by-cause (first-cause (save-checks true (length (image t)) (length buffer))) (image t) f
+
+pub refused-leaves : RefusedLeaves
+unfolding load-memory save-memory
+refused-leaves m s = (load-refused m s (read-index m), save-refused s (read-index m))

@@ -1,0 +1,57 @@
+-- `saving::load_into` meets its contract: the image's own refusal, or what its tally decides. Assumes nothing.
+use mathlib.Core.Path.{sym, ap, _∙_}
+use borrow.Author.Needs.{needs}
+use denote.Ref.{now}
+use Rattle.image.specs.Answers.{layout-of}
+use Rattle.index_memory.specs.Answers.{header-of}
+use Rattle.index_memory.specs.Record.{Done}
+use Rattle.saving.proofs.Laws.{by-check}
+use Rattle.saving.proofs.load_into.Statement.{statement}
+use Rattle.saving.proofs.load_into.Tie as tie
+
+check-requires : tie.Need-check-requires
+check-requires c κs = search needs
+
+enum-known-n : tie.Need-enum-known-n
+enum-known-n c = search needs
+
+enum-known-t : tie.Need-enum-known-t
+enum-known-t c = search needs
+
+load-right-requires : tie.Need-load-right-requires
+load-right-requires c κs =
+    let c₂ = c .before .before in
+    let c₄ = c₂ .before .before in
+    (c₄ .before .before .before .pre, sym (ap layout-of (sym (c₂ .t .given .1)) ∙ c₄ .check .ensures))
+
+returns : tie.Need-returns
+returns c =
+    let c₁ = c .before in
+    let c₃ = c₁ .before .before in
+    let a = c₃ .before .before .before .args in
+    let e = by-check (header-of (a .h) .capacity) (now (a .mem)) (now (a .s)) _ (ap layout-of (sym (c₁ .n .given .1)) ∙ c₃ .check .ensures) in
+    (ap (λ (d : Done). d .refusal) e, ap (λ (d : Done). d .memory) e)
+
+same-length : tie.Need-same-length
+same-length c = search needs
+
+returns-2 : tie.Need-returns-2
+returns-2 c =
+    let r = c .before .before .load-right in
+    let c₅ = c .before .before .before .before .before in
+    let c₇ = c₅ .before .before in
+    let a = c₇ .before .before .before .args in
+    let e = by-check (header-of (a .h) .capacity) (now (a .mem)) (now (a .s)) _ (ap layout-of (sym (c₅ .t .given .1)) ∙ c₇ .check .ensures) in
+    (r .ensures .0 ∙ ap (λ (d : Done). d .refusal) e, r .ensures .1 ∙ ap (λ (d : Done). d .memory) e)
+
+pub load-into-spec : {M : Type 1} → statement M
+load-into-spec =
+    tie.close
+    (tie.spec
+    check-requires
+    enum-known-n
+    enum-known-t
+    load-right-requires
+    returns
+    same-length
+    returns-2)

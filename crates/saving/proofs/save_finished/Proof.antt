@@ -1,0 +1,47 @@
+-- `saving::save_finished` meets its contract: the image that stands in the memory is that of the trie. Assumes nothing.
+use native.Mathlib.Omega.{arith}
+use borrow.Author.Needs.{needs}
+use denote.Ref.{now}
+use Rattle.index_memory.specs.Answers.{header-of}
+use Rattle.saving.proofs.Laws.{cut-is, too-short, saved}
+use Rattle.saving.proofs.save_finished.Statement.{statement}
+use Rattle.saving.proofs.save_finished.Tie as tie
+
+add-s : tie.Need-add-s
+add-s c = search needs
+
+sub-s : tie.Need-sub-s
+sub-s c = search needs
+
+part-s-start : tie.Need-part-s-start
+part-s-start c = search needs
+
+part-s-end : tie.Need-part-s-end
+part-s-end c = search needs
+
+returns : tie.Need-returns
+returns c =
+    let c₄ = c .before .before .before .before in
+    let start = c₄ .before in
+    let a = start .args in
+    too-short _ _ (now (a .out)) (cut-is (now (a .mem)) (header-of (a .h)) (λ j. omega (arith, c₄ .shared-slice-known .given j)) (omega arith) (start .pre)) (c .if1 .taken)
+
+copy-requires : tie.Need-copy-requires
+copy-requires c κs = search needs
+
+same-length : tie.Need-same-length
+same-length c = search needs
+
+returns-2 : tie.Need-returns-2
+returns-2 c =
+    let c₄ = c .before .before .before .before in
+    let c₈ = c₄ .before .before .before .before in
+    let start = c₈ .before in
+    let a = start .args in
+    let r = c .before .before .copy in
+    saved _ _ (now (a .out)) (cut-is (now (a .mem)) (header-of (a .h)) (λ j. omega (arith, c₈ .shared-slice-known .given j)) (omega arith) (start .pre)) (c₄ .if1 .left) (r .last .1 .1 .0) (r .ensures)
+
+pub save-finished-spec : {M : Type 1} → statement M
+save-finished-spec =
+    tie.close
+    (tie.spec add-s sub-s part-s-start part-s-end returns copy-requires same-length returns-2)

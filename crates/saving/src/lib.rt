@@ -1,0 +1,81 @@
+// Saving the image of a finished index, and loading an image in place of what a memory holds.
+use image::Layout;
+use image::Tally;
+use index_memory::HEADER_SIZE;
+use index_memory::Header;
+ghost use mathlib.Core.Path.{_≡_};
+ghost use Rattle.image.specs.Image.{image};
+ghost use Rattle.image.specs.Held.{trie-in};
+ghost use Rattle.image.specs.Reading.{right};
+ghost use Rattle.index_rule.specs.Check.{check-image};
+ghost use Rattle.index_memory.specs.Index.{image-part};
+ghost use Rattle.index_memory.specs.Answers.{header-of};
+ghost use Rattle.inspecting.specs.Held.{ImageIn};
+ghost use Rattle.finished_memory.specs.Room.{Room};
+ghost use Rattle.saving.specs.Saving.{save-image, load-right};
+ghost use Rattle.saving.specs.Answers.{saved-by, loaded-number};
+
+// How many bytes of the save buffer are the image, or a refusal.
+pub enum Saved {
+    Bytes(usize),
+    Refused(u64),
+}
+
+pub enum Loaded {
+    Done,
+    Refused(u64),
+}
+
+// Saves the image of a finished index: h is the header of its memory.
+pub fn save_finished(mem: &[u8], h: Header, out: &mut [u8]) -> Saved
+    requires { ⌜ ImageIn (now mem) (header-of h) ⌝ }
+    ensures { λ r. ⌜ saved-by r (now (out .exit)) ≡ save-image (image (trie-in (image-part (now (mem .entry)) (header-of h)))) (now (out .entry)) ⌝ }
+{
+    let s = &mem[HEADER_SIZE..HEADER_SIZE + h.payload];
+    let n = s.len();
+    if out.len() < n {
+        return Saved::Refused(definitions::SAVE_BUFFER_TOO_SHORT);
+    }
+    words::copy(s, 0, out, 0, n);
+    Saved::Bytes(n)
+}
+
+// Loads an image that is right, with this tally, if the capacity in h has room for it.
+fn load_right(mem: &mut [u8], h: Header, t: Tally, s: &[u8]) -> Loaded
+    requires { ⌜ Room (now mem) (header-of h .capacity) × (check-image (now s) ≡ right (t .nodes) (t .entries)) ⌝ }
+    ensures answer { λ r. ⌜ loaded-number r ≡ load-right (right (t .nodes) (t .entries)) (header-of h .capacity) (now (mem .entry)) (now (s .entry)) .refusal ⌝ }
+    ensures memory { λ _. ⌜ now (mem .exit) ≡ load-right (right (t .nodes) (t .entries)) (header-of h .capacity) (now (mem .entry)) (now (s .entry)) .memory ⌝ }
+{
+    if h.node_room < t.nodes {
+        return Loaded::Refused(definitions::TOO_MANY_NODES);
+    }
+    if h.entry_room < t.entries {
+        return Loaded::Refused(definitions::TOO_MANY_ENTRIES);
+    }
+    let payload = s.len();
+    words::copy(s, 0, mem, HEADER_SIZE, payload);
+    finished_memory::put_finished(
+        mem,
+        Header {
+            node_room: h.node_room,
+            entry_room: h.entry_room,
+            phase: 1,
+            nodes: t.nodes,
+            entries: t.entries,
+            payload,
+        },
+    );
+    Loaded::Done
+}
+
+// Loads an image into a memory that has room for the capacity in h: nothing of what it held is read.
+pub fn load_into(mem: &mut [u8], h: Header, s: &[u8]) -> Loaded
+    requires { ⌜ Room (now mem) (header-of h .capacity) ⌝ }
+    ensures answer { λ r. ⌜ loaded-number r ≡ load-right (check-image (now (s .entry))) (header-of h .capacity) (now (mem .entry)) (now (s .entry)) .refusal ⌝ }
+    ensures memory { λ _. ⌜ now (mem .exit) ≡ load-right (check-image (now (s .entry))) (header-of h .capacity) (now (mem .entry)) (now (s .entry)) .memory ⌝ }
+{
+    match index_rule::check(s) {
+        Layout::Refused(n) => Loaded::Refused(n),
+        Layout::Right(t) => load_right(mem, h, t, s),
+    }
+}

@@ -1,0 +1,93 @@
+-- `string_index::load` meets its contract: an open index and a finished one are replaced alike. Assumes nothing.
+use mathlib.Core.Path.{ap, _∙_, subst}
+use borrow.Author.Needs.{needs}
+use denote.Ref.{now}
+use Rattle.index_memory.specs.Record.{Done}
+use Rattle.inspecting.specs.Held.{Inspects}
+use Rattle.finished_memory.specs.Room.{capacity-of}
+use Rattle.finished_memory.proofs.Holds.{room-of}
+use Rattle.saving.proofs.Theorems.{load-as}
+use Rattle.string_index.proofs.load.Statement.{statement}
+use Rattle.string_index.proofs.load.Tie as tie
+
+inspect-requires : tie.Need-inspect-requires
+inspect-requires c κs = search needs
+
+enum-told : tie.Need-enum-told
+enum-told c = search needs
+
+enum-known-h : tie.Need-enum-known-h
+enum-known-h c = search needs
+
+load-into-requires : tie.Need-load-into-requires
+load-into-requires c κs =
+    let c₂ = c .before .before in
+    let c₄ = c₂ .before .before in
+    let a = c₄ .before .before .before .before .args in
+    let w = subst (Inspects (now (a .mem))) (c₂ .h .given .1) (c₄ .inspect .ensures) in
+    room-of (now (a .mem)) _ (ap capacity-of (w .holds))
+
+enum-known-h-2 : tie.Need-enum-known-h-2
+enum-known-h-2 c = search needs
+
+load-into-requires-2 : tie.Need-load-into-requires-2
+load-into-requires-2 c κs =
+    let c₂ = c .before .before in
+    let c₄ = c₂ .before .before in
+    let a = c₄ .before .before .before .before .args in
+    let w = subst (Inspects (now (a .mem))) (c₂ .h2 .given .1) (c₄ .inspect .ensures) in
+    room-of (now (a .mem)) _ (ap capacity-of (w .holds))
+
+same-length : tie.Need-same-length
+same-length c = search needs
+
+returns : tie.Need-returns
+returns c =
+    let c₂ = c .before .before in
+    let a = c₂ .before .before .before .before .args in
+    let w = subst (Inspects (now (a .mem))) (c .enum-told .given .1) (c₂ .inspect .ensures) in
+    let e = load-as (now (a .mem)) (now (a .image)) _ (w .holds) in
+    (ap (λ (d : Done). d .refusal) e, ap (λ (d : Done). d .memory) e)
+
+same-length-2 : tie.Need-same-length-2
+same-length-2 c = search needs
+
+returns-2 : tie.Need-returns-2
+returns-2 c =
+    let r = c .before .before .load-into in
+    let c₅ = c .before .before .before .before .before in
+    let c₇ = c₅ .before .before in
+    let a = c₇ .before .before .before .before .args in
+    let w = subst (Inspects (now (a .mem))) (c₅ .h .given .1) (c₇ .inspect .ensures) in
+    let e = load-as (now (a .mem)) (now (a .image)) _ (w .holds) in
+    (r .ensures .0 ∙ ap (λ (d : Done). d .refusal) e, r .ensures .1 ∙ ap (λ (d : Done). d .memory) e)
+
+same-length-3 : tie.Need-same-length-3
+same-length-3 c = search needs
+
+returns-3 : tie.Need-returns-3
+returns-3 c =
+    let r = c .before .before .load-into2 in
+    let c₅ = c .before .before .before .before .before in
+    let c₇ = c₅ .before .before in
+    let a = c₇ .before .before .before .before .args in
+    let w = subst (Inspects (now (a .mem))) (c₅ .h2 .given .1) (c₇ .inspect .ensures) in
+    let e = load-as (now (a .mem)) (now (a .image)) _ (w .holds) in
+    (r .ensures .0 ∙ ap (λ (d : Done). d .refusal) e, r .ensures .1 ∙ ap (λ (d : Done). d .memory) e)
+
+pub load-spec : {M : Type 1} → statement M
+load-spec =
+    tie.close
+    (tie.spec
+    inspect-requires
+    enum-told
+    enum-known-h
+    load-into-requires
+    enum-known-h-2
+    load-into-requires-2
+    same-length
+    returns
+    same-length-2
+    returns-2
+    same-length-3
+    returns-3)

@@ -1,0 +1,68 @@
+-- `string_index::save` meets its contract: what the memory holds decides. Assumes nothing.
+use mathlib.Core.Path.{_∙_, subst}
+use borrow.Author.Needs.{needs}
+use denote.Ref.{now}
+use Rattle.inspecting.specs.Held.{Inspects}
+use Rattle.saving.proofs.Theorems.{save-as}
+use Rattle.string_index.proofs.save.Statement.{statement}
+use Rattle.string_index.proofs.save.Tie as tie
+
+inspect-requires : tie.Need-inspect-requires
+inspect-requires c κs = search needs
+
+enum-told : tie.Need-enum-told
+enum-told c = search needs
+
+enum-told-2 : tie.Need-enum-told-2
+enum-told-2 c = search needs
+
+enum-known-h : tie.Need-enum-known-h
+enum-known-h c = search needs
+
+save-finished-requires : tie.Need-save-finished-requires
+save-finished-requires c κs =
+    let c₂ = c .before .before in
+    let c₄ = c₂ .before .before in
+    let a = c₄ .before .before .before .args in
+    let w = subst (Inspects (now (a .mem))) (c₂ .h .given .1) (c₄ .inspect .ensures) in
+    w .told
+
+returns : tie.Need-returns
+returns c =
+    let c₂ = c .before .before in
+    let a = c₂ .before .before .before .args in
+    let w = subst (Inspects (now (a .mem))) (c .enum-told .given .1) (c₂ .inspect .ensures) in
+    save-as (now (a .mem)) (now (a .out)) _ (w .holds)
+
+returns-2 : tie.Need-returns-2
+returns-2 c =
+    let c₂ = c .before .before in
+    let a = c₂ .before .before .before .args in
+    let w = subst (Inspects (now (a .mem))) (c .enum-told2 .given .1) (c₂ .inspect .ensures) in
+    save-as (now (a .mem)) (now (a .out)) _ (w .holds)
+
+same-length : tie.Need-same-length
+same-length c = search needs
+
+returns-3 : tie.Need-returns-3
+returns-3 c =
+    let r = c .before .before .save-finished in
+    let c₅ = c .before .before .before .before .before in
+    let c₇ = c₅ .before .before in
+    let a = c₇ .before .before .before .args in
+    let w = subst (Inspects (now (a .mem))) (c₅ .h .given .1) (c₇ .inspect .ensures) in
+    r .ensures ∙ save-as (now (a .mem)) (now (a .out)) _ (w .holds)
+
+pub save-spec : {M : Type 1} → statement M
+save-spec =
+    tie.close
+    (tie.spec
+    inspect-requires
+    enum-told
+    enum-told-2
+    enum-known-h
+    save-finished-requires
+    returns
+    returns-2
+    same-length
+    returns-3)

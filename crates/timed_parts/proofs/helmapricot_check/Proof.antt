@@ -1,0 +1,18 @@
+-- `helmapricot_check` gives the number of what it exports. Assumes nothing.
+use mathlib.Core.Path.{_∙_, ap}
+use Rattle.timed_parts.specs.Parts.{refusal-of}
+use borrow.Author.Needs.{needs}
+use Rattle.timed_parts.proofs.helmapricot_check.Statement.{statement}
+use Rattle.timed_parts.proofs.helmapricot_check.Tie as tie
+
+check-requires : tie.Need-check-requires
+check-requires c κs = search needs
+
+number-requires : tie.Need-number-requires
+number-requires c κs = search needs
+
+returns : tie.Need-returns
+returns c = c .number .ensures ∙ ap refusal-of (c .before .check .ensures)
+
+pub helmapricot-check-spec : {M : Type 1} → statement M
+helmapricot-check-spec = tie.close (tie.spec check-requires number-requires returns)

@@ -1,0 +1,2 @@
+-- `Parts` has what the numbers mean. Assumes nothing.
+pub mod Parts

@@ -1,0 +1,159 @@
+//! Times the calls against the published index on the same blocks, and the test of an image against reading it once.
+//!
+//!     rt staticlib helmapricot && rt staticlib timed_parts
+//!     cd oracle && RUSTFLAGS="-L ../target/staticlib" cargo run --release --features calls --bin bench
+use dataflow::prelude::SpaceKind;
+use oracle::index::string_index::StringIndex;
+use oracle::index::{Index, SpacetimeBlock};
+use oracle::linked;
+use oracle::sink::Sink;
+use std::hint::black_box;
+use std::time::Instant;
+
+struct Random(u64);
+
+impl Random {
+    fn next(&mut self) -> u64 {
+        self.0 ^= self.0 << 13;
+        self.0 ^= self.0 >> 7;
+        self.0 ^= self.0 << 17;
+        self.0
+    }
+
+    fn text(&mut self, n: usize) -> Vec<u8> {
+        (0..n).map(|_| b"0123456789ABCDEFGHIJKLMNOPQRSTUVWXYZ"[self.next() as usize % 36]).collect()
+    }
+}
+
+fn blocks(n: usize, least: u64, most: u64) -> Vec<SpacetimeBlock> {
+    let mut r = Random(0x9e3779b97f4a7c15);
+    let mut address = 0;
+    let mut made = Vec::new();
+    for _ in 0..n {
+        let len = (least + r.next() % (most - least + 1)) as usize;
+        let data = r.text(len);
+        made.push(SpacetimeBlock { space: SpaceKind::Memory, address, len, created_at: r.next() % 1000, destroyed_at: 1000 + r.next() % 1000, data });
+        // now and then blocks stand side by side, so that a query runs over several
+        address += len as u64 + if r.next() % 4 == 0 { 16 } else { 0 };
+    }
+    made
+}
+
+fn copy(b: &SpacetimeBlock) -> SpacetimeBlock {
+    SpacetimeBlock { space: SpaceKind::Memory, address: b.address, len: b.len, created_at: b.created_at, destroyed_at: b.destroyed_at, data: b.data.clone() }
+}
+
+/// The middle of some timings, in microseconds.
+fn middle<F: FnMut()>(times: usize, mut f: F) -> f64 {
+    let mut taken: Vec<f64> = (0..times)
+        .map(|_| {
+            let t = Instant::now();
+            f();
+            t.elapsed().as_secs_f64() * 1e6
+        })
+        .collect();
+    taken.sort_by(f64::total_cmp);
+    taken[times / 2]
+}
+
+/// The middle of nine timings in milliseconds, the caches filled with other bytes before each.
+fn cold<F: FnMut() -> u64>(other: &mut [u8], mut f: F) -> f64 {
+    let mut taken = Vec::new();
+    for round in 0..9u8 {
+        other.iter_mut().for_each(|b| *b = b.wrapping_add(round));
+        black_box(&other);
+        let t = Instant::now();
+        black_box(f());
+        taken.push(t.elapsed().as_secs_f64() * 1e3);
+    }
+    taken.sort_by(f64::total_cmp);
+    taken[4]
+}
+
+/// The nodes and entries that blocks charge, one of them the root.
+fn charges(blocks: &[SpacetimeBlock]) -> (u64, u64) {
+    let pieces = || blocks.iter().flat_map(|b| b.data.chunks(16)).map(|p| p.len() as u64);
+    (1 + pieces().map(|m| m * (m + 1) / 2).sum::<u64>(), pieces().map(|m| 2 * m).sum())
+}
+
+/// Records and finishes in a lent memory: the times of both, in microseconds.
+fn finished(mem: &mut [u8], blocks: &[SpacetimeBlock]) -> (f64, f64) {
+    let (nodes, entries) = charges(blocks);
+    assert_eq!(linked::open(mem, nodes, entries), 0);
+    let t = Instant::now();
+    for b in blocks {
+        assert_eq!(linked::record(mem, 1, b.address, b.created_at, b.destroyed_at, &b.data), 0);
+    }
+    let record = t.elapsed().as_secs_f64() * 1e6;
+    let t = Instant::now();
+    assert_eq!(linked::finish(mem), 0);
+    (record, t.elapsed().as_secs_f64() * 1e6)
+}
+
+fn image_of(mem: &[u8]) -> &[u8] {
+    let n = u64::from_le_bytes(mem[40..48].try_into().unwrap()) as usize;
+    &mem[64..64 + n]
+}
+
+fn test_of_image(name: &str, image: &[u8]) {
+    let mut other = vec![1u8; 256 << 20];
+    assert_eq!(linked::check(image), 0);
+    let read = cold(&mut other, || image.chunks_exact(8).fold(0u64, |s, c| s ^ u64::from_le_bytes(c.try_into().unwrap())));
+    let layout = cold(&mut other, || linked::layout(image));
+    let check = cold(&mut other, || linked::check(image));
+    println!("{name}: image of {} bytes: read once {read:.2} ms, layout {layout:.2} ms ({:.1} times), layout and rule {check:.2} ms ({:.1} times)", image.len(), layout / read, check / read);
+}
+
+fn main() {
+    let mut mem = vec![1u8; 64 + (64 + 104) * 1_048_576];
+    finished(&mut mem, &blocks(7500, 16, 16));
+    test_of_image("7,500 blocks of 16 bytes", image_of(&mem));
+
+    let made = blocks(3000, 16, 64);
+    let n = made.len() as f64;
+    let (record, finish) = (0..5).map(|_| finished(&mut mem, &made)).min_by(|a, b| (a.0 + a.1).total_cmp(&(b.0 + b.1))).unwrap();
+    println!("charged: {:?}", charges(&made));
+    let mut best = (f64::MAX, f64::MAX);
+    let mut index = StringIndex::new(Sink::default());
+    for _ in 0..5 {
+        index = StringIndex::new(Sink::default());
+        let copies: Vec<SpacetimeBlock> = made.iter().map(copy).collect();
+        let t = Instant::now();
+        for b in copies {
+            index.record(b);
+        }
+        let rust_record = t.elapsed().as_secs_f64() * 1e6;
+        let t = Instant::now();
+        index.finalize();
+        let rust_finish = t.elapsed().as_secs_f64() * 1e6;
+        if rust_record + rust_finish < best.0 + best.1 {
+            best = (rust_record, rust_finish);
+        }
+    }
+    println!("3,000 blocks of 16 to 64 bytes, the best of five, in microseconds");
+    println!("{:24} {:>12} {:>12}", "", "port", "published");
+    println!("{:24} {:12.2} {:12.2}", "record, a block", record / n, best.0 / n);
+    println!("{:24} {:12.0} {:12.0}", "finish", finish, best.1);
+    println!("{:24} {:12.0} {:12.0}   ({:.2} times as fast)", "record and finish", record + finish, best.0 + best.1, (best.0 + best.1) / (record + finish));
+
+    let image = image_of(&mem);
+    test_of_image("3,000 blocks", image);
+    let mut scratch = vec![0u8; 24 << 20];
+    let mut rows = vec![0u64; 3 << 18];
+    // all bytes in the order of their addresses, to take queries from
+    let all: Vec<u8> = made.iter().flat_map(|b| b.data.iter().copied()).collect();
+    println!("{:24} {:>12} {:>12} {:>12}   rows, port and published", "search, microseconds", "with test", "proper", "published");
+    for len in [1usize, 4, 13, 16, 64, 256] {
+        let mut r = Random(len as u64 + 77);
+        let queries: Vec<&[u8]> = (0..41).map(|_| { let at = r.next() as usize % (all.len() - len); &all[at..at + len] }).collect();
+        let mut k = 0;
+        let mut next = || { k += 1; queries[k % queries.len()] };
+        let whole = middle(9, || { black_box(linked::search(&mem, next(), &mut scratch, &mut rows)); });
+        let times = if len == 1 { 401 } else { 4001 };
+        let proper = middle(times, || { black_box(linked::search_image(image, next(), &mut scratch, &mut rows)); });
+        let rust = middle(times, || { black_box(index.search(next())); });
+        let ours: u64 = queries.iter().map(|q| linked::search(&mem, q, &mut scratch, &mut rows)).map(|(n, c)| { assert_eq!(n, 0); c }).sum();
+        let theirs: usize = queries.iter().map(|q| index.search(q).len()).sum();
+        println!("{:24} {:12.1} {:12.2} {:12.2}   {ours} {theirs}", format!("{len} bytes"), whole, proper, rust);
+    }
+}
