@@ -1,17 +1,13 @@
-//! The calls of the port, as its archives export them: a slice is a pointer and a length.
+//! The calls of the port, as its archive exports them: a slice is a pointer and a length.
 #[link(name = "helmapricot", kind = "static")]
 extern "C" {
     fn helmapricot_open(mem: *mut u8, len: usize, nodes: u64, entries: u64) -> u64;
     fn helmapricot_record(mem: *mut u8, len: usize, kind: u64, address: u64, created_at: u64, destroyed_at: u64, data: *const u8, data_len: usize) -> u64;
     fn helmapricot_finish(mem: *mut u8, len: usize) -> u64;
     fn helmapricot_search(mem: *const u8, len: usize, q: *const u8, q_len: usize, scratch: *mut u8, scratch_len: usize, rows: *mut u64, rows_len: usize, count: *mut u64) -> u64;
-}
-
-#[link(name = "timed_parts", kind = "static")]
-extern "C" {
-    fn helmapricot_check(image: *const u8, len: usize) -> u64;
-    fn helmapricot_layout(image: *const u8, len: usize) -> u64;
-    fn helmapricot_search_image(image: *const u8, len: usize, q: *const u8, q_len: usize, scratch: *mut u8, scratch_len: usize, rows: *mut u64, rows_len: usize) -> u64;
+    fn helmapricot_save(mem: *const u8, len: usize, out: *mut u8, out_len: usize, size: *mut u64) -> u64;
+    fn helmapricot_load(mem: *mut u8, len: usize, image: *const u8, image_len: usize) -> u64;
+    fn helmapricot_read_block(s: *const u8, len: usize, at: usize, fields: *mut u64) -> u64;
 }
 
 pub fn open(mem: &mut [u8], nodes: u64, entries: u64) -> u64 {
@@ -26,22 +22,26 @@ pub fn finish(mem: &mut [u8]) -> u64 {
     unsafe { helmapricot_finish(mem.as_mut_ptr(), mem.len()) }
 }
 
-/// The number of the refusal, 0 for none, and how many rows there are.
+/// The number of the refusal, 0 for none, and how many rows there are. The call writes the count, refused or not.
 pub fn search(mem: &[u8], q: &[u8], scratch: &mut [u8], rows: &mut [u64]) -> (u64, u64) {
-    let mut count = 0;
+    let mut count = u64::MAX;
     let n = unsafe { helmapricot_search(mem.as_ptr(), mem.len(), q.as_ptr(), q.len(), scratch.as_mut_ptr(), scratch.len(), rows.as_mut_ptr(), rows.len(), &mut count) };
     (n, count)
 }
 
-pub fn check(image: &[u8]) -> u64 {
-    unsafe { helmapricot_check(image.as_ptr(), image.len()) }
+/// The number of the refusal, 0 for none, and how many bytes the image has. The call writes the size, refused or not.
+pub fn save(mem: &[u8], out: &mut [u8]) -> (u64, u64) {
+    let mut size = u64::MAX;
+    let n = unsafe { helmapricot_save(mem.as_ptr(), mem.len(), out.as_mut_ptr(), out.len(), &mut size) };
+    (n, size)
 }
 
-pub fn layout(image: &[u8]) -> u64 {
-    unsafe { helmapricot_layout(image.as_ptr(), image.len()) }
+pub fn load(mem: &mut [u8], image: &[u8]) -> u64 {
+    unsafe { helmapricot_load(mem.as_mut_ptr(), mem.len(), image.as_ptr(), image.len()) }
 }
 
-/// The search without the test of the image, which must have passed it: how many rows, or the largest number where refused.
-pub fn search_image(image: &[u8], q: &[u8], scratch: &mut [u8], rows: &mut [u64]) -> u64 {
-    unsafe { helmapricot_search_image(image.as_ptr(), image.len(), q.as_ptr(), q.len(), scratch.as_mut_ptr(), scratch.len(), rows.as_mut_ptr(), rows.len()) }
+/// The number of the refusal, 0 for none; whether there is a block, kind, address, length, ticks and the next cursor go
+/// into fields.
+pub fn read_block(s: &[u8], at: usize, fields: &mut [u64; 7]) -> u64 {
+    unsafe { helmapricot_read_block(s.as_ptr(), s.len(), at, fields.as_mut_ptr()) }
 }

@@ -22,7 +22,7 @@ pub fn flush(out: &[u8], at: usize) {
 }
 
 // Where a reply has room in the output: at, or its start after what stands there was written out.
-fn room(out: &[u8], at: usize) -> usize
+pub fn room(out: &[u8], at: usize) -> usize
     requires { ⌜ 71 ≤ length (now out) ⌝ }
     ensures { λ r. ⌜ r + 71 ≤ length (now (out .entry)) ⌝ }
 {
@@ -41,7 +41,7 @@ pub fn refuse(out: &mut [u8], at: usize, n: u64) -> usize
     replies::put_refused(out, a, n)
 }
 
-fn at_most(n: usize, limit: usize) -> usize
+pub fn at_most(n: usize, limit: usize) -> usize
     ensures { λ r. ⌜ r ≤ limit ⌝ }
 {
     if n <= limit { n } else { limit }
@@ -137,4 +137,12 @@ pub fn answer(mem: &mut [u8], line: &[u8], out: &mut [u8], at: usize) -> usize
         }
         Form::Bad => refuse(out, at, definitions::NO_FORM),
     }
+}
+
+// Where the line from index p on ends in an input.
+pub fn end_from(input: &[u8], p: usize) -> usize
+    requires { ⌜ p ≤ length (now input) ⌝ }
+    ensures { λ r. ⌜ (p ≤ r) × (r ≤ length (now (input .entry))) ⌝ }
+{
+    lines::line_end(input, p)
 }

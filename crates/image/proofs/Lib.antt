@@ -6,6 +6,7 @@ pub mod Tables
 pub mod Nodes
 pub mod Roots
 pub mod AnswerLaws
+pub mod ThinNodes
 -- what was written is read back
 pub mod Holding
 pub mod KindThree

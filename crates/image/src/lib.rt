@@ -1,6 +1,7 @@
 // The layout of a saved image, read in its own order: the first faulty field decides.
 mod kinds;
 mod sparse;
+mod thin;
 
 pub use kinds::KINDS;
 pub use kinds::KindRange;
@@ -105,6 +106,14 @@ fn read_list(s: &[u8], at: usize) -> Past
         return refuse(definitions::CUT_SHORT);
     }
     let n = words::get64(s, at) as usize;
+    if n == 0 {
+        return Past {
+            at: at + 8,
+            refusal: 0,
+            nodes: 0,
+            entries: 0,
+        };
+    }
     if (room - 8) / 24 < n {
         return refuse(definitions::CUT_SHORT);
     }
@@ -310,14 +319,17 @@ fn read_table(s: &[u8], c: Children, left: usize) -> Past
 }
 
 // The node at an index, with as many levels yet allowed as left says: where there is none, the flag before it is wrong.
+// It steps over thin nodes first, which are most of them.
 fn read_node(s: &[u8], at: usize, left: usize) -> Past
     requires { ⌜ at ≤ length (now s) ⌝ }
     ensures { λ r. ⌜ step-of r ≡ read-node (now (s .entry)) left at ⌝ }
 {
-    if left == 0 {
+    let thin = thin::thin_run(s, at, left);
+    let levels = left - thin;
+    if levels == 0 {
         return refuse(definitions::IMAGE_BROKEN);
     }
-    let h = read_head(s, at);
+    let h = read_head(s, at + 43 * thin);
     if h.refusal != 0 {
         return refuse(h.refusal);
     }
@@ -325,14 +337,14 @@ fn read_node(s: &[u8], at: usize, left: usize) -> Past
     if c.refusal != 0 {
         return refuse(c.refusal);
     }
-    let t = read_table(s, c, left - 1);
+    let t = read_table(s, c, levels - 1);
     if t.refusal != 0 {
         return t;
     }
     Past {
         at: t.at,
         refusal: 0,
-        nodes: t.nodes + 1,
+        nodes: t.nodes + 1 + thin,
         entries: h.entries + t.entries,
     }
 }

@@ -16,3 +16,5 @@ pub mod Forest
 -- the whole image
 pub mod Whole
 pub mod Theorems
+pub mod RunLaws
+pub mod LoneLaws

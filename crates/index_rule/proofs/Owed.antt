@@ -24,6 +24,16 @@ and-not a b e = ap (λ (x : Bool). x && b) e
 pub and-so : (a b r : Bool) → true ≡ a → r ≡ b → r ≡ (a && b)
 and-so a b r e f = f ∙ ap (λ (x : Bool). x && b) e
 
+-- the last failed
+pub and-last : (a b : Bool) → false ≡ b → false ≡ (a && b)
+and-last true b e = e
+and-last false b e = refl
+
+-- the last held, so the first decides
+pub and-first : (a b r : Bool) → r ≡ a → true ≡ b → r ≡ (a && b)
+and-first true b r e f = e ∙ f
+and-first false b r e f = e
+
 -- ── counts ──
 
 counted-nil : (s : List ℕ) (n at : ℕ) → eqb n 0 ≡ is-nil (locations-in s n at)

@@ -58,9 +58,9 @@ module _ (s : List ℕ) (h : RootHere s) (c : Parts) (g : c ≡ parts-at s 0) wh
   pub root-table : HasTable s (c .table) (c .children)
   root-table = record { depth = 16; forest = h .node .children; is = root-is .table }
 
-  pub root-asked : (fronts : List ℕ) (count : ℕ) (lists : List ℕ) → RootFronts s (c .table) (c .children) fronts count → 8704 ≤ length fronts → 1024 ≤ length lists → ChildrenAsked s c 0 fronts count lists 16
+  pub root-asked : (fronts : List ℕ) (count : ℕ) (lists : List ℕ) → RootFronts s (c .table) (c .children) fronts count → 8704 ≤ length fronts → 1024 ≤ length lists → ChildrenAsked s (c .table) (c .children) 0 fronts count lists 16
   root-asked fronts count lists f l m =
-      record { node = h .node; is = root-is; nodes = siblings (h .node .children); fronts-here = f .are 16 (h .node .children) (root-is .table); levels = omega arith; room = l; lists-room = m }
+      record { forest = h .node .children; is = root-is .table; nodes = siblings (h .node .children); fronts-here = f .are 16 (h .node .children) (root-is .table); levels = omega arith; room = l; lists-room = m }
 
   module _ (v : Bool) (e : SaysNode s c 0 v) where
     pub rule-not-node : v ≡ false → false ≡ index-rule (trie-in s)
@@ -69,13 +69,13 @@ module _ (s : List ℕ) (h : RootHere s) (c : Parts) (g : c ≡ parts-at s 0) wh
         and-not (node-right 0 (n .lists) (n .children)) (fronts-within (siblings (n .children)) (n .children) && forest-right (siblings (n .children)) 1 (n .children)) (sym z ∙ e 16 n root-is)
         ∙ ap index-rule (sym (h .trie))
 
-    pub rule-by-children : v ≡ true → (fronts : List ℕ) (count : ℕ) → RootFronts s (c .table) (c .children) fronts count → (last : List ℕ) (r : Bool) → ChildrenSays s c 0 fronts count 16 last r →
+    pub rule-by-children : v ≡ true → (fronts : List ℕ) (count : ℕ) → RootFronts s (c .table) (c .children) fronts count → (last : List ℕ) (r : Bool) → ChildrenSays s (c .table) (c .children) 0 fronts count 16 last r →
         r ≡ index-rule (trie-in s)
     unfolding children-right
     rule-by-children z fronts count f last r x =
         let n = h .node in
         let w : r ≡ (fronts-within (siblings (n .children)) (n .children) && forest-right (siblings (n .children)) 1 (n .children)) =
-        x .says n (siblings (n .children)) root-is (f .are 16 (n .children) (root-is .table)) in
+        x .says (n .children) (siblings (n .children)) (root-is .table) (f .are 16 (n .children) (root-is .table)) in
         and-so (node-right 0 (n .lists) (n .children)) (fronts-within (siblings (n .children)) (n .children) && forest-right (siblings (n .children)) 1 (n .children)) r (sym z ∙ e 16 n root-is) w
         ∙ ap index-rule (sym (h .trie))
 

@@ -64,9 +64,9 @@ child-right b depth fs n =
     is-union 1 (n .lists .prefixes) (front-lists (next-fronts b fs)) &&
     (node-right depth (n .lists) (n .children) && (fronts-within (next-fronts b fs) (n .children) && forest-right (next-fronts b fs) (suc depth) (n .children)))
 
--- the children of a node with the fronts fs
-unfoldable pub children-right : ℕ → List Node → Node → Bool
-children-right depth fs n = fronts-within fs (n .children) && forest-right fs (suc depth) (n .children)
+-- siblings at depth + 1 whose parent has the fronts fs
+unfoldable pub children-right : ℕ → List Node → Forest → Bool
+children-right depth fs g = fronts-within fs g && forest-right fs (suc depth) g
 
 -- the node at an index and its parent's fronts, where left levels are left below the node; there is room on the stack for theirs
 pub record ChildAsked (s : List ℕ) (at depth : ℕ) (fronts : List ℕ) (count : ℕ) (lists : List ℕ) (left : ℕ) : Type 0 where
@@ -82,16 +82,16 @@ pub record ChildSays (s : List ℕ) (b at depth : ℕ) (old : List ℕ) (count l
   pub kept : KeptBelow ((depth + 1) * 512) old fronts
   pub says : (n : Node) (fs : List Node) → NodeHere s left at n → FrontsHere s left old (depth * 512) count fs → r ≡ child-right b (depth + 1) fs n
 
--- the parts of a node and its fronts, where left levels are left below the node
-pub record ChildrenAsked (s : List ℕ) (p : Parts) (depth : ℕ) (fronts : List ℕ) (count : ℕ) (lists : List ℕ) (left : ℕ) : Type 0 where
-  pub node : Node
-  pub is : PartsOf s left p node
+-- the table of a node and its fronts, where left levels are left below the node
+pub record ChildrenAsked (s : List ℕ) (table children depth : ℕ) (fronts : List ℕ) (count : ℕ) (lists : List ℕ) (left : ℕ) : Type 0 where
+  pub forest : Forest
+  pub is : TableOf s left table children forest
   pub nodes : List Node
   pub fronts-here : FrontsHere s (left - 1) fronts (depth * 512) count nodes
   pub levels : depth + left ≤ 16
   pub room : 8704 ≤ length fronts
   pub lists-room : 1024 ≤ length lists
 
-pub record ChildrenSays (s : List ℕ) (p : Parts) (depth : ℕ) (old : List ℕ) (count left : ℕ) (fronts : List ℕ) (r : Bool) : Type 0 where
+pub record ChildrenSays (s : List ℕ) (table children depth : ℕ) (old : List ℕ) (count left : ℕ) (fronts : List ℕ) (r : Bool) : Type 0 where
   pub kept : KeptBelow ((depth + 1) * 512) old fronts
-  pub says : (n : Node) (fs : List Node) → PartsOf s left p n → FrontsHere s (left - 1) old (depth * 512) count fs → r ≡ children-right depth fs n
+  pub says : (g : Forest) (fs : List Node) → TableOf s left table children g → FrontsHere s (left - 1) old (depth * 512) count fs → r ≡ children-right depth fs g

@@ -1,8 +1,11 @@
 // The finished index rule, tested on an image in place; and the whole check of an image.
+mod runs;
+
 use image_walk::Child;
 use image_walk::Node;
 use image_walk::Slot;
 ghost use mathlib.Core.Path.{_≡_};
+ghost use mathlib.Core.Bool.{true, false};
 ghost use Prim.Native.Nat.{_+_, _*_, _^_, _≤_, _<_};
 ghost use lib.ListN.{length};
 ghost use Rattle.trie.specs.Test.{index-rule};
@@ -12,6 +15,7 @@ ghost use Rattle.image.specs.Answers.{layout-of};
 ghost use Rattle.index_rule.specs.Parts.{HasTable, HasParts};
 ghost use Rattle.index_rule.specs.Fronts.{HasFronts, with-front};
 ghost use Rattle.index_rule.specs.Says.{with-two, ChildLists, SaysOwed, SaysLists, SaysSuffixes, SaysNode, SaysWithin, SaysFronts, RootFronts, NextFronts, ChildAsked, ChildSays, ChildrenAsked, ChildrenSays};
+ghost use Rattle.index_rule.specs.Runs.{LeafParts, LeafSays, LoneSays, SaysNone};
 ghost use Rattle.index_rule.specs.Check.{LayoutRight, check-image};
 
 // Whether a node other than the root that has no child has a prefix or a chunk, and the root has no prefix.
@@ -224,6 +228,156 @@ fn next_fronts(
     }
 }
 
+// Whether the child in a table of one entry has neither chunk nor suffix.
+fn owes_none(s: &[u8], table: usize, lists: &mut [usize]) -> bool
+    requires { ⌜ HasTable (now s) table 1 × (1024 ≤ length (now lists)) ⌝ }
+    ensures { λ r. ⌜ SaysNone (now (s .entry)) table r ⌝ }
+{
+    let count = child_lists(s, table, 1, lists);
+    location_lists::is_union(s, 0, 0, 0, lists, count)
+}
+
+// Whether a node is a leaf with one prefix, and neither chunk nor suffix.
+fn is_leaf(n: Node) -> bool
+    ensures { λ r. ⌜ (r ≡ true → LeafParts n) ⌝ }
+{
+    if n.children != 0 {
+        return false;
+    }
+    if n.chunk_count != 0 {
+        return false;
+    }
+    if n.suffix_count != 0 {
+        return false;
+    }
+    n.prefix_count == 1
+}
+
+// Whether a leaf is right, if found is true.
+struct Leaf {
+    pub found: bool,
+    pub right: bool,
+}
+
+fn no_leaf() -> Leaf
+    ensures { λ r. ⌜ r .found ≡ false ⌝ }
+{
+    Leaf {
+        found: false,
+        right: false,
+    }
+}
+
+// The children in two tables of one entry, of a node and of its front, if they are leaves by the same byte.
+fn leaf_right(s: &[u8], table: usize, other: usize, lists: &mut [usize]) -> Leaf
+    requires { ⌜ HasTable (now s) table 1 × HasTable (now s) other 1 × (1024 ≤ length (now lists)) ⌝ }
+    ensures { λ r. ⌜ (r .found ≡ true → LeafSays (now (s .entry)) table other (r .right)) ⌝ }
+{
+    let slot = image_walk::slot_in(s, table, 1, 0);
+    let Slot::Taken { byte, at } = slot else {
+        return no_leaf();
+    };
+    let front = image_walk::slot_in(s, other, 1, 0);
+    let Slot::Taken { byte: b, at: to } = front else {
+        return no_leaf();
+    };
+    if byte != b {
+        return no_leaf();
+    }
+    let c = image_walk::node_at(s, at);
+    if !is_leaf(c) {
+        return no_leaf();
+    }
+    let f = image_walk::node_at(s, to);
+    if f.children != 0 {
+        return no_leaf();
+    }
+    let n = add_two(
+        lists,
+        0,
+        f.chunks,
+        f.chunk_count,
+        f.prefixes,
+        f.prefix_count,
+    );
+    Leaf {
+        found: true,
+        right: location_lists::is_union(s, c.prefixes, c.prefix_count, 1, lists, n),
+    }
+}
+
+// Where the run below a node ends, and whether its last node is right; or all below it, if the run ended at leaves.
+struct Lone {
+    pub levels: usize,
+    pub table: usize,
+    pub right: bool,
+    pub ended: bool,
+}
+
+fn no_run(table: usize) -> Lone
+    ensures { λ r. ⌜ (r .levels ≡ 0) × (r .table ≡ table) × (r .right ≡ true) × (r .ended ≡ false) ⌝ }
+{
+    Lone {
+        levels: 0,
+        table,
+        right: true,
+        ended: false,
+    }
+}
+
+// A run that ended at leaves.
+fn leaf_run(table: usize, right: bool) -> Lone
+    ensures { λ r. ⌜ (r .levels ≡ 0) × (r .table ≡ table) × (r .right ≡ right) × (r .ended ≡ true) ⌝ }
+{
+    Lone {
+        levels: 0,
+        table,
+        right,
+        ended: true,
+    }
+}
+
+// The run below a node at depth; its last front is put on the stack.
+fn lone_run(
+    s: &[u8],
+    table: usize,
+    children: usize,
+    depth: usize,
+    fronts: &mut [usize],
+    count: usize,
+    lists: &mut [usize],
+    left: usize,
+) -> Lone
+    requires { ⌜ ChildrenAsked (now s) table children depth (now fronts) count (now lists) left ⌝ }
+    ensures { λ r. ⌜ LoneSays (now (s .entry)) table children depth (now (fronts .entry)) count left (now (fronts .exit)) (r .levels) (r .table) (r .right) (r .ended) ⌝ }
+{
+    if count != 1 {
+        return no_run(table);
+    }
+    if children != 1 {
+        return no_run(table);
+    }
+    let from = depth * 512;
+    if fronts[from + 1] != 1 {
+        return no_run(table);
+    }
+    let run = runs::common_run(s, table, fronts[from], left);
+    let leaf = leaf_right(s, run.table, run.other, lists);
+    if leaf.found {
+        return leaf_run(table, leaf.right);
+    }
+    if run.levels == 0 {
+        return no_run(table);
+    }
+    put_front(fronts, (depth + run.levels) * 512, run.other, 1);
+    Lone {
+        levels: run.levels,
+        table: run.table,
+        right: owes_none(s, run.table, lists),
+        ended: false,
+    }
+}
+
 // One child of a node at depth, by byte at index at: its prefixes are the chunks and prefixes of its fronts, one address
 // further on, and it and all below it is right, where left levels are left below it.
 fn child_right(
@@ -244,42 +398,59 @@ fn child_right(
     if !location_lists::is_union(s, c.prefixes, c.prefix_count, 1, lists, found.lists) {
         return false;
     }
-    if !node_right(s, c, depth + 1, lists) {
+    // The nodes below come first, so that the image is read in its order.
+    if !children_right(
+        s,
+        c.table,
+        c.children,
+        depth + 1,
+        fronts,
+        found.fronts,
+        lists,
+        left,
+    ) {
         return false;
     }
-    children_right(s, c, depth + 1, fronts, found.fronts, lists, left)
+    node_right(s, c, depth + 1, lists)
 }
 
-// The children of a node at depth: each child of a front is a front of one of them, and each is right.
+// The children in the table of a node at depth: each is right, and each child of a front is a front of one of them.
 fn children_right(
     s: &[u8],
-    n: Node,
+    table: usize,
+    children: usize,
     depth: usize,
     fronts: &mut [usize],
     count: usize,
     lists: &mut [usize],
     left: usize,
 ) -> bool
-    requires { ⌜ ChildrenAsked (now s) n depth (now fronts) count (now lists) left ⌝ }
-    ensures { λ r. ⌜ ChildrenSays (now (s .entry)) n depth (now (fronts .entry)) count left (now (fronts .exit)) r ⌝ }
+    requires { ⌜ ChildrenAsked (now s) table children depth (now fronts) count (now lists) left ⌝ }
+    ensures { λ r. ⌜ ChildrenSays (now (s .entry)) table children depth (now (fronts .entry)) count left (now (fronts .exit)) r ⌝ }
 {
-    if left == 0 {
-        return true;
+    let run = lone_run(s, table, children, depth, fronts, count, lists, left);
+    if run.ended {
+        return run.right;
     }
-    if !fronts_within(s, n.table, n.children, fronts, depth * 512, count) {
+    if !run.right {
         return false;
     }
+    let levels = left - run.levels;
+    if levels == 0 {
+        return true;
+    }
+    let here = depth + run.levels;
     let mut j = 0;
-    while j < n.children {
-        let slot = image_walk::slot_in(s, n.table, n.children, j);
+    while j < children {
+        let slot = image_walk::slot_in(s, run.table, children, j);
         j += 1;
         if let Slot::Taken { byte, at } = slot {
-            if !child_right(s, byte, at, depth, fronts, count, lists, left - 1) {
+            if !child_right(s, byte, at, here, fronts, count, lists, levels - 1) {
                 return false;
             }
         }
     }
-    true
+    fronts_within(s, run.table, children, fronts, here * 512, count)
 }
 
 // Whether the finished index rule holds of an image whose layout is right.
@@ -297,7 +468,16 @@ pub fn index_rule(s: &[u8]) -> bool
         return false;
     }
     let count = root_fronts(s, root.table, root.children, &mut fronts);
-    children_right(s, root, 0, &mut fronts, count, &mut lists, 16)
+    children_right(
+        s,
+        root.table,
+        root.children,
+        0,
+        &mut fronts,
+        count,
+        &mut lists,
+        16,
+    )
 }
 
 // An image: its layout, and then the index rule of what it holds.

@@ -1,18 +1,16 @@
 -- Sorted locations by their address: those below a key stand first. Assumes nothing.
-use Prim.Native.Nat.{ℕ, suc, _+_, _-_, _*_, _^_, _≤_, _<_}
+use Prim.Native.Nat.{ℕ, zero, suc, _+_, _-_, _*_, _/_, _≤_, _<_}
 use native.Mathlib.Omega.{arith}
 use mathlib.Core.Path.{_≡_, refl, sym, ap, subst, _∙_}
 use mathlib.Core.Bool.{Bool, true, false, cond}
+use mathlib.Core.Logic.{_⊎_, inl, inr}
 use mathlib.Core.List.{List, [], _∷_, _++_, List·Memᴰ as Mem, List·Memᴰ·head as here, List·Memᴰ·tail as later}
 use lib.ListN.{length}
 use lib.Dec.{ltb}
-use Rattle.words.specs.Words.{le64, setLe64}
-use Rattle.words.proofs.Laws.{le64-setLe64}
-use Rattle.sort.specs.Records.{recordAt, records, lexLt, firstFrom}
+use Rattle.words.specs.Words.{le64}
 use Rattle.definitions.specs.Location.{Location, Sorted, location-at, locations-in}
 use Rattle.definitions.proofs.Order.{Less}
-use Rattle.definitions.proofs.Views.{Lt, lt}
-use Rattle.place_buffer.proofs.Triples.{triple, triples, records-triples}
+use Rattle.definitions.proofs.Views.{Lt, lt, lt-or-le}
 use Rattle.place_buffer.proofs.Scratch.{length-locations, locations-append}
 use Rattle.joining.specs.Below.{below-count, From}
 
@@ -64,32 +62,7 @@ module _ (key : ℕ) where
       go true ih e = ih (omega arith)
       go false ih e = absurd (omega arith)
 
-  -- the same count, of records with a key of one number
-  lex-address : (l : Location) → lexLt (triple l) (key ∷ []) ≡ ltb (l .address) key
-  unfolding lexLt
-  lex-address l = go (ltb (l .address) key) (ltb key (l .address))
-    where
-      go : (o o′ : Bool) → cond o true (cond o′ false false) ≡ o
-      go true o′ = refl
-      go false true = refl
-      go false false = refl
-
-  first-below : (ls : List Location) → firstFrom (key ∷ []) (triples ls) ≡ below-count key ls
-  unfolding firstFrom below-count
-  first-below [] = refl
-  first-below (l ∷ ls) =
-      let r = first-below ls in
-      rw (lex-address l, r)
-
 -- ── in bytes ──
-
--- `first_from` at a key that was written over `none`
-pub key-below : (n : ℕ) (s : List ℕ) (at key : ℕ) (none bytes : List ℕ) (i : ℕ) → key < 2 ^ 64 → 8 ≤ length none → bytes ≡ setLe64 none 0 key
-    → i ≡ firstFrom (recordAt 1 bytes 0) (records 3 n s at) → i ≡ below-count key (locations-in s n at)
-unfolding recordAt
-key-below n s at key none bytes i f long ek e =
-    let a : recordAt 1 bytes 0 ≡ key ∷ [] = ap (λ (x : ℕ). x ∷ []) (ap (λ (x : List ℕ). le64 x 0) ek ∙ le64-setLe64 none 0 key long f) in
-    rw (a, records-triples n s at) at e ∙ first-below key (locations-in s n at)
 
 pub locations-first : (s : List ℕ) (n at : ℕ) → 0 < n → locations-in s n at ≡ location-at s at ∷ locations-in s (n - 1) (at + 24)
 unfolding locations-in
@@ -123,3 +96,50 @@ parted s n at key i up e =
       behind = behind-from key (locations-in s i at) (locations-in s (n - i) (at + i * 24)) up′ count;
       in-order = sorted-behind (locations-in s i at) (locations-in s (n - i) (at + i * 24)) up′;
     }
+
+-- ── the search for the key, by halves ──
+
+location-listed : (n : ℕ) (s : List ℕ) (at i : ℕ) → i < n → Mem (location-at s (at + i * 24)) (locations-in s n at)
+unfolding locations-in
+location-listed zero s at i h = absurd (omega arith)
+location-listed (suc n) s at zero h = let e : at + 0 * 24 ≡ at = omega arith in rw e (here refl)
+location-listed (suc n) s at (suc i) h =
+    let e : at + suc i * 24 ≡ at + 24 + i * 24 = omega arith in
+    rw e (later (location-listed n s (at + 24) i (omega arith)))
+
+module _ (s : List ℕ) (n at key : ℕ) (up : Sorted Less (locations-in s n at)) where
+  abbrev below : ℕ
+  below = below-count key (locations-in s n at)
+
+  -- a location with an address below the key is one of those counted
+  counted : (i : ℕ) → i < n → le64 s (at + i * 24) < key → i < below
+  counted i h l = go (lt-or-le i below)
+    where
+      d : Parted s n at key below
+      d = parted s n at key below up refl
+
+      go : (i < below) ⊎ (below ≤ i) → i < below
+      go (inl k) = k
+      go (inr k) =
+          let e : at + below * 24 + (i - below) * 24 ≡ at + i * 24 = omega arith in
+          let m : Mem (location-at s (at + i * 24)) (locations-in s (n - below) (at + below * 24)) =
+          subst (λ (x : ℕ). Mem (location-at s x) (locations-in s (n - below) (at + below * 24))) e (location-listed (n - below) s (at + below * 24) (i - below) (omega arith)) in
+          absurd (omega (arith, d .behind (location-at s (at + i * 24)) m))
+
+  -- one with another is not
+  passed : (i : ℕ) → i < n → key ≤ le64 s (at + i * 24) → below ≤ i
+  passed i h l = go (lt-or-le i below)
+    where
+      go : (i < below) ⊎ (below ≤ i) → below ≤ i
+      go (inr k) = k
+      go (inl k) = absurd (omega (arith, parted s n at key below up refl .front (location-at s (at + i * 24)) (location-listed below s at i k)))
+
+  -- the count is at least low, and at most left above it
+  pub halve : {r : ℕ} (low left half : ℕ) → low ≤ below → below ≤ low + left → low + left ≤ n → 0 < left → half ≡ left - left / 2 → r ≡ cond (ltb (le64 s (at + (low + half - 1) * 24)) key) half 0
+      → (low + r ≤ below) × (below ≤ low + r + (left - half)) × (low + r + (left - half) ≤ n) × (r ≤ half)
+  halve {r} low left half a b c z eh er =
+      go (ltb (le64 s (at + (low + half - 1) * 24)) key) (lt (le64 s (at + (low + half - 1) * 24)) key) er
+    where
+      go : (o : Bool) → Lt o (le64 s (at + (low + half - 1) * 24)) key → r ≡ cond o half 0 → (low + r ≤ below) × (below ≤ low + r + (left - half)) × (low + r + (left - half) ≤ n) × (r ≤ half)
+      go true t e = let k = counted (low + half - 1) (omega arith) t in (omega arith, omega arith, omega arith, omega arith)
+      go false t e = let k = passed (low + half - 1) (omega arith) t in (omega arith, omega arith, omega arith, omega arith)

@@ -3,9 +3,12 @@ use location::Common;
 use location::SpacetimeLocation;
 use place_buffer::Places;
 ghost use mathlib.Core.Path.{_≡_};
+ghost use mathlib.Core.Bool.{cond};
 ghost use mathlib.Core.List.{[], _∷_};
 ghost use Prim.Native.Nat.{_+_, _-_, _*_, _≤_};
 ghost use lib.ListN.{length};
+ghost use lib.Dec.{ltb};
+ghost use Rattle.words.specs.Words.{le64};
 ghost use Rattle.definitions.specs.Location.{Sorted, locations-in};
 ghost use Rattle.definitions.specs.Places.{joins};
 ghost use Rattle.definitions.proofs.Order.{Less};
@@ -55,14 +58,27 @@ fn join_equal(
     r
 }
 
+// So many where the address at byte p of img is below key, and else none. A number, so that the search does not branch.
+fn so_many_below(img: &[u8], p: usize, key: u64, many: usize) -> usize
+    requires { ⌜ p + 8 ≤ length (now img) ⌝ }
+    ensures { λ r. ⌜ r ≡ cond (ltb (le64 (now (img .entry)) p) key) many 0 ⌝ }
+{
+    if words::get64(img, p) < key { many } else { 0 }
+}
+
 // How many of the n sorted locations from byte at of img on have an address below key.
 fn count_below(img: &[u8], at: usize, n: usize, key: u64) -> usize
     requires { ⌜ (at + n * 24 ≤ length (now img)) × Sorted Less (locations-in (now img) n at) ⌝ }
     ensures { λ r. ⌜ r ≡ below-count key (locations-in (now (img .entry)) n at) ⌝ }
 {
-    let mut bytes = [0u8; 8];
-    words::put64(&mut bytes, 0, key);
-    sort::first_from(img, at, 3, n, &bytes, 1)
+    let mut low = 0;
+    let mut left = n;
+    while 0 < left {
+        let half = left - left / 2;
+        low += so_many_below(img, at + (low + half - 1) * 24, key, half);
+        left -= half;
+    }
+    low
 }
 
 // Joins the place m to those of the n sorted locations from byte at of img on that end where it begins, k bytes further on.
@@ -115,6 +131,86 @@ pub fn filter_results(
         let m = location::location_at(scratch, t * 24);
         r = join_place(img, at, n, k, m, scratch, r);
         t += 1;
+    }
+    r
+}
+
+// Joins l to those of the n sorted locations from byte at of img on that have the address key, which are the first.
+fn join_onward(
+    img: &[u8],
+    at: usize,
+    n: usize,
+    key: u64,
+    l: SpacetimeLocation,
+    scratch: &mut [u8],
+    p: Places,
+) -> Places
+    requires { ⌜ (at + n * 24 ≤ length (now img)) × Sorted Less (locations-in (now img) n at) × From key (locations-in (now img) n at) × Valid (now scratch) p ⌝ }
+    ensures { λ r. ⌜ Taken (now (scratch .entry)) (now (scratch .exit)) p (joins (plain l) key (locations-in (now (img .entry)) n at)) r ⌝ }
+{
+    let mut r = p;
+    let mut j = 0;
+    while j < n {
+        if r.full {
+            return r;
+        }
+        let m = location::location_at(img, at + j * 24);
+        if key < m.address.0 {
+            return r;
+        }
+        r = join_one(l, m, scratch, r);
+        j += 1;
+    }
+    r
+}
+
+// Joins l, of k bytes, to those of the n sorted locations from byte at of img on that begin where it ends.
+fn join_location(
+    img: &[u8],
+    at: usize,
+    n: usize,
+    k: usize,
+    l: SpacetimeLocation,
+    scratch: &mut [u8],
+    p: Places,
+) -> Places
+    requires { ⌜ (at + n * 24 ≤ length (now img)) × Sorted Less (locations-in (now img) n at) × Valid (now scratch) p ⌝ }
+    ensures { λ r. ⌜ Taken (now (scratch .entry)) (now (scratch .exit)) p (joins (plain l) (l .address .0 + k) (locations-in (now (img .entry)) n at)) r ⌝ }
+{
+    let a = l.address.0;
+    let size = k as u64;
+    if u64::MAX - a < size {
+        return p;
+    }
+    let key = a + size;
+    let first = count_below(img, at, n, key);
+    join_onward(img, at + first * 24, n - first, key, l, scratch, p)
+}
+
+// Joins the n locations of k bytes from byte at of img on with the m sorted locations from byte to of img on.
+// It serves where those are many: each location looks up where it ends.
+pub fn filter_lists(
+    img: &[u8],
+    at: usize,
+    n: usize,
+    k: usize,
+    to: usize,
+    m: usize,
+    scratch: &mut [u8],
+    p: Places,
+) -> Places
+    requires { ⌜ (at + n * 24 ≤ length (now img)) × (to + m * 24 ≤ length (now img)) × Sorted Less (locations-in (now img) m to) × Valid (now scratch) p ⌝ }
+    ensures { λ r. ⌜ Taken (now (scratch .entry)) (now (scratch .exit)) p (joins-each k (locations-in (now (img .entry)) n at) (locations-in (now (img .entry)) m to)) r ⌝ }
+{
+    let mut r = p;
+    let mut u = 0;
+    while u < n {
+        if r.full {
+            return r;
+        }
+        let l = location::location_at(img, at + u * 24);
+        r = join_location(img, to, m, k, l, scratch, r);
+        u += 1;
     }
     r
 }

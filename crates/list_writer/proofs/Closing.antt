@@ -1,7 +1,7 @@
 -- Locations sorted, each once, with their count before them: a list of the image. Assumes nothing.
-use Prim.Native.Nat.{ℕ, _+_, _*_, _≤_, _<_}
+use Prim.Native.Nat.{ℕ, zero, suc, _+_, _*_, _≤_, _<_}
 use native.Mathlib.Omega.{arith}
-use mathlib.Core.Path.{_≡_, sym, ap, subst, _∙_}
+use mathlib.Core.Path.{_≡_, refl, sym, ap, subst, _∙_}
 use mathlib.Core.Logic.{_⊎_, inl, inr}
 use mathlib.Core.List.{List}
 use lib.ListN.{length, getD}
@@ -9,9 +9,11 @@ use lib.Seq.{sets, length-sets}
 use Rattle.words.specs.Words.{setLe64, bytes64}
 use Rattle.words.proofs.Laws.{length-setLe64, getD-setLe64}
 use Rattle.words.proofs.Parts.{getD-sets-out, setLe64-sets, length-bytes64}
-use Rattle.sort.specs.Records.{records, recordsBytes, sorted, dropRepeats}
+use Rattle.sort.specs.Records.{records, recordsBytes, sorted, dropRepeats, dropAfter, Ordered}
 use Rattle.sort.proofs.Bytes.{Bytes, length-records}
-use Rattle.sort.proofs.Lists.{length-dropRepeats}
+use Rattle.sort.proofs.Lists.{length-dropRepeats, sorted-fixed}
+use Rattle.sort.proofs.Compare.{sorted-end}
+use Rattle.sort.proofs.Finish.{sort-ready}
 use Rattle.sort.proofs.Results.{length-sorted-bytes, length-dropRepeats-bytes, records-after-sort, records-after-drop}
 use Rattle.definitions.specs.Location.{Location, normal, locations-in, locations-bytes}
 use Rattle.place_buffer.proofs.Triples.{triples, records-triples, triples-path, length-triples, normal-triples}
@@ -93,6 +95,21 @@ module _ (s s₁ s₂ s₃ : List ℕ) (at n k : ℕ) (b : Bytes s) (b₁ : Byte
     long = ap length e₃ ∙ length-setLe64 s₂ at k ∙ long₂ ∙ long;
     away = away;
   }
+
+-- one location, or none, is a list as it stands
+few-records : (n : ℕ) (s : List ℕ) (p : ℕ) → n ≤ 1 → dropRepeats (records 3 n s p) ≡ records 3 n s p
+unfolding records dropRepeats dropAfter
+few-records zero s p h = refl
+few-records (suc zero) s p h = refl
+few-records (suc (suc n)) s p h = absurd (omega arith)
+
+pub closed-few-places : (s s₃ : List ℕ) (at n : ℕ) → Bytes s → at + 8 + 24 * n ≤ length s → n ≤ 1 → s₃ ≡ setLe64 s at n → Closed s s₃ at n (locations-in s n (at + 8)) n
+closed-few-places s s₃ at n b fits few e =
+    let o : Ordered (records 3 n s (at + 8)) = sorted-end 3 n s (at + 8) few in
+    let e₁ = sort-ready 3 n s (at + 8) b (omega arith) o in
+    let d = few-records n s (at + 8) few in
+    let e₂ = e₁ ∙ ap (λ (rs : List (List ℕ)). sets s (at + 8) (recordsBytes rs)) (sorted-fixed (records 3 n s (at + 8)) o ∙ sym d) in
+    closed s s s s₃ at n n b b b fits e₁ e₂ (sym (ap length d ∙ length-records 3 n s (at + 8))) e
 
 -- locations copied, then made a list
 pub written : {s s₁ s₂ : List ℕ} {n k : ℕ} {ls : List Location} (e r : End) → Copied s s₁ (e .at) n ls → Closed s₁ s₂ (e .at) n (locations-in s₁ n (e .at + 8)) k

@@ -2,6 +2,7 @@
 ghost use mathlib.Core.Path.{_≡_};
 ghost use mathlib.Core.Bool.{cond};
 ghost use Prim.Native.Nat.{_+_, _*_, _≤_, _<_};
+ghost use mathlib.Core.List.{[]};
 ghost use lib.ListN.{length};
 ghost use lib.Seq.{sets};
 ghost use Rattle.definitions.specs.Location.{location-bytes, locations-in};
@@ -68,7 +69,7 @@ fn put_wholes(mem: &mut [u8], work: usize, lo: usize, hi: usize, at: usize) -> u
 }
 
 // Makes a list of the n locations behind index at: sorted, each once, with their count at index at; how many are kept.
-fn close_list(mem: &mut [u8], at: usize, n: usize) -> usize
+fn close_many(mem: &mut [u8], at: usize, n: usize) -> usize
     requires { ⌜ at + 8 + 24 * n ≤ length (now mem) ⌝ }
     ensures { λ r. ⌜ Closed (now (mem .entry)) (now (mem .exit)) at n (locations-in (now (mem .entry)) n (at + 8)) r ⌝ }
 {
@@ -77,6 +78,18 @@ fn close_list(mem: &mut [u8], at: usize, n: usize) -> usize
     let kept = sort::drop_repeats(mem, from, 3, n);
     words::put64(mem, at, kept as u64);
     kept
+}
+
+// The same; a single location, or none, is a list already, which most are.
+fn close_list(mem: &mut [u8], at: usize, n: usize) -> usize
+    requires { ⌜ at + 8 + 24 * n ≤ length (now mem) ⌝ }
+    ensures { λ r. ⌜ Closed (now (mem .entry)) (now (mem .exit)) at n (locations-in (now (mem .entry)) n (at + 8)) r ⌝ }
+{
+    if 1 < n {
+        return close_many(mem, at, n);
+    }
+    words::put64(mem, at, n as u64);
+    n
 }
 
 // The end behind a list of n locations.
@@ -110,5 +123,37 @@ pub fn put_suffix_list(mem: &mut [u8], work: usize, lo: usize, hi: usize, e: End
     let at = e.at;
     let n = put_wholes(mem, work, lo, hi, at);
     let kept = close_list(mem, at, n);
+    behind_list(e, kept)
+}
+
+// Writes an empty list.
+pub fn put_none(mem: &mut [u8], e: End) -> End
+    requires { ⌜ (e .at + 8 ≤ length (now mem)) × (e .entries ≤ e .at) ⌝ }
+    ensures { λ r. ⌜ ListWritten (now (mem .entry)) (now (mem .exit)) [] e r ⌝ }
+{
+    let at = e.at;
+    words::put64(mem, at, 0);
+    behind_list(e, 0)
+}
+
+// Writes the list of the location of tail i alone, which is empty where it is no whole piece.
+pub fn put_whole_list(mem: &mut [u8], work: usize, i: usize, e: End) -> End
+    requires { ⌜ (work + 56 * (i + 1) ≤ length (now mem)) × (e .at + 8 + 24 * length (wholes (tails-in (now mem) work i (i + 1))) ≤ work) × (e .entries ≤ e .at) ⌝ }
+    ensures { λ r. ⌜ ListWritten (now (mem .entry)) (now (mem .exit)) (locations-of (wholes (tails-in (now (mem .entry)) work i (i + 1)))) e r ⌝ }
+{
+    let at = e.at;
+    let n = put_whole(mem, work, i, at, 0);
+    let kept = close_list(mem, at, n);
+    behind_list(e, kept)
+}
+
+// Writes the list of the location of tail i alone.
+pub fn put_tail_list(mem: &mut [u8], work: usize, i: usize, e: End) -> End
+    requires { ⌜ (work + 56 * (i + 1) ≤ length (now mem)) × (e .at + 32 ≤ work) × (e .entries ≤ e .at) ⌝ }
+    ensures { λ r. ⌜ ListWritten (now (mem .entry)) (now (mem .exit)) (locations-of (tails-in (now (mem .entry)) work i (i + 1))) e r ⌝ }
+{
+    let at = e.at;
+    put_tail_location(mem, work, i, at + 8);
+    let kept = close_list(mem, at, 1);
     behind_list(e, kept)
 }

@@ -23,7 +23,7 @@ use Rattle.tail_records.proofs.Memory.{tails-split, tails-length, tails-ext, he
 use Rattle.tail_records.proofs.Buffer.{grouped-memory}
 use Rattle.tail_records.proofs.Distinct.{ByByte, few-groups}
 use Rattle.list_writer.specs.declared.End.{End}
-use Rattle.node_writer.specs.Heads.{copies, cut-lists, ListsAsked, ListsWritten, HeadAsked, HeadWritten}
+use Rattle.node_writer.specs.Heads.{copies, cut-lists, ListsAsked, ListsWritten, HeadAsked, Front, HeadWritten}
 
 -- ── runs as parts of the tails in memory ──
 
@@ -84,7 +84,7 @@ below-few d ts us r e =
 
 -- ── the head ──
 
-module _ {s : List ℕ} {work lo hi d : ℕ} {e : End} {buf : List ℕ} (q : HeadAsked s work lo hi d e buf) {parts : ℕ}
+module _ {s : List ℕ} {work lo hi d : ℕ} {e : End} (q : HeadAsked s work lo hi d e) {parts : ℕ}
     (first : parts ≡ lo + length (run (ends-as d false) (tails-in s work lo hi))) where
   cut : RunCut s work lo parts hi (ends-as d false)
   cut = run-cut s work lo parts hi (ends-as d false) (q .order) first
@@ -148,7 +148,7 @@ module _ {s : List ℕ} {work lo hi d : ℕ} {e : End} {buf : List ℕ} (q : Hea
         counted = omega (arith, behind-kind, q .counted);
       }
 
-      module _ {s₂ buf₂ : List ℕ} {e₂ : End} (w : ListsWritten (set s (e .at) kind) s₂ work lo parts mid hi e₁ e₂) (found : Found s work mid hi d buf buf₂ n) where
+      module _ {s₂ : List ℕ} {e₂ : End} (w : ListsWritten (set s (e .at) kind) s₂ work lo parts mid hi e₁ e₂) where
         same-lists : cut-lists (set s (e .at) kind) work lo parts mid hi ≡ group-lists d (tails-in s work lo hi)
         same-lists = (λ i. record {
           prefixes = normal (locations-of (same-tails lo parts i));
@@ -162,16 +162,13 @@ module _ {s : List ℕ} {work lo hi d : ℕ} {e : End} {buf : List ℕ} (q : Hea
         kind-stands : getD s₂ (e .at) 0 ≡ kind-of n
         kind-stands = w .before (e .at) (omega (arith, behind-kind .0)) ∙ getD-set-same s (e .at) kind 0 (omega (arith, q .room, q .memory)) ∙ is-kind
 
-        pub head-written : HeadWritten s s₂ work lo hi d e buf buf₂ (record { below = mid; groups = n; end = e₂ })
+        pub front-written : Front s s₂ work lo hi d (kind-of n) e e₂
         unfolding Holds
-        head-written =
+        front-written =
             let few = w .few in
             let size = ap lists-size same-lists in
             let count = ap entries-of same-lists in
             record {
-              from = omega (arith, cut .from, cut₂ .from);
-              upto = cut₂ .upto;
-              rest = rest;
               bytes = (
                 kind-stands,
                 holds-at s₂ (e₁ .at) (e .at + 1) (lists-bytes (group-lists d (tails-in s work lo hi))) (behind-kind .0)
@@ -184,6 +181,23 @@ module _ {s : List ℕ} {work lo hi d : ℕ} {e : End} {buf : List ℕ} (q : Hea
               long = w .long ∙ length-set s (e .at) kind;
               before = λ k h. w .before k (omega (arith, behind-kind .0)) ∙ kept k (omega arith);
               behind = unchanged;
+            }
+
+        pub head-written : {buf buf₂ : List ℕ} → Found s work mid hi d buf buf₂ n → HeadWritten s s₂ work lo hi d e buf buf₂ (record { below = mid; groups = n; end = e₂ })
+        head-written found =
+            let f = front-written in
+            record {
+              from = omega (arith, cut .from, cut₂ .from);
+              upto = cut₂ .upto;
+              rest = rest;
+              bytes = f .bytes;
+              at = f .at;
+              few = f .few;
+              nodes = f .nodes;
+              entries = f .entries;
+              long = f .long;
+              before = f .before;
+              behind = f .behind;
               grouped = grouped-memory s₂ (found .grouped) (λ k a b. unchanged k (omega arith));
               kept = found .kept;
             }

@@ -62,14 +62,13 @@ node-kids (suc left) d ts r e =
 -- ── what the head asks ──
 
 module _ {s : List ℕ} {work lo hi d : ℕ} {e : End} {buf : List ℕ} {left : ℕ} (q : NodeAsked s work lo hi d e buf left) where
-  pub head-asked : HeadAsked s work lo hi d e buf
+  pub head-asked : HeadAsked s work lo hi d e
   head-asked = record {
     order = q .order;
     held = q .held;
     memory = q .memory;
     run = q .run;
     depth = omega (arith, q .depth);
-    buffer = q .buffer;
     room = omega (arith, q .room);
     counted-nodes = q .counted-nodes;
     counted = q .counted;

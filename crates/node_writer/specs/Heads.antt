@@ -48,16 +48,26 @@ pub record ListsWritten (s s′ : List ℕ) (work lo parts below hi : ℕ) (e r 
 
 -- ── the head ──
 
-pub record HeadAsked (s : List ℕ) (work lo hi d : ℕ) (e : End) (buf : List ℕ) : Type 0 where
+pub record HeadAsked (s : List ℕ) (work lo hi d : ℕ) (e : End) : Type 0 where
   pub order : lo ≤ hi
   pub held : Held s work lo hi
   pub memory : work + 56 * hi ≤ length s
   pub run : Run d (tails-in s work lo hi)
   pub depth : d ≤ 16
-  pub buffer : 8721 ≤ length buf
   pub room : e .at + 64 + 24 * weights d (tails-in s work lo hi) ≤ work
   pub counted-nodes : e .nodes ≤ e .at
   pub counted : e .entries ≤ e .at
+
+-- a kind and the lists of the node of the tails number lo to hi - 1 behind the end e, and r is the end behind them
+pub record Front (s s′ : List ℕ) (work lo hi d kind : ℕ) (e r : End) : Type 0 where
+  pub bytes : Holds s′ (e .at) (kind ∷ lists-bytes (group-lists d (tails-in s work lo hi)))
+  pub at : r .at ≡ e .at + 1 + lists-size (group-lists d (tails-in s work lo hi))
+  pub few : entries-of (group-lists d (tails-in s work lo hi)) + group-weights (suc d) (groups d (below d (tails-in s work lo hi))) ≤ weights d (tails-in s work lo hi)
+  pub nodes : r .nodes ≡ e .nodes + 1
+  pub entries : r .entries ≡ e .entries + entries-of (group-lists d (tails-in s work lo hi))
+  pub long : length s′ ≡ length s
+  pub before : (k : ℕ) → k < e .at → getD s′ k 0 ≡ getD s k 0
+  pub behind : (k : ℕ) → work ≤ k → getD s′ k 0 ≡ getD s k 0
 
 -- the kind and the lists of the node of the tails number lo to hi - 1, and the groups of those that go on
 pub record HeadWritten (s s′ : List ℕ) (work lo hi d : ℕ) (e : End) (buf buf′ : List ℕ) (r : Head) : Type 0 where

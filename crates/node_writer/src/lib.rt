@@ -8,6 +8,8 @@ ghost use Rattle.words.specs.Words.{bytes64};
 ghost use Rattle.node_writer.specs.Turns.{Opened, EntryAsked, GroupEntry, TurnAsked, Picked, Turned};
 ghost use Rattle.node_writer.specs.Images.{ImageAsked, ImageWritten};
 ghost use Rattle.node_writer.specs.Nodes.{TableAsked, TableWritten, NodeAsked, NodeWritten};
+ghost use Rattle.tail_records.specs.Tail.{tail-in};
+ghost use Rattle.node_writer.specs.Ones.{LinkWritten, LeafWritten, OneAsked, OneWritten};
 ghost use Rattle.node_writer.specs.Heads.{ListsAsked, ListsWritten, HeadAsked, HeadWritten};
 
 // The table of a node: its kind, where its entries begin, where its children begin, and how many turns they take.
@@ -182,6 +184,31 @@ fn put_lists(
     list_writer::put_suffix_list(mem, work, below, hi, past_chunks)
 }
 
+// Writes the lists of the node of tail i alone, which goes on: only the last of them can have a location.
+fn put_link_lists(mem: &mut [u8], work: usize, i: usize, e: End) -> End
+    requires { ⌜ ListsAsked (now mem) work i i i (i + 1) e ⌝ }
+    ensures { λ r. ⌜ ListsWritten (now (mem .entry)) (now (mem .exit)) work i i i (i + 1) e r ⌝ }
+{
+    let past_prefixes = list_writer::put_none(mem, e);
+    let past_chunks = list_writer::put_none(mem, past_prefixes);
+    list_writer::put_whole_list(mem, work, i, past_chunks)
+}
+
+// Writes the lists of the node of tail i alone, which ends: it is in the second list where parts is i, else in the first.
+fn put_leaf_lists(mem: &mut [u8], work: usize, i: usize, parts: usize, e: End) -> End
+    requires { ⌜ ListsAsked (now mem) work i parts (i + 1) (i + 1) e ⌝ }
+    ensures { λ r. ⌜ ListsWritten (now (mem .entry)) (now (mem .exit)) work i parts (i + 1) (i + 1) e r ⌝ }
+{
+    if parts == i {
+        let no_prefixes = list_writer::put_none(mem, e);
+        let past_chunk = list_writer::put_tail_list(mem, work, i, no_prefixes);
+        return list_writer::put_none(mem, past_chunk);
+    }
+    let past_prefix = list_writer::put_tail_list(mem, work, i, e);
+    let no_chunks = list_writer::put_none(mem, past_prefix);
+    list_writer::put_none(mem, no_chunks)
+}
+
 // The end behind the kind of one more node.
 fn behind_kind(e: End) -> End
     requires { ⌜ (e .at + 1 < 18446744073709551616) × (e .nodes ≤ e .at) ⌝ }
@@ -204,7 +231,7 @@ fn put_head(
     e: End,
     groups: &mut [usize],
 ) -> Head
-    requires { ⌜ HeadAsked (now mem) work lo hi d e (now groups) ⌝ }
+    requires { ⌜ HeadAsked (now mem) work lo hi d e × (8721 ≤ length (now groups)) ⌝ }
     ensures { λ r. ⌜ HeadWritten (now (mem .entry)) (now (mem .exit)) work lo hi d e (now (groups .entry)) (now (groups .exit)) r ⌝ }
 {
     let at = e.at;
@@ -260,6 +287,58 @@ fn put_table(
     end
 }
 
+// Writes the node of tail i alone, which goes on behind its first d bytes, up to the node below it.
+fn put_link(mem: &mut [u8], work: usize, i: usize, d: usize, e: End) -> End
+    requires { ⌜ HeadAsked (now mem) work i (i + 1) d e × (64 ≤ e .at) × (d < length (tail-in (now mem) work i .entry .path)) ⌝ }
+    ensures { λ r. ⌜ LinkWritten (now (mem .entry)) (now (mem .exit)) work i d e r ⌝ }
+{
+    let at = e.at;
+    mem[at] = image::kind_of(1);
+    let front = put_link_lists(mem, work, i, behind_kind(e));
+    let table = front.at;
+    let byte = tail_records::tail_byte(mem, work, i, d);
+    words::put64(mem, table, 1);
+    mem[table + 8] = byte;
+    put_slot(mem, table + 9, table + 17, 1);
+    End {
+        at: table + 18,
+        nodes: front.nodes,
+        entries: front.entries,
+    }
+}
+
+// Writes the node of tail i alone, which ends after its first d bytes.
+fn put_leaf(mem: &mut [u8], work: usize, i: usize, d: usize, e: End) -> End
+    requires { ⌜ HeadAsked (now mem) work i (i + 1) d e × (length (tail-in (now mem) work i .entry .path) ≡ d) ⌝ }
+    ensures { λ r. ⌜ LeafWritten (now (mem .entry)) (now (mem .exit)) work i d e r ⌝ }
+{
+    let at = e.at;
+    let parts = tail_records::run_end(mem, work, i, i + 1, d, false);
+    mem[at] = image::kind_of(0);
+    let front = put_leaf_lists(mem, work, i, parts, behind_kind(e));
+    let table = front.at;
+    words::put64(mem, table, 0);
+    End {
+        at: table + 8,
+        nodes: front.nodes,
+        entries: front.entries,
+    }
+}
+
+// Writes the node of tail i alone at depth d, and all below it: one node for each byte that it goes on for.
+fn put_one(mem: &mut [u8], work: usize, i: usize, d: usize, e: End) -> End
+    requires { ⌜ OneAsked (now mem) work i d e (16 - d) ⌝ }
+    ensures { λ r. ⌜ OneWritten (now (mem .entry)) (now (mem .exit)) work i d e (16 - d) r ⌝ }
+{
+    let mut end = e;
+    let mut k = d;
+    while tail_records::goes_on(mem, work, i, k) {
+        end = put_link(mem, work, i, k, end);
+        k += 1;
+    }
+    put_leaf(mem, work, i, k, end)
+}
+
 // Writes the node of the tails from lo to hi - 1, which share their first d bytes, and all below it.
 pub fn put_node(
     mem: &mut [u8],
@@ -274,6 +353,9 @@ pub fn put_node(
     requires { ⌜ NodeAsked (now mem) work lo hi d e (now groups) left ⌝ }
     ensures { λ r. ⌜ NodeWritten (now (mem .entry)) (now (mem .exit)) work lo hi d e (now (groups .entry)) (now (groups .exit)) left r ⌝ }
 {
+    if hi - lo == 1 {
+        return put_one(mem, work, lo, d, e);
+    }
     let h = put_head(mem, work, lo, hi, d, e, groups);
     put_table(mem, work, h.below, hi, d, h.groups, h.end, groups, left)
 }

@@ -5,9 +5,9 @@ use mathlib.Core.Path.{_≡_, refl, sym, ap, subst, _∙_}
 use mathlib.Core.Bool.{Bool, true, false}
 use mathlib.Core.Logic.{_⊎_, inl, inr}
 use mathlib.Core.List.{List, [], _∷_, _++_, List·Memᴰ as Mem, List·Memᴰ·head as here, List·Memᴰ·tail as later, List·Memᴰ·cases-cons as split, List·Memᴰ·not-nil as not-nil, List·Memᴰ·append-cases as append-cases, Memᴰ·append-left as append-left, Memᴰ·append-right as append-right, Memᴰ·cast as cast}
-use lib.ListN.{length, getD}
-use lib.Seq.{sets, length-sets}
-use Rattle.words.proofs.Parts.{getD-sets-out}
+use lib.ListN.{length, getD, take, drop, length-take, length-drop}
+use lib.Seq.{sets, length-sets, getD-take, getD-drop}
+use Rattle.words.proofs.Parts.{getD-sets, getD-sets-out}
 use Rattle.sort.proofs.Order.{clash}
 use Rattle.definitions.specs.Location.{Location, normal, location-at, location-bytes, locations-in}
 use Rattle.definitions.proofs.Order.{mem-normal, normal-mem, sorted-normal}
@@ -15,7 +15,7 @@ use Rattle.location.specs.Fits.{Fits}
 use Rattle.place_buffer.specs.declared.Places.{Places}
 use Rattle.place_buffer.specs.Buffer.{Ascending, Within, Tidied, room, held, Valid, Taken}
 use Rattle.place_buffer.proofs.Sets.{normal-same, normal-ascending, fewer, normal-new}
-use Rattle.place_buffer.proofs.Scratch.{length-locations, locations-append, locations-snoc, locations-written, tidied-le}
+use Rattle.place_buffer.proofs.Scratch.{length-locations, locations-ext, locations-moved, locations-append, locations-snoc, locations-written, tidied-le}
 
 -- ── members of lists that are joined ──
 
@@ -111,6 +111,43 @@ module _ {s : List ℕ} {p : Places} (v : Valid s p) where
           all = λ g. subst (λ (x : List Location). Within (l ∷ held s p) x) (sym places) (append-within {xs = l ∷ []} {ys = held s p} (only-one (append-right (held s p) (here refl))) (λ x k. append-left (l ∷ []) k));
           refused = λ g k. clash (sym k);
         }
+
+-- ── a list copied as a whole ──
+
+-- n locations of one list of bytes, copied to another
+copied-locations : (n : ℕ) (img s : List ℕ) (at to : ℕ) → at + n * 24 ≤ length img → to + n * 24 ≤ length s → locations-in (sets s to (take (n * 24) (drop at img))) n to ≡ locations-in img n at
+copied-locations n img s at to h k =
+    let part = take (n * 24) (drop at img) in
+    let s′ = sets s to part in
+    let size : length part ≡ n * 24 = simp (length-take, length-drop) (omega arith) in
+    locations-moved n s′ img to at
+    (λ j l. getD-sets part s to j (omega arith) (omega arith) ∙ getD-take (n * 24) (drop at img) j 0 l ∙ getD-drop at img j 0)
+
+module _ {s : List ℕ} {p : Places} (v : Valid s p) where
+  pub taken-copied : (img : List ℕ) (at n : ℕ) {s′ : List ℕ} → p .full ≡ false → at + n * 24 ≤ length img → p .count * 24 + n * 24 ≤ length s → s′ ≡ sets s (p .count * 24) (take (n * 24) (drop at img))
+      → Taken s s′ p (locations-in img n at) (record { base = p .base; count = p .count + n; tight = false; full = false })
+  taken-copied img at n {s′} live h k e =
+      let ls = locations-in img n at in
+      let part = take (n * 24) (drop at img) in
+      let from : p .base ≤ p .count = v .from in
+      let long : length s′ ≡ length s = ap length e ∙ length-sets s (p .count * 24) part in
+      let more : p .count + n - p .base ≡ p .count - p .base + n = omega arith in
+      let to : p .base * 24 + (p .count - p .base) * 24 ≡ p .count * 24 = omega arith in
+      let front : locations-in s′ (p .count - p .base) (p .base * 24) ≡ held s p =
+      locations-ext (p .count - p .base) s′ s (p .base * 24) (λ j a b. ap (λ (x : List ℕ). getD x j 0) e ∙ getD-sets-out part s (p .count * 24) j (inl (omega arith))) in
+      let back : locations-in s′ n (p .count * 24) ≡ ls = ap (λ (x : List ℕ). locations-in x n (p .count * 24)) e ∙ copied-locations n img s at (p .count * 24) h k in
+      let places : locations-in s′ (p .count + n - p .base) (p .base * 24) ≡ held s p ++ ls =
+      rw more (locations-append (p .count - p .base) n s′ (p .base * 24) ∙ rw (to, front, back) refl) in
+      record {
+        same-base = refl;
+        valid = record { from = omega arith; within = omega arith; ascending = λ g. clash (sym g); no-room = λ g. clash (sym g) };
+        same-length = long;
+        before = λ j b. ap (λ (x : List ℕ). getD x j 0) e ∙ getD-sets-out part s (p .count * 24) j (inl (omega arith));
+        stays-full = λ g. clash (sym g ∙ live);
+        only = λ g. subst (λ (x : List Location). Within x (ls ++ held s p)) (sym places) (append-within {xs = held s p} {ys = ls} (λ x j. append-right ls j) (λ x j. append-left (held s p) j));
+        all = λ g. subst (λ (x : List Location). Within (ls ++ held s p) x) (sym places) (append-within {xs = ls} {ys = held s p} (λ x j. append-right (held s p) j) (λ x j. append-left ls j));
+        refused = λ g j. clash (sym j);
+      }
 
 -- ── after the same set was written otherwise ──
 

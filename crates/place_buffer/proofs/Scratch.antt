@@ -7,6 +7,7 @@ use mathlib.Core.Logic.{_⊎_, inl, inr}
 use mathlib.Core.List.{List, [], _∷_, _++_}
 use lib.ListN.{length, getD}
 use lib.Seq.{sets, length-sets}
+use Rattle.words.specs.Words.{leN, le64}
 use Rattle.words.proofs.Laws.{le64-ext}
 use Rattle.words.proofs.Parts.{getD-sets-out}
 use Rattle.sort.specs.Records.{records, recordsBytes, sorted, dropRepeats}
@@ -38,6 +39,45 @@ pub locations-ext : (n : ℕ) (s s′ : List ℕ) (at : ℕ) → ((k : ℕ) → 
 locations-ext n s s′ at h =
     triples-path (locations-in s n at) (locations-in s′ n at)
     (sym (records-triples n s at) ∙ records-ext 3 n s s′ at (λ k a b. h k a (omega arith)) ∙ records-triples n s′ at)
+
+-- and so are the same bytes elsewhere
+leN-moved : (n : ℕ) (s s′ : List ℕ) (at at′ : ℕ) → ((k : ℕ) → k < n → getD s (at + k) 0 ≡ getD s′ (at′ + k) 0) → leN n s at ≡ leN n s′ at′
+unfolding leN
+leN-moved zero s s′ at at′ h = refl
+leN-moved (suc n) s s′ at at′ h =
+    let a : at + 0 ≡ at = omega arith in
+    let b : at′ + 0 ≡ at′ = omega arith in
+    let first : getD s at 0 ≡ getD s′ at′ 0 = rw (a, b) at (h 0 (omega arith)) in
+    let rest = leN-moved n s s′ (at + 1) (at′ + 1) (λ k l. next k (omega arith)) in
+    cc
+  where
+    next : (k : ℕ) → k < n → getD s (at + 1 + k) 0 ≡ getD s′ (at′ + 1 + k) 0
+    next k l =
+        let a : at + 1 + k ≡ at + suc k = omega arith in
+        let b : at′ + 1 + k ≡ at′ + suc k = omega arith in
+        rw (a, b) (h (suc k) (omega arith))
+
+le64-moved : (s s′ : List ℕ) (at at′ : ℕ) → ((k : ℕ) → k < 8 → getD s (at + k) 0 ≡ getD s′ (at′ + k) 0) → le64 s at ≡ le64 s′ at′
+unfolding le64
+le64-moved s s′ at at′ h = leN-moved 8 s s′ at at′ h
+
+pub locations-moved : (n : ℕ) (s s′ : List ℕ) (at at′ : ℕ) → ((k : ℕ) → k < n * 24 → getD s (at + k) 0 ≡ getD s′ (at′ + k) 0) → locations-in s n at ≡ locations-in s′ n at′
+unfolding locations-in
+locations-moved zero s s′ at at′ h = refl
+locations-moved (suc n) s s′ at at′ h =
+    let first : location-at s at ≡ location-at s′ at′ =
+    location-path
+    (le64-moved s s′ at at′ (λ k l. h k (omega arith)))
+    (le64-moved s s′ (at + 8) (at′ + 8) (λ k l. further 8 k (omega arith)))
+    (le64-moved s s′ (at + 16) (at′ + 16) (λ k l. further 16 k (omega arith))) in
+    let rest = locations-moved n s s′ (at + 24) (at′ + 24) (λ k l. further 24 k (omega arith)) in
+    rw (first, rest)
+  where
+    further : (i k : ℕ) → i + k < suc n * 24 → getD s (at + i + k) 0 ≡ getD s′ (at′ + i + k) 0
+    further i k l =
+        let a : at + i + k ≡ at + (i + k) = omega arith in
+        let b : at′ + i + k ≡ at′ + (i + k) = omega arith in
+        rw (a, b) (h (i + k) l)
 
 pub locations-append : (n m : ℕ) (s : List ℕ) (at : ℕ) → locations-in s (n + m) at ≡ locations-in s n at ++ locations-in s m (at + n * 24)
 unfolding locations-in

@@ -3,8 +3,10 @@ use location::SpacetimeLocation;
 ghost use mathlib.Core.Path.{_≡_};
 ghost use mathlib.Core.Bool.{true, false};
 ghost use Prim.Native.Nat.{_+_, _*_, _≤_};
+ghost use mathlib.Core.List.{_++_};
 ghost use lib.ListN.{length};
-ghost use Rattle.definitions.specs.Location.{locations-in};
+ghost use lib.Dec.{eqb};
+ghost use Rattle.definitions.specs.Location.{normal, locations-in};
 ghost use Rattle.location.specs.Plain.{plain};
 ghost use Rattle.place_buffer.specs.Buffer.{Ascending, before-count, There, Tidied, Valid, Placed, Taken};
 
@@ -54,6 +56,32 @@ fn is_there(scratch: &[u8], at: usize, n: usize, l: SpacetimeLocation) -> bool
         return false;
     }
     true
+}
+
+// How many places l adds to the n ascending places from byte at on: none, or one.
+fn adds(scratch: &[u8], at: usize, n: usize, l: SpacetimeLocation) -> usize
+    requires { ⌜ (at + n * 24 ≤ length (now scratch)) × Ascending (locations-in (now scratch) n at) ⌝ }
+    ensures { λ r. ⌜ (r ≤ 1) × There (eqb r 0) (plain l) (locations-in (now (scratch .entry)) n at) ⌝ }
+{
+    if is_there(scratch, at, n, l) {
+        return 0;
+    }
+    1
+}
+
+// How many places two ascending lists have together: the n locations from byte a of img on, and the m from byte b on.
+pub fn count_both(img: &[u8], a: usize, n: usize, b: usize, m: usize) -> usize
+    requires { ⌜ (a + n * 24 ≤ length (now img)) × (b + m * 24 ≤ length (now img)) × Ascending (locations-in (now img) n a) × Ascending (locations-in (now img) m b) ⌝ }
+    ensures { λ r. ⌜ r ≡ length (normal (locations-in (now (img .entry)) n a ++ locations-in (now (img .entry)) m b)) ⌝ }
+{
+    let mut count = n;
+    let mut j = 0;
+    while j < m {
+        let l = location::location_at(img, b + j * 24);
+        count += adds(img, a, n, l);
+        j += 1;
+    }
+    count
 }
 
 // Adds l to a set that is tight: it is there already, or the set is refused.
@@ -131,8 +159,8 @@ pub fn place(scratch: &mut [u8], p: Places, l: SpacetimeLocation) -> Places
     )
 }
 
-// Adds the n locations from byte at of img on to a set.
-pub fn take_list(img: &[u8], at: usize, n: usize, scratch: &mut [u8], p: Places) -> Places
+// Adds the n locations from byte at of img on to a set, one by one.
+fn take_each(img: &[u8], at: usize, n: usize, scratch: &mut [u8], p: Places) -> Places
     requires { ⌜ (at + n * 24 ≤ length (now img)) × Valid (now scratch) p ⌝ }
     ensures { λ r. ⌜ Taken (now (scratch .entry)) (now (scratch .exit)) p (locations-in (now (img .entry)) n at) r ⌝ }
 {
@@ -146,4 +174,26 @@ pub fn take_list(img: &[u8], at: usize, n: usize, scratch: &mut [u8], p: Places)
         i += 1;
     }
     r
+}
+
+// Adds the n locations from byte at of img on to a set. Where there is room for all of them they are copied as they stand.
+pub fn take_list(img: &[u8], at: usize, n: usize, scratch: &mut [u8], p: Places) -> Places
+    requires { ⌜ (at + n * 24 ≤ length (now img)) × Valid (now scratch) p ⌝ }
+    ensures { λ r. ⌜ Taken (now (scratch .entry)) (now (scratch .exit)) p (locations-in (now (img .entry)) n at) r ⌝ }
+{
+    if p.full {
+        return p;
+    }
+    let base = p.base;
+    let count = p.count;
+    if scratch.len() / 24 - count < n {
+        return take_each(img, at, n, scratch, p);
+    }
+    words::copy(img, at, scratch, count * 24, n * 24);
+    Places {
+        base,
+        count: count + n,
+        tight: false,
+        full: false,
+    }
 }

@@ -46,14 +46,6 @@ fn end_line(mem: &mut [u8], line: &mut [u8], s: State, part: &[u8], out: &mut [u
     State { kept: 0, at }
 }
 
-// Where the line from index p on ends in a block of input.
-fn end_from(input: &[u8], p: usize) -> usize
-    requires { ⌜ p ≤ length (now input) ⌝ }
-    ensures { λ r. ⌜ (p ≤ r) × (r ≤ length (now (input .entry))) ⌝ }
-{
-    lines::line_end(input, p)
-}
-
 // Answers the lines of a block of input that end in it, and keeps the rest.
 fn take_block(mem: &mut [u8], line: &mut [u8], before: State, input: &[u8], out: &mut [u8]) -> State
     requires { ⌜ (1024 ≤ length (now line)) × (71 ≤ length (now out)) ⌝ }
@@ -61,7 +53,7 @@ fn take_block(mem: &mut [u8], line: &mut [u8], before: State, input: &[u8], out:
     let mut s = before;
     let mut p = 0;
     while p < input.len() {
-        let e = end_from(input, p);
+        let e = answering::end_from(input, p);
         if e == input.len() {
             let kept = keep(line, s.kept, &input[p..]);
             return State { kept, at: s.at };

@@ -22,7 +22,7 @@ use Rattle.row_buffer.specs.Numbers.{row-numbers}
 use Rattle.searching.specs.declared.Answer.{Answer}
 use Rattle.searching.specs.declared.Answer.the-variants.{Rows, Refused}
 use Rattle.searching.specs.Found.{root-of, rooted}
-use Rattle.searching.specs.Layout.{Sound, EndFound}
+use Rattle.searching.specs.Layout.{Sound, TableFound}
 use Rattle.searching.specs.Search.{RightImage, Answers, rows-answer, search-answer}
 
 -- ── the rows of places ──
@@ -94,24 +94,24 @@ sound-image {img} a l h rule z =
 
 -- ── the places are found, or have no room ──
 
-module _ {img q s ends s′ : List ℕ} {o : Bool} (sound : Sound img) (f : EndFound (rooted img) q 0 s ends s′ o) where
+module _ {img q s ends s′ : List ℕ} {o : Bool} (sound : Sound img) (f : TableFound (rooted img) q s ends s′ o) where
   pub places-over : (rows : List ℕ) → o ≡ true → Answers (search-answer (trie-in img) q (length s) rows) (Refused 10) rows
   unfolding search-answer
   places-over rows e = rw (sound .trie, lt-ltb (length s / 24) (sizes (table-found (root (rooted img)) q)) (f .over e)) (record { answer = refl; written = refl })
 
   module _ (e : o ≡ false) (h : 0 < length q) where
     pub hand-order : getD ends 1 0 ≤ getD ends 0 0
-    hand-order = f .laid e .part 0 (omega arith) h .order
+    hand-order = f .tabled e .laid .part 0 (omega arith) h (λ z. absurd (omega arith)) .order
 
     pub hand-within : getD ends 0 0 * 24 ≤ length s′
-    hand-within = f .laid e .fits
+    hand-within = f .tabled e .laid .fits
 
     pub handed : (rows : List ℕ) {r : Answer} {rows′ : List ℕ} → length s′ ≡ length s
         → Answers (rows-answer (combine-split-times (locations-in s′ (getD ends 0 0 - getD ends 1 0) (getD ends 1 0 * 24))) rows) r rows′
         → Answers (search-answer (trie-in img) q (length s) rows) r rows′
     unfolding search-answer
     handed rows {r} {rows′} l a =
-        let d = f .laid e in
-        let fits : sizes (table-found (root (rooted img)) q) ≤ length s / 24 = omega (arith, d .size, d .fits) in
+        let d = f .tabled e .laid in
+        let fits : sizes (table-found (root (rooted img)) q) ≤ length s / 24 = omega (arith, f .tabled e .fits, ap (λ (x : ℕ). x / 24) l) in
         rw (sound .trie, le-ltb (length s / 24) (sizes (table-found (root (rooted img)) q)) fits)
-        (subst (λ (ls : List Location). Answers (rows-answer (combine-split-times ls) rows) r rows′) (d .part 0 (omega arith) h .places) a)
+        (subst (λ (ls : List Location). Answers (rows-answer (combine-split-times ls) rows) r rows′) (d .part 0 (omega arith) h (λ z. absurd (omega arith)) .places) a)

@@ -1,63 +1,88 @@
 -- What the node at the end of a path gives to a set, by its lists in the image. Assumes nothing.
-use Prim.Native.Nat.{ℕ, _+_, _-_, _*_, _≤_}
+use Prim.Native.Nat.{ℕ, _+_, _-_, _*_, _≤_, _<_}
 use native.Mathlib.Omega.{arith}
-use mathlib.Core.Path.{_≡_, sym, ap, subst, _∙_}
+use mathlib.Core.Path.{_≡_, refl, sym, ap, subst, _∙_}
 use mathlib.Core.Bool.{Bool, true, false}
-use mathlib.Core.List.{List}
-use lib.ListN.{length}
-use Rattle.definitions.specs.Location.{Location, Sorted, locations-in}
-use Rattle.definitions.proofs.Order.{Less}
-use Rattle.trie.specs.Trie.{Lists}
-use Rattle.trie.specs.Rule.{ListsSorted}
-use Rattle.trie.specs.Find.{joins-each}
-use Rattle.image.specs.Held.{lists-in}
+use mathlib.Core.List.{List, [], _++_}
+use lib.ListN.{length, drop, getD}
+use Rattle.definitions.specs.Location.{Location, normal, locations-in}
+use Rattle.definitions.specs.Places.{first-of}
+use Rattle.definitions.proofs.Order.{mem-normal, normal-mem}
+use Rattle.trie.specs.Trie.{Lists, Node, lists-at}
+use Rattle.trie.specs.Find.{joins-each, ends-found}
 use Rattle.image_walk.specs.declared.Node.{Node as Parts}
-use Rattle.image_walk.specs.Parts.{parts-at}
-use Rattle.image_walk.specs.Here.{Laid}
-use Rattle.image_walk.proofs.Here.{here-bounds, here-lists, here-prefixes, here-chunks}
 use Rattle.place_buffer.specs.declared.Places.{Places}
-use Rattle.place_buffer.specs.Buffer.{Taken}
-use Rattle.place_buffer.proofs.Adding.{taken-more}
+use Rattle.place_buffer.specs.Buffer.{Valid, Taken}
+use Rattle.place_buffer.proofs.Adding.{taken-none, taken-same, taken-more}
 use Rattle.place_buffer.proofs.Holding.{taken-elsewhere}
-use Rattle.joining.proofs.Each.{each-append}
+use Rattle.joining.proofs.Each.{each-append, each-within, each-places, places-each}
 use Rattle.collecting.specs.Collected.{Collected, Ended}
-use Rattle.searching.specs.Found.{ended-lists}
-use Rattle.searching.specs.Layout.{Reached}
+use Rattle.searching.specs.Found.{rooted, last-of, ended-lists, ending-lists}
+use Rattle.searching.specs.Layout.{lists-of, EndsNothing, Ending, Reached, LaidOut}
+use Rattle.searching.proofs.Stages.{table-behind, table-last}
 
-module _ {img : List ℕ} {at : ℕ} {m : Parts} (e : m ≡ parts-at img at) (h : Laid img at) where
-  prefixes-are : locations-in img (m .«prefix_count») (m .prefixes) ≡ lists-in img at .prefixes
-  prefixes-are = rw e (here-prefixes (h .here) ∙ ap (λ (x : Lists). x .prefixes) (sym (here-lists (h .here))))
+-- ── what ends at a node ──
 
-  chunks-are : locations-in img (m .«chunk_count») (m .chunks) ≡ lists-in img at .chunks
-  chunks-are = rw e (here-chunks (h .here) ∙ ap (λ (x : Lists). x .chunks) (sym (here-lists (h .here))))
+module _ (h : Lists) (k : ℕ) (ms : List Location) {s s₁ : List ℕ} {p a : Places} where
+  -- inside a query only whole pieces
+  pub joined-inside : (front : Bool) → front ≡ false → Taken s s₁ p (joins-each k (h .chunks) ms) a → Taken s s₁ p (joins-each k (ended-lists front h) ms) a
+  joined-inside front f t = rw f t
 
-  -- what `filter_results` asks of a list
-  pub prefixes-asked : ListsSorted (lists-in img at) → (m .prefixes + m .«prefix_count» * 24 ≤ length img) × Sorted Less (locations-in img (m .«prefix_count») (m .prefixes))
-  prefixes-asked s = (rw e (omega (arith, here-bounds (h .here) .prefixes)), subst (Sorted Less) (sym prefixes-are) (s .prefixes))
+  -- at its front also those that began earlier
+  pub joined-front : (front : Bool) → front ≡ true → Taken s s₁ p (joins-each k (h .prefixes) ms) a → {s₂ : List ℕ} {r : Places} → Taken s₁ s₂ a (joins-each k (h .chunks) ms) r → Taken s s₂ p (joins-each k (ended-lists front h) ms) r
+  joined-front front f t {s₂} {r} u = rw f (subst (λ (ls : List Location). Taken s s₂ p ls r) (sym (each-append k (h .prefixes) (h .chunks) ms)) (taken-more t u))
 
-  pub chunks-asked : ListsSorted (lists-in img at) → (m .chunks + m .«chunk_count» * 24 ≤ length img) × Sorted Less (locations-in img (m .«chunk_count») (m .chunks))
-  chunks-asked s = (rw e (omega (arith, here-bounds (h .here) .chunks)), subst (Sorted Less) (sym chunks-are) (s .chunks))
+-- nothing ends there
+pub joined-none : (img : List ℕ) (m : Parts) (k : ℕ) (ms : List Location) {s : List ℕ} {p : Places} (front : Bool) → EndsNothing front m → Valid s p → Taken s s p (joins-each k (ended-lists front (lists-of img m)) ms) p
+unfolding locations-in
+joined-none img m k ms {s} {p} true e v =
+    let a : locations-in img (m .«prefix_count») (m .prefixes) ≡ [] = ap (λ (n : ℕ). locations-in img n (m .prefixes)) (e .prefixes refl) in
+    let b : locations-in img (m .«chunk_count») (m .chunks) ≡ [] = ap (λ (n : ℕ). locations-in img n (m .chunks)) (e .chunks) in
+    let none : ended-lists true (lists-of img m) ≡ [] = ap (λ (ls : List Location). ls ++ locations-in img (m .«chunk_count») (m .chunks)) a ∙ b in
+    subst (λ (ls : List Location). Taken s s p (joins-each k ls ms) p) (sym none) (taken-none v)
+joined-none img m k ms {s} {p} false e v =
+    let b : locations-in img (m .«chunk_count») (m .chunks) ≡ [] = ap (λ (n : ℕ). locations-in img n (m .chunks)) (e .chunks) in
+    subst (λ (ls : List Location). Taken s s p (joins-each k ls ms) p) (sym b) (taken-none v)
 
-  module _ (k from to : ℕ) {s s₁ : List ℕ} {p a : Places} where
-    -- inside a query only whole pieces end at a node
-    pub joined-inside : (front : Bool) → front ≡ false → Taken s s₁ p (joins-each k (locations-in img (m .«chunk_count») (m .chunks)) (locations-in s (to - from) (from * 24))) a
-        → Taken s s₁ p (joins-each k (ended-lists front (lists-in img at)) (locations-in s (to - from) (from * 24))) a
-    joined-inside front f t =
-        rw f (subst (λ (ls : List Location). Taken s s₁ p (joins-each k ls (locations-in s (to - from) (from * 24))) a) chunks-are t)
+-- places before the set are joined as they were
+pub joined-later : (k : ℕ) (xs : List Location) (from to : ℕ) {s s₁ s₂ : List ℕ} {p a r : Places} {ls : List Location} → from ≤ to → to ≤ p .base → Taken s s₁ p ls a
+    → Taken s₁ s₂ a (joins-each k xs (locations-in s₁ (to - from) (from * 24))) r → Taken s₁ s₂ a (joins-each k xs (locations-in s (to - from) (from * 24))) r
+joined-later k xs from to {s₁ = s₁} {s₂ = s₂} {a = a} {r = r} h b t u =
+    subst (λ (ms : List Location). Taken s₁ s₂ a (joins-each k xs ms) r) (taken-elsewhere t (to - from) (from * 24) (omega arith)) u
 
-    -- at its front also those that began earlier
-    pub joined-front : (front : Bool) → front ≡ true → from ≤ to → to ≤ p .base → Taken s s₁ p (joins-each k (locations-in img (m .«prefix_count») (m .prefixes)) (locations-in s (to - from) (from * 24))) a
-        → {s₂ : List ℕ} {r : Places} → Taken s₁ s₂ a (joins-each k (locations-in img (m .«chunk_count») (m .chunks)) (locations-in s₁ (to - from) (from * 24))) r
-        → Taken s s₂ p (joins-each k (ended-lists front (lists-in img at)) (locations-in s (to - from) (from * 24))) r
-    joined-front front f le before t {s₂} {r} u =
-        let same : locations-in s₁ (to - from) (from * 24) ≡ locations-in s (to - from) (from * 24) = taken-elsewhere t (to - from) (from * 24) (omega arith) in
-        let ms = locations-in s (to - from) (from * 24) in
-        let u₁ : Taken s₁ s₂ a (joins-each k (lists-in img at .chunks) ms) r =
-        subst (λ (ls : List Location). Taken s₁ s₂ a (joins-each k ls ms) r) chunks-are
-        (subst (λ (x : List Location). Taken s₁ s₂ a (joins-each k (locations-in img (m .«chunk_count») (m .chunks)) x) r) same u) in
-        let t₁ : Taken s s₁ p (joins-each k (lists-in img at .prefixes) ms) a =
-        subst (λ (ls : List Location). Taken s s₁ p (joins-each k ls ms) a) prefixes-are t in
-        rw f (subst (λ (ls : List Location). Taken s s₂ p ls r) (sym (each-append k (lists-in img at .prefixes) (lists-in img at .chunks) ms)) (taken-more t₁ u₁))
+-- ── the places behind a node ──
+
+pub joined-with : (k : ℕ) (ls : List Location) {ms ns : List Location} {s s₁ : List ℕ} {p r : Places} → ms ≡ ns → Taken s s₁ p (joins-each k ls ms) r → Taken s s₁ p (joins-each k ls ns) r
+joined-with k ls {s = s} {s₁ = s₁} {p = p} {r = r} e t = subst (λ (xs : List Location). Taken s s₁ p (joins-each k ls xs) r) e t
+
+-- two lists of them
+pub joined-both : (k : ℕ) (ls ms ns : List Location) {s s₁ s₂ : List ℕ} {p a r : Places} → Taken s s₁ p (joins-each k ls ms) a → Taken s₁ s₂ a (joins-each k ls ns) r → Taken s s₂ p (joins-each k ls (ms ++ ns)) r
+joined-both k ls ms ns t u = taken-same (taken-more t u) (places-each k ls ms ns) (each-places k ls ms ns)
+
+-- those of the last byte
+pub behind-last : (k : ℕ) (ls : List Location) (img q : List ℕ) (j : ℕ) {last : Parts} {s s₁ : List ℕ} {p r : Places} → 1 ≤ j → j + 1 ≡ length q → Ending img (last-of q) last
+    → Taken s s₁ p (joins-each k ls (ending-lists (lists-of img last))) r → Taken s s₁ p (joins-each k ls (first-of (ends-found (rooted img) (drop j q)))) r
+behind-last k ls img q j {last} {s} {s₁} {p} {r} h e x t =
+    let f : length q - 1 ≡ j = omega arith in
+    let xs = ending-lists (lists-of img last) in
+    let same : xs ≡ ending-lists (lists-at (rooted img) (drop j q)) = ap ending-lists (x .lists) ∙ ap (λ (i : ℕ). ending-lists (lists-at (rooted img) (drop i q))) f in
+    let whole : first-of (ends-found (rooted img) (drop j q)) ≡ normal xs =
+    ap first-of (sym (table-behind (rooted img) q j h) ∙ table-last (rooted img) q j h e) ∙ ap normal (sym same) in
+    subst (λ (ms : List Location). Taken s s₁ p (joins-each k ls ms) r) (sym whole)
+    (taken-same t (each-within k ls ls xs (normal xs) (λ y i. i) (λ y i. mem-normal xs i)) (each-within k ls ls (normal xs) xs (λ y i. i) (λ y i. normal-mem xs i)))
+
+-- those that stand in scratch
+module _ (i j : ℕ) {n : Node} {q ends s : List ℕ} (d : LaidOut n q (i + 1) ends s) (h : i < j) (l : j + 1 < length q) where
+  pub behind-order : getD ends (j + 1) 0 ≤ getD ends j 0
+  behind-order = d .part j (omega arith) (omega arith) (λ z. l) .order
+
+  pub behind-below : getD ends j 0 ≤ getD ends (i + 1) 0
+  behind-below = d .part j (omega arith) (omega arith) (λ z. l) .below
+
+  pub behind-places : locations-in s (getD ends j 0 - getD ends (j + 1) 0) (getD ends (j + 1) 0 * 24) ≡ first-of (ends-found n (drop j q))
+  behind-places = d .part j (omega arith) (omega arith) (λ z. l) .places ∙ ap first-of (table-behind n q j (omega arith))
+
+-- ── what goes beyond it ──
 
 module _ {img : List ℕ} {at : ℕ} {s s′ : List ℕ} {p r : Places} where
   pub reached-front : (front : Bool) → front ≡ true → Collected img 16 at s s′ p r → Reached img at front s s′ p r

@@ -6,13 +6,13 @@ use mathlib.Core.Path.{_≡_, refl, ap, _∙_}
 use mathlib.Core.Bool.{Bool, true, false}
 use mathlib.Core.List.{List, [], _∷_, _++_}
 use mathlib.Core.Option.{Option, none, some}
-use lib.ListN.{length, take, drop, getD, drop-of-length-le}
+use lib.ListN.{length, take, drop, getD, length-drop, drop-of-length-le}
 use lib.Seq.{drop-length, length-take-le, take-all, take-suc, drop-cons}
 use lib.Dec.{eqb}
 use borrow.Author.Tests.{ne-eqb}
 use Rattle.definitions.specs.Location.{Location, normal}
 use Rattle.definitions.specs.Places.{first-of, rest-of, sizes}
-use Rattle.trie.specs.Trie.{Node, child-of, node-at}
+use Rattle.trie.specs.Trie.{Node, child-of, node-at, lists-at}
 use Rattle.trie.specs.Find.{joins-each, along, collect-or-none, ends-found}
 use Rattle.trie.proofs.Walk.{walk-append}
 use Rattle.searching.specs.Found.{ended-by, beyond-of, beyond-by, along-from, rest-along, table-from}
@@ -67,6 +67,10 @@ rest-start front n (b ∷ w) h =
     let e = joins-nothing 0 (ended-by front n []) in
     ap (λ (ls : List Location). ls ++ along (ended-by front n) (beyond-by front n) (b ∷ []) w (ends-found n w)) e
 
+-- one byte alone is a path
+pub along-last : (n : Node) (w : List ℕ) → length w ≡ 1 → along-from false n w ≡ lists-at n w .suffixes ++ lists-at n w .chunks
+along-last n w h = rest-start false n w (omega arith) ∙ rest-end false n w 1 (omega arith)
+
 -- ── the table from an end on ──
 
 -- T(i) is what the paths from i on give
@@ -84,6 +88,15 @@ table-behind n q (suc j) h = refl
 pub table-end : (n : Node) (q : List ℕ) → 0 < length q → table-from n q (length q) ≡ []
 table-end n [] h = absurd (omega arith)
 table-end n (b ∷ q) h = rw (drop-length q) refl
+
+-- that of the last byte
+pub table-last : (n : Node) (q : List ℕ) (j : ℕ) → 1 ≤ j → j + 1 ≡ length q → table-from n q j ≡ normal (lists-at n (drop j q) .suffixes ++ lists-at n (drop j q) .chunks) ∷ []
+table-last n q j h e =
+    let w : length (drop j q) ≡ 1 = omega (arith, length-drop j q) in
+    let a : along-from (eqb j 0) n (drop j q) ≡ lists-at n (drop j q) .suffixes ++ lists-at n (drop j q) .chunks =
+    ap (λ (o : Bool). along-from o n (drop j q)) (ne-eqb j 0 (λ z. omega arith)) ∙ along-last n (drop j q) w in
+    table-step n q j (omega arith) ∙ ap (λ (ls : List Location). normal ls ∷ table-from n q (j + 1)) a
+    ∙ ap (λ (ts : List (List Location)). normal (lists-at n (drop j q) .suffixes ++ lists-at n (drop j q) .chunks) ∷ ts) (ap (table-from n q) e ∙ table-end n q (omega arith))
 
 -- the sizes of a table from an end on are at most those of the whole
 ends-less : (n : Node) (q : List ℕ) (k : ℕ) → sizes (ends-found n (drop k q)) ≤ sizes (ends-found n q)

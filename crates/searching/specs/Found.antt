@@ -1,8 +1,8 @@
 -- The places of a query's ends by the nodes of an index: what is gone through from one end on, in two ways. Assumes nothing.
-use Prim.Native.Nat.{ℕ, zero, suc}
+use Prim.Native.Nat.{ℕ, zero, suc, _-_}
 use mathlib.Core.Bool.{Bool, true, false}
 use mathlib.Core.List.{List, [], _∷_, _++_}
-use lib.ListN.{take, drop}
+use lib.ListN.{length, take, drop}
 use Rattle.definitions.specs.Location.{Location}
 use Rattle.trie.specs.Trie.{Lists, Node, leaf, Trie, empty, root, no-lists, lists-at, collect}
 use Rattle.image.specs.Held.{trie-in}
@@ -16,6 +16,14 @@ root-of (root n) = n
 -- that of an image
 abbrev pub rooted : List ℕ → Node
 rooted img = root-of (trie-in img)
+
+-- the query's last byte
+abbrev pub last-of : List ℕ → List ℕ
+last-of q = drop (length q - 1) q
+
+-- what ends at a node or goes beyond it, inside a query
+abbrev pub ending-lists : Lists → List Location
+ending-lists h = h .suffixes ++ h .chunks
 
 -- ── at the query's front a piece may begin earlier ──
 

@@ -1,11 +1,12 @@
 //! Times the calls against the published index on the same blocks, and the test of an image against reading it once.
 //!
 //!     rt staticlib helmapricot && rt staticlib timed_parts
-//!     cd oracle && RUSTFLAGS="-L ../target/staticlib" cargo run --release --features calls --bin bench
+//!     cd oracle && RUSTFLAGS="-L ../target/staticlib" cargo run --release --offline --features parts --bin bench
 use dataflow::prelude::SpaceKind;
 use oracle::index::string_index::StringIndex;
 use oracle::index::{Index, SpacetimeBlock};
 use oracle::linked;
+use oracle::timed_parts;
 use oracle::sink::Sink;
 use std::hint::black_box;
 use std::time::Instant;
@@ -97,10 +98,10 @@ fn image_of(mem: &[u8]) -> &[u8] {
 
 fn test_of_image(name: &str, image: &[u8]) {
     let mut other = vec![1u8; 256 << 20];
-    assert_eq!(linked::check(image), 0);
+    assert_eq!(timed_parts::check(image), 0);
     let read = cold(&mut other, || image.chunks_exact(8).fold(0u64, |s, c| s ^ u64::from_le_bytes(c.try_into().unwrap())));
-    let layout = cold(&mut other, || linked::layout(image));
-    let check = cold(&mut other, || linked::check(image));
+    let layout = cold(&mut other, || timed_parts::layout(image));
+    let check = cold(&mut other, || timed_parts::check(image));
     println!("{name}: image of {} bytes: read once {read:.2} ms, layout {layout:.2} ms ({:.1} times), layout and rule {check:.2} ms ({:.1} times)", image.len(), layout / read, check / read);
 }
 
@@ -150,7 +151,7 @@ fn main() {
         let mut next = || { k += 1; queries[k % queries.len()] };
         let whole = middle(9, || { black_box(linked::search(&mem, next(), &mut scratch, &mut rows)); });
         let times = if len == 1 { 401 } else { 4001 };
-        let proper = middle(times, || { black_box(linked::search_image(image, next(), &mut scratch, &mut rows)); });
+        let proper = middle(times, || { black_box(timed_parts::search_image(image, next(), &mut scratch, &mut rows)); });
         let rust = middle(times, || { black_box(index.search(next())); });
         let ours: u64 = queries.iter().map(|q| linked::search(&mem, q, &mut scratch, &mut rows)).map(|(n, c)| { assert_eq!(n, 0); c }).sum();
         let theirs: usize = queries.iter().map(|q| index.search(q).len()).sum();

@@ -24,6 +24,7 @@ use Rattle.image.proofs.next_turn.Reads as next-turn-reads
 use Rattle.image.proofs.open_table.Reads as open-table-reads
 use Rattle.image.proofs.read_head.Reads as read-head-reads
 use Rattle.image.proofs.refuse.Reads as refuse-reads
+use Rattle.image.proofs.thin.thin_run.Reads as thin-run-reads
 use Rattle.image.proofs.turn_at.Reads as turn-at-reads
 use Rattle.image.proofs.+read_node+read_table.{statement}
 use Rattle.image.proofs.+read_node+read_table.Tie.{close}
@@ -49,7 +50,37 @@ abbrev read-table-below : ℕ → In 1 read-table-kinds.ps
 read-table-below t =
     and 1 read-table-kinds.ps (falls 1 read-table-kinds.ps _<_ μ-read-table t) read-table.Pre
 
+read-node-thin-run-requires : (t : ℕ) → read-node-lts.Need-thin-run-requires (
+  thin-run-reads.Asked,
+  thin-run-reads.Learnt,
+  refuse-reads.Asked,
+  refuse-reads.Learnt,
+  read-head-reads.Asked,
+  read-head-reads.Learnt,
+  open-table-reads.Asked,
+  open-table-reads.Learnt,
+  read-table-below t,
+  read-table.Post,
+) (read-node-at t) read-node.Post
+read-node-thin-run-requires t c κs = search needs
+
+read-node-sub-levels : (t : ℕ) → read-node-lts.Need-sub-levels (
+  thin-run-reads.Asked,
+  thin-run-reads.Learnt,
+  refuse-reads.Asked,
+  refuse-reads.Learnt,
+  read-head-reads.Asked,
+  read-head-reads.Learnt,
+  open-table-reads.Asked,
+  open-table-reads.Learnt,
+  read-table-below t,
+  read-table.Post,
+) (read-node-at t) read-node.Post
+read-node-sub-levels t c = search needs
+
 read-node-refuse-requires : (t : ℕ) → read-node-lts.Need-refuse-requires (
+  thin-run-reads.Asked,
+  thin-run-reads.Learnt,
   refuse-reads.Asked,
   refuse-reads.Learnt,
   read-head-reads.Asked,
@@ -62,6 +93,8 @@ read-node-refuse-requires : (t : ℕ) → read-node-lts.Need-refuse-requires (
 read-node-refuse-requires t c κs = search needs
 
 read-node-returns : (t : ℕ) → read-node-lts.Need-returns (
+  thin-run-reads.Asked,
+  thin-run-reads.Learnt,
   refuse-reads.Asked,
   refuse-reads.Learnt,
   read-head-reads.Asked,
@@ -71,9 +104,39 @@ read-node-returns : (t : ℕ) → read-node-lts.Need-returns (
   read-table-below t,
   read-table.Post,
 ) (read-node-at t) read-node.Post
-read-node-returns t c = step-with _ 15 (c .refuse .ensures) (omega arith) ∙ node-zero _ _ _ (c .before .if1 .taken)
+read-node-returns t c = step-with _ 15 (c .refuse .ensures) (omega arith) ∙ c .before .before .thin-run .ensures .refused 15 (node-zero _ _ _ (c .before .if1 .taken))
+
+read-node-mul-read-head : (t : ℕ) → read-node-lts.Need-mul-read-head (
+  thin-run-reads.Asked,
+  thin-run-reads.Learnt,
+  refuse-reads.Asked,
+  refuse-reads.Learnt,
+  read-head-reads.Asked,
+  read-head-reads.Learnt,
+  open-table-reads.Asked,
+  open-table-reads.Learnt,
+  read-table-below t,
+  read-table.Post,
+) (read-node-at t) read-node.Post
+read-node-mul-read-head t c = search needs
+
+read-node-add-read-head : (t : ℕ) → read-node-lts.Need-add-read-head (
+  thin-run-reads.Asked,
+  thin-run-reads.Learnt,
+  refuse-reads.Asked,
+  refuse-reads.Learnt,
+  read-head-reads.Asked,
+  read-head-reads.Learnt,
+  open-table-reads.Asked,
+  open-table-reads.Learnt,
+  read-table-below t,
+  read-table.Post,
+) (read-node-at t) read-node.Post
+read-node-add-read-head t c = search needs
 
 read-node-read-head-requires : (t : ℕ) → read-node-lts.Need-read-head-requires (
+  thin-run-reads.Asked,
+  thin-run-reads.Learnt,
   refuse-reads.Asked,
   refuse-reads.Learnt,
   read-head-reads.Asked,
@@ -83,9 +146,11 @@ read-node-read-head-requires : (t : ℕ) → read-node-lts.Need-read-head-requir
   read-table-below t,
   read-table.Post,
 ) (read-node-at t) read-node.Post
-read-node-read-head-requires t c κs = search needs
+read-node-read-head-requires t c κs = c .before .thin-run .ensures .within
 
 read-node-refuse-requires-2 : (t : ℕ) → read-node-lts.Need-refuse-requires-2 (
+  thin-run-reads.Asked,
+  thin-run-reads.Learnt,
   refuse-reads.Asked,
   refuse-reads.Learnt,
   read-head-reads.Asked,
@@ -98,6 +163,8 @@ read-node-refuse-requires-2 : (t : ℕ) → read-node-lts.Need-refuse-requires-2
 read-node-refuse-requires-2 t c κs = search needs
 
 read-node-returns-2 : (t : ℕ) → read-node-lts.Need-returns-2 (
+  thin-run-reads.Asked,
+  thin-run-reads.Learnt,
   refuse-reads.Asked,
   refuse-reads.Learnt,
   read-head-reads.Asked,
@@ -109,9 +176,12 @@ read-node-returns-2 : (t : ℕ) → read-node-lts.Need-returns-2 (
 ) (read-node-at t) read-node.Post
 read-node-returns-2 t c =
     step-with _ _ (c .refuse2 .ensures) (c .before .if2 .taken) ∙
-    node-head _ _ _ (c .before .before .before .before .if1 .left) _ (sym (head-refused _ (c .before .if2 .taken)) ∙ c .before .before .before .read-head .ensures)
+    c .before .before .before .before .before .thin-run .ensures .refused _
+    (node-head _ _ _ (c .before .before .before .before .if1 .left) _ (sym (head-refused _ (c .before .if2 .taken)) ∙ c .before .before .before .read-head .ensures))
 
 read-node-open-table-requires : (t : ℕ) → read-node-lts.Need-open-table-requires (
+  thin-run-reads.Asked,
+  thin-run-reads.Learnt,
   refuse-reads.Asked,
   refuse-reads.Learnt,
   read-head-reads.Asked,
@@ -126,6 +196,8 @@ read-node-open-table-requires t c κs =
     (h .4, omega (arith, h .1), h .2)
 
 read-node-refuse-requires-3 : (t : ℕ) → read-node-lts.Need-refuse-requires-3 (
+  thin-run-reads.Asked,
+  thin-run-reads.Learnt,
   refuse-reads.Asked,
   refuse-reads.Learnt,
   read-head-reads.Asked,
@@ -138,6 +210,8 @@ read-node-refuse-requires-3 : (t : ℕ) → read-node-lts.Need-refuse-requires-3
 read-node-refuse-requires-3 t c κs = search needs
 
 read-node-returns-3 : (t : ℕ) → read-node-lts.Need-returns-3 (
+  thin-run-reads.Asked,
+  thin-run-reads.Learnt,
   refuse-reads.Asked,
   refuse-reads.Learnt,
   read-head-reads.Asked,
@@ -149,10 +223,13 @@ read-node-returns-3 : (t : ℕ) → read-node-lts.Need-returns-3 (
 ) (read-node-at t) read-node.Post
 read-node-returns-3 t c =
     step-with _ _ (c .refuse3 .ensures) (c .before .if3 .taken) ∙
-    node-open _ _ _ (c .before .before .before .before .before .before .before .if1 .left) _ _ _ _ (sym (head-right _ (c .before .before .before .before .if2 .left)) ∙ c .before .before .before .before .before .before .read-head .ensures)
-    (sym (table-refused _ (c .before .if3 .taken)) ∙ c .before .before .before .open-table .ensures)
+    c .before .before .before .before .before .before .before .before .thin-run .ensures .refused _
+    (node-open _ _ _ (c .before .before .before .before .before .before .before .if1 .left) _ _ _ _ (sym (head-right _ (c .before .before .before .before .if2 .left)) ∙ c .before .before .before .before .before .before .read-head .ensures)
+    (sym (table-refused _ (c .before .if3 .taken)) ∙ c .before .before .before .open-table .ensures))
 
 read-node-sub-read-table : (t : ℕ) → read-node-lts.Need-sub-read-table (
+  thin-run-reads.Asked,
+  thin-run-reads.Learnt,
   refuse-reads.Asked,
   refuse-reads.Learnt,
   read-head-reads.Asked,
@@ -165,6 +242,8 @@ read-node-sub-read-table : (t : ℕ) → read-node-lts.Need-sub-read-table (
 read-node-sub-read-table t c = search needs
 
 read-node-read-table-requires : (t : ℕ) → read-node-lts.Need-read-table-requires (
+  thin-run-reads.Asked,
+  thin-run-reads.Learnt,
   refuse-reads.Asked,
   refuse-reads.Learnt,
   read-head-reads.Asked,
@@ -177,6 +256,8 @@ read-node-read-table-requires : (t : ℕ) → read-node-lts.Need-read-table-requ
 read-node-read-table-requires t c κs = (omega arith, open-within _ _ _ _ (sym (table-right _ (c .if3 .left)) ∙ c .before .before .open-table .ensures) .0)
 
 read-node-returns-4 : (t : ℕ) → read-node-lts.Need-returns-4 (
+  thin-run-reads.Asked,
+  thin-run-reads.Learnt,
   refuse-reads.Asked,
   refuse-reads.Learnt,
   read-head-reads.Asked,
@@ -188,11 +269,14 @@ read-node-returns-4 : (t : ℕ) → read-node-lts.Need-returns-4 (
 ) (read-node-at t) read-node.Post
 read-node-returns-4 t c =
     step-refused _ (c .if4 .taken) ∙
-    node-table _ _ _ (c .before .before .before .before .before .before .before .before .before .if1 .left) _ _ _ _ _ (sym (head-right _ (c .before .before .before .before .before .before .if2 .left)) ∙ c .before .before .before .before .before .before .before .before .read-head .ensures)
+    c .before .before .before .before .before .before .before .before .before .before .thin-run .ensures .refused _
+    (node-table _ _ _ (c .before .before .before .before .before .before .before .before .before .if1 .left) _ _ _ _ _ (sym (head-right _ (c .before .before .before .before .before .before .if2 .left)) ∙ c .before .before .before .before .before .before .before .before .read-head .ensures)
     (sym (table-right _ (c .before .before .before .if3 .left)) ∙ c .before .before .before .before .before .open-table .ensures)
-    (sym (step-refused _ (c .if4 .taken)) ∙ c .before .before .read-table .ensures)
+    (sym (step-refused _ (c .if4 .taken)) ∙ c .before .before .read-table .ensures))
 
-read-node-add-t8 : (t : ℕ) → read-node-lts.Need-add-t8 (
+read-node-add-t11 : (t : ℕ) → read-node-lts.Need-add-t11 (
+  thin-run-reads.Asked,
+  thin-run-reads.Learnt,
   refuse-reads.Asked,
   refuse-reads.Learnt,
   read-head-reads.Asked,
@@ -202,13 +286,15 @@ read-node-add-t8 : (t : ℕ) → read-node-lts.Need-add-t8 (
   read-table-below t,
   read-table.Post,
 ) (read-node-at t) read-node.Post
-read-node-add-t8 t c =
+read-node-add-t11 t c =
     let h = head-bound _ _ _ _ _ (sym (head-right _ (c .before .before .before .before .before .before .before .if2 .left)) ∙ c .before .before .before .before .before .before .before .before .before .read-head .ensures) in
     let o = open-within _ _ _ _ (sym (table-right _ (c .before .before .before .before .if3 .left)) ∙ c .before .before .before .before .before .before .open-table .ensures) in
     let u = table-sum _ _ _ _ _ _ _ (o .0 .start) (sym (step-right _ (c .before .if4 .left)) ∙ c .before .before .before .read-table .ensures) in
     omega arith
 
-read-node-add-t9 : (t : ℕ) → read-node-lts.Need-add-t9 (
+read-node-add-t10 : (t : ℕ) → read-node-lts.Need-add-t10 (
+  thin-run-reads.Asked,
+  thin-run-reads.Learnt,
   refuse-reads.Asked,
   refuse-reads.Learnt,
   read-head-reads.Asked,
@@ -218,13 +304,33 @@ read-node-add-t9 : (t : ℕ) → read-node-lts.Need-add-t9 (
   read-table-below t,
   read-table.Post,
 ) (read-node-at t) read-node.Post
-read-node-add-t9 t c =
+read-node-add-t10 t c =
+    let h = head-bound _ _ _ _ _ (sym (head-right _ (c .before .before .before .before .before .before .before .if2 .left)) ∙ c .before .before .before .before .before .before .before .before .before .read-head .ensures) in
+    let o = open-within _ _ _ _ (sym (table-right _ (c .before .before .before .before .if3 .left)) ∙ c .before .before .before .before .before .before .open-table .ensures) in
+    let u = table-sum _ _ _ _ _ _ _ (o .0 .start) (sym (step-right _ (c .before .if4 .left)) ∙ c .before .before .before .read-table .ensures) in
+    omega arith
+
+read-node-add-t12 : (t : ℕ) → read-node-lts.Need-add-t12 (
+  thin-run-reads.Asked,
+  thin-run-reads.Learnt,
+  refuse-reads.Asked,
+  refuse-reads.Learnt,
+  read-head-reads.Asked,
+  read-head-reads.Learnt,
+  open-table-reads.Asked,
+  open-table-reads.Learnt,
+  read-table-below t,
+  read-table.Post,
+) (read-node-at t) read-node.Post
+read-node-add-t12 t c =
     let h = head-bound _ _ _ _ _ (sym (head-right _ (c .before .before .before .before .before .before .before .before .before .if2 .left)) ∙ c .before .before .before .before .before .before .before .before .before .before .before .read-head .ensures) in
     let o = open-within _ _ _ _ (sym (table-right _ (c .before .before .before .before .before .before .if3 .left)) ∙ c .before .before .before .before .before .before .before .before .open-table .ensures) in
     let u = table-sum _ _ _ _ _ _ _ (o .0 .start) (sym (step-right _ (c .before .before .before .if4 .left)) ∙ c .before .before .before .before .before .read-table .ensures) in
     omega arith
 
 read-node-returns-5 : (t : ℕ) → read-node-lts.Need-returns-5 (
+  thin-run-reads.Asked,
+  thin-run-reads.Learnt,
   refuse-reads.Asked,
   refuse-reads.Learnt,
   read-head-reads.Asked,
@@ -236,9 +342,10 @@ read-node-returns-5 : (t : ℕ) → read-node-lts.Need-returns-5 (
 ) (read-node-at t) read-node.Post
 read-node-returns-5 t c =
     step-right _ refl ∙
-    node-done _ _ _ (c .before .before .before .before .before .before .before .before .before .before .before .before .if1 .left) _ _ _ _ _ _ _ _ (sym (head-right _ (c .before .before .before .before .before .before .before .before .before .if2 .left)) ∙ c .before .before .before .before .before .before .before .before .before .before .before .read-head .ensures)
+    c .before .before .before .before .before .before .before .before .before .before .before .before .before .thin-run .ensures .right _ _ _
+    (node-done _ _ _ (c .before .before .before .before .before .before .before .before .before .before .before .before .if1 .left) _ _ _ _ _ _ _ _ (sym (head-right _ (c .before .before .before .before .before .before .before .before .before .if2 .left)) ∙ c .before .before .before .before .before .before .before .before .before .before .before .read-head .ensures)
     (sym (table-right _ (c .before .before .before .before .before .before .if3 .left)) ∙ c .before .before .before .before .before .before .before .before .open-table .ensures)
-    (sym (step-right _ (c .before .before .before .if4 .left)) ∙ c .before .before .before .before .before .read-table .ensures)
+    (sym (step-right _ (c .before .before .before .if4 .left)) ∙ c .before .before .before .before .before .read-table .ensures))
 
 abbrev read-table-Inv-loop : read-table-lts.InvT-loop
 read-table-Inv-loop s c left at₀ met₀ nodes₀ entries₀ i₀ at met nodes entries i =
@@ -645,6 +752,8 @@ read-table-returns-3 t c = c .all-met .ensures ∙ run-end _ _ (table-in (c .bef
 
 pub +read-node+read-table-spec : {M : Type 1} → statement M
 +read-node+read-table-spec = close μ-read-node μ-read-table (λ t. read-node-lts.spec (
+  thin-run-reads.Asked,
+  thin-run-reads.Learnt,
   refuse-reads.Asked,
   refuse-reads.Learnt,
   read-head-reads.Asked,
@@ -656,8 +765,12 @@ pub +read-node+read-table-spec : {M : Type 1} → statement M
 )
     (read-node-at t)
     read-node.Post
+    (read-node-thin-run-requires t)
+    (read-node-sub-levels t)
     (read-node-refuse-requires t)
     (read-node-returns t)
+    (read-node-mul-read-head t)
+    (read-node-add-read-head t)
     (read-node-read-head-requires t)
     (read-node-refuse-requires-2 t)
     (read-node-returns-2 t)
@@ -667,8 +780,9 @@ pub +read-node+read-table-spec : {M : Type 1} → statement M
     (read-node-sub-read-table t)
     (read-node-read-table-requires t)
     (read-node-returns-4 t)
-    (read-node-add-t8 t)
-    (read-node-add-t9 t)
+    (read-node-add-t11 t)
+    (read-node-add-t10 t)
+    (read-node-add-t12 t)
     (read-node-returns-5 t))
     λ t. read-table-lts.spec (
       next-turn-reads.Asked,

@@ -1,37 +1,83 @@
--- `joining::count_below` meets its contract: the key is one number, written. Assumes nothing.
+-- `joining::count_below` meets its contract. The loop's invariant: the count is at least `low`, and at most `left` above it. Assumes nothing.
+use Prim.Native.Nat.{_+_, _≤_}
 use native.Mathlib.Omega.{arith}
-use borrow.Author.Needs.{needs}
-use Rattle.place_buffer.proofs.Search.{records-ordered}
-use Rattle.joining.proofs.Search.{key-below}
+use mathlib.Core.Path.{refl}
+use Rattle.definitions.specs.Location.{locations-in}
+use Rattle.place_buffer.proofs.Scratch.{length-locations}
+use Rattle.joining.specs.Below.{below-count}
+use Rattle.joining.proofs.Search.{below-le, halve}
 use Rattle.joining.proofs.count_below.Statement.{statement}
 use Rattle.joining.proofs.count_below.Tie as tie
 
-slice-aggregate-put64 : tie.Need-slice-aggregate-put64
-slice-aggregate-put64 c = search needs
+abbrev Inv-loop : tie.InvT-loop
+Inv-loop img at n key low₀ left₀ low left = (low ≤ below-count key (locations-in img n at)) × (below-count key (locations-in img n at) ≤ low + left) × (low + left ≤ n)
 
-put64-requires : tie.Need-put64-requires
-put64-requires c κs = search needs
+abbrev μ-loop : tie.MeasureT-loop
+μ-loop img at n key low₀ left₀ low left = left
 
-slice-aggregate-first-from : tie.Need-slice-aggregate-first-from
-slice-aggregate-first-from c = search needs
+loop-holds : tie.Need-loop-holds Inv-loop μ-loop
+loop-holds c =
+    let args = c .before .args in
+    (omega arith, omega (arith, below-le (args .key) (locations-in (args .img .now) (args .n) (args .at)), length-locations (args .n) (args .img .now) (args .at)), omega arith)
 
-first-from-requires : tie.Need-first-from-requires
-first-from-requires c κs =
-    let start = c .before .before .before .before .before in
-    (omega arith, omega arith, omega (arith, c .before .before .put64 .kept .0), omega arith, records-ordered _ _ _ (start .pre .1))
+sub-half : tie.Need-sub-half Inv-loop μ-loop
+sub-half c = omega arith
 
-returns : tie.Need-returns
-returns c =
-    let put = c .before .before .before in
-    let start = put .before .before .before in
-    key-below _ _ _ (start .args .key) _ _ _ (omega arith) (omega arith) (put .put64 .ensures) (c .first-from .ensures)
+add-so-many-below : tie.Need-add-so-many-below Inv-loop μ-loop
+add-so-many-below c = omega arith
+
+sub-so-many-below : tie.Need-sub-so-many-below Inv-loop μ-loop
+sub-so-many-below c = omega arith
+
+mul-so-many-below : tie.Need-mul-so-many-below Inv-loop μ-loop
+mul-so-many-below c = omega arith
+
+add-so-many-below-2 : tie.Need-add-so-many-below-2 Inv-loop μ-loop
+add-so-many-below-2 c = omega arith
+
+so-many-below-requires : tie.Need-so-many-below-requires Inv-loop μ-loop
+so-many-below-requires c κs = omega arith
+
+add-low : tie.Need-add-low Inv-loop μ-loop
+add-low c =
+    let turn = c .before .before .loop in
+    let start = c .before .before .before .before in
+    let args = start .args in
+    let h = halve (args .img .now) (args .n) (args .at) (args .key) (start .pre .1) (turn .low) (turn .left) _ (turn .inv .0) (turn .inv .1) (turn .inv .2) (omega arith) refl (c .so-many-below .ensures) in
+    omega (arith, h)
+
+sub-left : tie.Need-sub-left Inv-loop μ-loop
+sub-left c = omega arith
+
+loop-less : tie.Need-loop-less Inv-loop μ-loop
+loop-less c = omega arith
+
+loop-again : tie.Need-loop-again Inv-loop μ-loop
+loop-again c =
+    let turn = c .before .before .loop in
+    let start = c .before .before .before .before in
+    let args = start .args in
+    let h = halve (args .img .now) (args .n) (args .at) (args .key) (start .pre .1) (turn .low) (turn .left) _ (turn .inv .0) (turn .inv .1) (turn .inv .2) (omega arith) refl (c .so-many-below .ensures) in
+    (h .0, h .1, h .2)
+
+returns : tie.Need-returns Inv-loop μ-loop
+returns c = omega arith
 
 pub count-below-spec : {M : Type 1} → statement M
 count-below-spec =
     tie.close
     (tie.spec
-    slice-aggregate-put64
-    put64-requires
-    slice-aggregate-first-from
-    first-from-requires
+    Inv-loop
+    μ-loop
+    loop-holds
+    sub-half
+    add-so-many-below
+    sub-so-many-below
+    mul-so-many-below
+    add-so-many-below-2
+    so-many-below-requires
+    add-low
+    sub-left
+    loop-less
+    loop-again
     returns)

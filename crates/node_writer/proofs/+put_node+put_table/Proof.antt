@@ -5,6 +5,7 @@ use native.Mathlib.Omega.{arith}
 use mathlib.Core.Path.{_∙_}
 use borrow.Fn.Kinds.{In}
 use borrow.Fn.PlainCycle.{Measures, is, falls, and}
+use Rattle.node_writer.proofs.Ones.{alone-asked, alone-written}
 use Rattle.node_writer.proofs.Noding.{head-asked, table-asked, node-written}
 use Rattle.node_writer.proofs.Walking.{opened, asked-first, OnTurns, where-is, flag-room, now-asked, turn-asked, levels}
 use Rattle.node_writer.proofs.Stepping.{turns-start, none-turn, child-asked, child-turn}
@@ -17,6 +18,7 @@ use Rattle.node_writer.proofs.put_table.Kinds as put-table-kinds
 use Rattle.node_writer.proofs.+put_node+put_table.Lts-put_table as put-table-lts
 use Rattle.node_writer.proofs.put_count.Reads as put-count-reads
 use Rattle.node_writer.proofs.put_head.Reads as put-head-reads
+use Rattle.node_writer.proofs.put_one.Reads as put-one-reads
 use Rattle.node_writer.proofs.put_turn.Reads as put-turn-reads
 use Rattle.node_writer.proofs.+put_node+put_table.{statement}
 use Rattle.node_writer.proofs.+put_node+put_table.Tie.{close}
@@ -41,15 +43,63 @@ abbrev put-table-below : ℕ → In 2 put-table-kinds.ps
 put-table-below t =
     and 2 put-table-kinds.ps (falls 2 put-table-kinds.ps _<_ μ-put-table t) put-table.Pre
 
-put-node-put-head-requires : (t : ℕ) → put-node-lts.Need-put-head-requires (
+put-node-sub-if1 : (t : ℕ) → put-node-lts.Need-sub-if1 (
+  put-one-reads.Asked,
+  put-one-reads.Learnt,
   put-head-reads.Asked,
   put-head-reads.Learnt,
   put-table-below t,
   put-table.Post,
 ) (put-node-at t) put-node.Post
-put-node-put-head-requires t c κs = head-asked (c .before .before .before .before .pre .1)
+put-node-sub-if1 t c = c .before .before .pre .1 .order
+
+put-node-put-one-requires : (t : ℕ) → put-node-lts.Need-put-one-requires (
+  put-one-reads.Asked,
+  put-one-reads.Learnt,
+  put-head-reads.Asked,
+  put-head-reads.Learnt,
+  put-table-below t,
+  put-table.Post,
+) (put-node-at t) put-node.Post
+put-node-put-one-requires t c κs =
+    let q = c .before .before .before .before .pre .1 in
+    alone-asked q (omega (arith, q .order, c .before .if1 .taken))
+
+put-node-same-length : (t : ℕ) → put-node-lts.Need-same-length (
+  put-one-reads.Asked,
+  put-one-reads.Learnt,
+  put-head-reads.Asked,
+  put-head-reads.Learnt,
+  put-table-below t,
+  put-table.Post,
+) (put-node-at t) put-node.Post
+put-node-same-length t c = c .before .before .put-one .kept .0
+
+put-node-returns : (t : ℕ) → put-node-lts.Need-returns (
+  put-one-reads.Asked,
+  put-one-reads.Learnt,
+  put-head-reads.Asked,
+  put-head-reads.Learnt,
+  put-table-below t,
+  put-table.Post,
+) (put-node-at t) put-node.Post
+put-node-returns t c =
+    let q = c .before .before .before .before .before .before .before .pre .1 in
+    alone-written q (omega (arith, q .order, c .before .before .before .before .if1 .taken)) (c .before .before .put-one .ensures)
+
+put-node-put-head-requires : (t : ℕ) → put-node-lts.Need-put-head-requires (
+  put-one-reads.Asked,
+  put-one-reads.Learnt,
+  put-head-reads.Asked,
+  put-head-reads.Learnt,
+  put-table-below t,
+  put-table.Post,
+) (put-node-at t) put-node.Post
+put-node-put-head-requires t c κs = (head-asked (c .before .before .before .before .before .pre .1), c .before .before .before .before .before .pre .1 .buffer)
 
 put-node-put-table-requires : (t : ℕ) → put-node-lts.Need-put-table-requires (
+  put-one-reads.Asked,
+  put-one-reads.Learnt,
   put-head-reads.Asked,
   put-head-reads.Learnt,
   put-table-below t,
@@ -57,32 +107,38 @@ put-node-put-table-requires : (t : ℕ) → put-node-lts.Need-put-table-requires
 ) (put-node-at t) put-node.Post
 put-node-put-table-requires t c κs =
     let head = c .before .before .before .before .before .before in
-    let start = head .before .before .before .before .before in
+    let start = c .before .before .before .before .before .before .before .before .before .before .before .before in
     (omega (arith, start .pre .0), table-asked (start .pre .1) (head .put-head .ensures) (head .put-head .kept .1 .1 .1 .1 .1 .1 .0))
 
-put-node-same-length : (t : ℕ) → put-node-lts.Need-same-length (
-  put-head-reads.Asked,
-  put-head-reads.Learnt,
-  put-table-below t,
-  put-table.Post,
-) (put-node-at t) put-node.Post
-put-node-same-length t c = c .before .before .before .before .put-table .kept .0 ∙ c .before .before .before .before .before .before .before .before .before .before .before .put-head .kept .0
-
 put-node-same-length-2 : (t : ℕ) → put-node-lts.Need-same-length-2 (
+  put-one-reads.Asked,
+  put-one-reads.Learnt,
   put-head-reads.Asked,
   put-head-reads.Learnt,
   put-table-below t,
   put-table.Post,
 ) (put-node-at t) put-node.Post
-put-node-same-length-2 t c = c .before .before .before .before .put-table .kept .1 .1 .1 .1 .1 .1 .1 .0 ∙ c .before .before .before .before .before .before .before .before .before .before .before .put-head .kept .1 .1 .1 .1 .1 .1 .0
+put-node-same-length-2 t c = c .before .before .before .before .put-table .kept .0 ∙ c .before .before .before .before .before .before .before .before .before .before .before .put-head .kept .0
 
-put-node-returns : (t : ℕ) → put-node-lts.Need-returns (
+put-node-same-length-3 : (t : ℕ) → put-node-lts.Need-same-length-3 (
+  put-one-reads.Asked,
+  put-one-reads.Learnt,
   put-head-reads.Asked,
   put-head-reads.Learnt,
   put-table-below t,
   put-table.Post,
 ) (put-node-at t) put-node.Post
-put-node-returns t c = node-written (c .before .before .before .before .before .before .before .before .before .before .before .before .before .before .before .before .pre .1) (c .before .before .before .before .before .before .before .before .before .before .before .put-head .ensures) (c .before .before .before .before .put-table .ensures)
+put-node-same-length-3 t c = c .before .before .before .before .put-table .kept .1 .1 .1 .1 .1 .1 .1 .0 ∙ c .before .before .before .before .before .before .before .before .before .before .before .put-head .kept .1 .1 .1 .1 .1 .1 .0
+
+put-node-returns-2 : (t : ℕ) → put-node-lts.Need-returns-2 (
+  put-one-reads.Asked,
+  put-one-reads.Learnt,
+  put-head-reads.Asked,
+  put-head-reads.Learnt,
+  put-table-below t,
+  put-table.Post,
+) (put-node-at t) put-node.Post
+put-node-returns-2 t c = node-written (c .before .before .before .before .before .before .before .before .before .before .before .before .before .before .before .before .before .pre .1) (c .before .before .before .before .before .before .before .before .before .before .before .put-head .ensures) (c .before .before .before .before .put-table .ensures)
 
 abbrev put-table-Inv-loop : put-table-lts.InvT-loop
 put-table-Inv-loop mem₀ work lo hi d n groups₀ left t turns end₀ met₀ j₀ mem groups end met j = OnTurns mem₀ mem work lo hi d n t end₀ end groups₀ groups left j met
@@ -402,6 +458,8 @@ put-table-returns t c = table-written (c .before .before .before .before .before
 
 pub +put-node+put-table-spec : {M : Type 1} → statement M
 +put-node+put-table-spec = close μ-put-node μ-put-table (λ t. put-node-lts.spec (
+  put-one-reads.Asked,
+  put-one-reads.Learnt,
   put-head-reads.Asked,
   put-head-reads.Learnt,
   put-table-below t,
@@ -409,11 +467,15 @@ pub +put-node+put-table-spec : {M : Type 1} → statement M
 )
     (put-node-at t)
     put-node.Post
+    (put-node-sub-if1 t)
+    (put-node-put-one-requires t)
+    (put-node-same-length t)
+    (put-node-returns t)
     (put-node-put-head-requires t)
     (put-node-put-table-requires t)
-    (put-node-same-length t)
     (put-node-same-length-2 t)
-    (put-node-returns t))
+    (put-node-same-length-3 t)
+    (put-node-returns-2 t))
     λ t. put-table-lts.spec (
       put-count-reads.Asked,
       put-count-reads.Learnt,

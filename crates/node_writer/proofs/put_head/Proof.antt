@@ -11,7 +11,7 @@ run-end-requires c κs = search needs
 
 run-end-requires-2 : tie.Need-run-end-requires-2
 run-end-requires-2 c κs =
-    let q = c .before .before .before .before .before .pre in
+    let q = c .before .before .before .before .before .pre .0 in
     let e = c .before .run-end .ensures in
     (parts-upto q e, q .memory, q .depth, parts-held q e)
 
@@ -19,10 +19,10 @@ find-groups-requires : tie.Need-find-groups-requires
 find-groups-requires c κs =
     let second = c .before .before in
     let first = second .before .before in
-    let q = first .before .before .before .before .pre in
+    let q = first .before .before .before .before .pre .0 in
     let e = first .run-end .ensures in
     let f = second .run-end2 .ensures in
-    (mid-upto q e f, q .memory, mid-held q e f, q .depth, q .buffer, mid-longer q e f, mid-few q e f)
+    (mid-upto q e f, q .memory, mid-held q e f, q .depth, first .before .before .before .before .pre .1, mid-longer q e f, mid-few q e f)
 
 kind-of-requires : tie.Need-kind-of-requires
 kind-of-requires c κs = search needs
@@ -38,7 +38,7 @@ put-lists-requires c κs =
     let kind = c .before .before in
     let second = kind .before .before .before .before .before .before in
     let first = second .before .before in
-    let q = first .before .before .before .before .pre in
+    let q = first .before .before .before .before .pre .0 in
     lists-asked q (first .run-end .ensures) (second .run-end2 .ensures) _ _ (kind .kind-of .ensures) (c .behind-kind .ensures)
 
 same-length : tie.Need-same-length
@@ -54,7 +54,7 @@ returns c =
     let found = kind .before .before .before in
     let second = found .before .before .before in
     let first = second .before .before in
-    let q = first .before .before .before .before .pre in
+    let q = first .before .before .before .before .pre .0 in
     head-written q (first .run-end .ensures) (second .run-end2 .ensures) _ _ (kind .kind-of .ensures) (lists .before .behind-kind .ensures) (lists .put-lists .ensures) (found .find-groups .ensures)
 
 pub put-head-spec : {M : Type 1} → statement M

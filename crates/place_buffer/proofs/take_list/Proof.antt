@@ -1,72 +1,57 @@
--- `place_buffer::take_list` meets its contract: the locations so far are added, and a refused set stays refused. Assumes nothing.
-use Prim.Native.Nat.{_-_, _≤_}
+-- `place_buffer::take_list` meets its contract: a list that is copied behind the places is added whole. Assumes nothing.
 use native.Mathlib.Omega.{arith}
-use Rattle.definitions.specs.Location.{locations-in}
-use Rattle.place_buffer.specs.Buffer.{Taken}
-use Rattle.place_buffer.proofs.Adding.{take-start, take-next, take-refused, take-done}
+use borrow.Author.Needs.{needs}
+use Rattle.place_buffer.proofs.Adding.{taken-full, taken-copied}
 use Rattle.place_buffer.proofs.take_list.Statement.{statement}
 use Rattle.place_buffer.proofs.take_list.Tie as tie
 
-abbrev Inv-loop : tie.InvT-loop
-Inv-loop img at n scratch₀ r₀ i₀ scratch r i = (i ≤ n) × Taken scratch₀ scratch r₀ (locations-in img i at) r
+returns : tie.Need-returns
+returns c = taken-full (c .before .before .before .pre .1) (c .if1 .taken) _
 
-abbrev μ-loop : tie.MeasureT-loop
-μ-loop img at n scratch₀ r₀ i₀ scratch r i = n - i
+sub-if2 : tie.Need-sub-if2
+sub-if2 c = search needs
 
-loop-holds : tie.Need-loop-holds Inv-loop μ-loop
-loop-holds c = (omega arith, take-start _ _ (c .before .before .pre .1))
+take-each-requires : tie.Need-take-each-requires
+take-each-requires c κs = search needs
 
-same-length : tie.Need-same-length Inv-loop μ-loop
-same-length c = c .before .before .loop .inv .1 .same-length
+same-length : tie.Need-same-length
+same-length c = search needs
 
-returns : tie.Need-returns Inv-loop μ-loop
-returns c = take-refused _ _ _ (c .before .before .loop .inv .1) _ (c .before .before .loop .inv .0) (c .if1 .taken)
+returns-2 : tie.Need-returns-2
+returns-2 c = search needs
 
-mul-location-at : tie.Need-mul-location-at Inv-loop μ-loop
-mul-location-at c = omega arith
+mul-copy : tie.Need-mul-copy
+mul-copy c = search needs
 
-add-location-at : tie.Need-add-location-at Inv-loop μ-loop
-add-location-at c = omega arith
+mul-copy-2 : tie.Need-mul-copy-2
+mul-copy-2 c = search needs
 
-location-at-requires : tie.Need-location-at-requires Inv-loop μ-loop
-location-at-requires c κs = omega arith
+copy-requires : tie.Need-copy-requires
+copy-requires c κs = search needs
 
-place-requires : tie.Need-place-requires Inv-loop μ-loop
-place-requires c κs = c .before .before .before .before .loop .inv .1 .valid
+add-t11 : tie.Need-add-t11
+add-t11 c = search needs
 
-add-i : tie.Need-add-i Inv-loop μ-loop
-add-i c = omega arith
+same-length-2 : tie.Need-same-length-2
+same-length-2 c = search needs
 
-loop-less : tie.Need-loop-less Inv-loop μ-loop
-loop-less c = omega arith
-
-loop-again : tie.Need-loop-again Inv-loop μ-loop
-loop-again c =
-    let place = c .before .before in
-    let turn = place .before .before .before .before .before in
-    (omega arith, take-next _ _ _ (turn .loop .inv .1) (place .before .location-at .ensures) (place .place .ensures))
-
-same-length-2 : tie.Need-same-length-2 Inv-loop μ-loop
-same-length-2 c = c .before .loop .inv .1 .same-length
-
-returns-2 : tie.Need-returns-2 Inv-loop μ-loop
-returns-2 c = take-done _ _ _ (c .before .loop .inv .1) _ (c .before .loop .inv .0) (c .loop-test .left)
+returns-3 : tie.Need-returns-3
+returns-3 c =
+    let start = c .before .before .before .before .before .before .before .before in
+    taken-copied (start .pre .1) _ _ _ (c .before .before .before .before .before .if1 .left) (start .pre .0) (omega arith) (c .before .before .copy .ensures)
 
 pub take-list-spec : {M : Type 1} → statement M
 take-list-spec =
     tie.close
     (tie.spec
-    Inv-loop
-    μ-loop
-    loop-holds
-    same-length
     returns
-    mul-location-at
-    add-location-at
-    location-at-requires
-    place-requires
-    add-i
-    loop-less
-    loop-again
+    sub-if2
+    take-each-requires
+    same-length
+    returns-2
+    mul-copy
+    mul-copy-2
+    copy-requires
+    add-t11
     same-length-2
-    returns-2)
+    returns-3)

@@ -16,7 +16,7 @@ same-length-2 c = search needs
 returns : tie.Need-returns
 returns c =
     let start = c .before .before .before .before .before .before .before .before .before .before in
-    end-over (start .args .i) (start .pre .1) (start .pre .2) (c .before .before .before .find-places .ensures) (c .if1 .taken)
+    end-over (start .args .i) (start .pre .1) (start .pre .3) (c .before .before .before .find-places .ensures) (c .if1 .taken)
 
 tidy-requires : tie.Need-tidy-requires
 tidy-requires c κs = search needs
@@ -36,7 +36,7 @@ same-length-4 c = search needs
 returns-2 : tie.Need-returns-2
 returns-2 c =
     let start = c .before .before .before .before .before .before .before .before .before .before .before .before .before .before in
-    end-laid (start .args .i) (start .pre .1) (start .pre .2) (c .before .before .before .before .before .before .before .find-places .ensures) (c .before .before .before .before .if1 .left) (c .before .before .tidy .ensures)
+    end-laid (start .args .i) (start .pre .1) (start .pre .3) (c .before .before .before .before .before .before .before .find-places .ensures) (c .before .before .before .before .if1 .left) (c .before .before .tidy .ensures)
 
 pub find-end-spec : {M : Type 1} → statement M
 find-end-spec =

@@ -1,10 +1,10 @@
--- `places::end_from` stays within the input. Assumes nothing.
+-- `answering::end_from` stays within the input. Assumes nothing.
 use native.Mathlib.Omega.{arith}
 use borrow.Author.Needs.{needs}
 use denote.Ref.{now}
 use Rattle.lines.proofs.Cutting.{line-ends}
-use Rattle.places.proofs.end_from.Statement.{statement}
-use Rattle.places.proofs.end_from.Tie as tie
+use Rattle.answering.proofs.end_from.Statement.{statement}
+use Rattle.answering.proofs.end_from.Tie as tie
 
 line-end-requires : tie.Need-line-end-requires
 line-end-requires c κs = search needs

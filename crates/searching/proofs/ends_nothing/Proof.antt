@@ -1,0 +1,19 @@
+-- `searching::ends_nothing` meets its contract: it looks at the counts. Assumes nothing.
+use native.Mathlib.Omega.{arith}
+use mathlib.Core.Path.{sym, _∙_}
+use borrow.Author.Tests.{eqb-true}
+use Rattle.sort.proofs.Order.{clash}
+use Rattle.searching.proofs.ends_nothing.Statement.{statement}
+use Rattle.searching.proofs.ends_nothing.Tie as tie
+
+returns : tie.Need-returns
+returns c = λ e. clash (sym e)
+
+returns-2 : tie.Need-returns-2
+returns-2 c = λ e. record { chunks = omega arith; prefixes = λ f. eqb-true _ _ e }
+
+returns-3 : tie.Need-returns-3
+returns-3 c = λ e. record { chunks = omega arith; prefixes = λ f. clash (sym f ∙ c .if2 .left) }
+
+pub ends-nothing-spec : {M : Type 1} → statement M
+ends-nothing-spec = tie.close (tie.spec returns returns-2 returns-3)

@@ -1,0 +1,54 @@
+-- `searching::find_loosely` meets its contract: what has room with more places kept than there are has room. Assumes nothing.
+use mathlib.Core.Path.{sym}
+use borrow.Author.Needs.{needs}
+use Rattle.sort.proofs.Order.{clash}
+use Rattle.searching.proofs.Laying.{ending-most, found-loosely}
+use Rattle.searching.proofs.find_loosely.Statement.{statement}
+use Rattle.searching.proofs.find_loosely.Tie as tie
+
+returns : tie.Need-returns
+returns c = λ e. clash (sym e)
+
+returns-2 : tie.Need-returns-2
+returns-2 c = λ e. clash (sym e)
+
+add-most : tie.Need-add-most
+add-most c = search needs
+
+find-from-requires : tie.Need-find-from-requires
+find-from-requires c κs = search needs
+
+same-length : tie.Need-same-length
+same-length c = search needs
+
+same-length-2 : tie.Need-same-length-2
+same-length-2 c = search needs
+
+returns-3 : tie.Need-returns-3
+returns-3 c = λ e. clash (sym e)
+
+same-length-3 : tie.Need-same-length-3
+same-length-3 c = search needs
+
+same-length-4 : tie.Need-same-length-4
+same-length-4 c = search needs
+
+returns-4 : tie.Need-returns-4
+returns-4 c =
+    let start = c .before .before .before .before .before .before .before .before .before .before .before .before .before .before .before .before .before .before in
+    λ e. found-loosely (ending-most (start .args .q .now) (start .pre .1) (start .pre .2)) (c .before .before .before .before .before .find-from .ensures) (c .if3 .left)
+
+pub find-loosely-spec : {M : Type 1} → statement M
+find-loosely-spec =
+    tie.close
+    (tie.spec
+    returns
+    returns-2
+    add-most
+    find-from-requires
+    same-length
+    same-length-2
+    returns-3
+    same-length-3
+    same-length-4
+    returns-4)
