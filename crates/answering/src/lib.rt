@@ -6,8 +6,14 @@ use replies::REPLY_LIMIT;
 use string_index::Answer;
 use string_index::Finished;
 use string_index::Recorded;
-ghost use Prim.Native.Nat.{_+_, _*_, _≤_};
+ghost use mathlib.Core.Path.{_≡_};
+ghost use Prim.Native.Nat.{_+_, _*_, _≤_, min};
 ghost use lib.ListN.{length};
+ghost use Rattle.location.specs.Plain.{plain};
+ghost use Rattle.index_memory.specs.Record.{record-memory};
+ghost use Rattle.string_index.specs.Finish.{finish-memory};
+ghost use Rattle.forms.specs.ReadLine.{read-line};
+ghost use Rattle.answering.specs.Memory.{memory-after-form};
 
 // The bytes of scratch for 256 places.
 const SCRATCH_SIZE: usize = 6144;
@@ -42,7 +48,7 @@ pub fn refuse(out: &mut [u8], at: usize, n: u64) -> usize
 }
 
 pub fn at_most(n: usize, limit: usize) -> usize
-    ensures { λ r. ⌜ r ≤ limit ⌝ }
+    ensures { λ r. ⌜ r ≡ min n limit ⌝ }
 {
     if n <= limit { n } else { limit }
 }
@@ -79,6 +85,7 @@ fn record(
     at: usize,
 ) -> usize
     requires { ⌜ 71 ≤ length (now out) ⌝ }
+    ensures { λ _. ⌜ now (mem .exit) ≡ record-memory (now (mem .entry)) kind (record { bytes = now (bytes .entry); at = plain l }) .memory ⌝ }
 {
     match string_index::record(mem, kind, l, bytes) {
         Recorded::Taken => {
@@ -91,6 +98,7 @@ fn record(
 
 fn finish(mem: &mut [u8], out: &mut [u8], at: usize) -> usize
     requires { ⌜ 71 ≤ length (now out) ⌝ }
+    ensures { λ _. ⌜ now (mem .exit) ≡ finish-memory (now (mem .entry)) .memory ⌝ }
 {
     match string_index::finish(mem) {
         Finished::Done => {
@@ -116,6 +124,7 @@ fn find(mem: &[u8], q: &[u8], out: &mut [u8], at: usize) -> usize
 // A line of 1,024 bytes has at most 511 pairs, so the buffer holds the bytes of every form.
 pub fn answer(mem: &mut [u8], line: &[u8], out: &mut [u8], at: usize) -> usize
     requires { ⌜ 71 ≤ length (now out) ⌝ }
+    ensures { λ _. ⌜ now (mem .exit) ≡ memory-after-form (now (mem .entry)) (read-line (now (line .entry))) ⌝ }
 {
     let mut bytes = [0u8; 512];
     match forms::read_form(line, &mut bytes) {

@@ -1,8 +1,8 @@
 //! Writes recordings for a program to replay, and what the published index answers to them.
 //!
-//!     cd oracle && cargo run --release --offline --bin sample -- ../replay
+//!     cd oracle && cargo run --release --offline --bin sample -- ../crates/replay
 //!
-//! writes DIR/recordings, in the forms of `places`, with a line (new) between two recordings and (save) where an image is
+//! writes DIR/data/recordings, in the forms of `places`, with a line (new) between two recordings and (save) where an image is
 //! asked for, and DIR/stdout. No call is refused in it, and document 01 says of every answer that the Rust is met. Prints
 //! what the sample covers, and ends with 1 where something is missing.
 use oracle::answers::Answering;
@@ -259,7 +259,7 @@ fn missing(s: &Sample) -> Vec<String> {
 }
 
 fn main() {
-    let dir = std::env::args().nth(1).unwrap_or("../replay".into());
+    let dir = std::env::args().nth(1).unwrap_or("../crates/replay".into());
     let mut s = Sample::default();
     let mut r = Random::new(1);
     documented(&mut s);
@@ -267,8 +267,8 @@ fn main() {
     lengths(&mut s, &mut r);
     chains(&mut s, &mut r);
     made(&mut s, 1000, ROOM - 10_000);
-    std::fs::create_dir_all(&dir).unwrap();
-    std::fs::write(format!("{dir}/recordings"), &s.input).unwrap();
+    std::fs::create_dir_all(format!("{dir}/data")).unwrap();
+    std::fs::write(format!("{dir}/data/recordings"), &s.input).unwrap();
     std::fs::write(format!("{dir}/stdout"), &s.answers).unwrap();
     println!("{} recordings, {} bytes of input, {} of answers", s.recordings, s.input.len(), s.answers.len());
     for (what, n) in &s.covered {

@@ -1,6 +1,15 @@
--- `answering::answer` is safe and ends. Assumes nothing.
+-- `answering::answer` does to the memory what the form of the line does. Assumes nothing.
+use Prim.Native.Nat.{ℕ}
 use native.Mathlib.Omega.{arith}
-use lib.ListN.{length-take}
+use mathlib.Core.Path.{_≡_, ap, subst, _∙_}
+use lib.ListN.{length, replicate, length-take, length-replicate}
+use lib.Seq.{length-sets}
+use Rattle.forms.specs.ReadLine.{read-line}
+use denote.Ref.{now}
+use Rattle.forms.specs.declared.Form.{Form}
+use Rattle.forms.specs.Answers.{Reads, bytes-of}
+use Rattle.answering.proofs.Blocks.{block-memory}
+use Rattle.answering.specs.Memory.{memory-after-form}
 use borrow.Author.Needs.{needs}
 use Rattle.answering.proofs.answer.Statement.{statement}
 use Rattle.answering.proofs.answer.Tie as tie
@@ -63,7 +72,11 @@ same-length-2 : tie.Need-same-length-2
 same-length-2 c = search needs
 
 returns : tie.Need-returns
-returns c = search needs
+returns c =
+    let f = c .before .before .before .before .before .before .before .before .before .before .before .before .before .before .read-form in
+    let a = c .before .before .before .before .before .before .before .before .before .before .before .before .before .before .before .before .before .before .before .args in
+    let w = subst (λ (r : Form). Reads (now (a .line)) _ r (f .last .1 .0)) (c .before .before .before .before .before .before .before .before .before .before .before .kind .given .1) (f .ensures) in
+    block-memory (now (a .mem)) (f .last .1 .0) _ _ _ _ _ _ _ _ _ (c .before .before .before .before .«record» .ensures) (c .before .before .before .before .before .before .before .before .before .at-most .ensures) (c .before .before .before .before .before .before .before .before .new .ensures) (omega (arith, ap length (w .decoded), length-sets (replicate 512 0) 0 (bytes-of (read-line (now (a .line)))), length-replicate {A = ℕ} 512 0)) (w .means (omega (arith, length-replicate {A = ℕ} 512 0)))
 
 same-length-3 : tie.Need-same-length-3
 same-length-3 c = search needs
@@ -72,7 +85,13 @@ same-length-4 : tie.Need-same-length-4
 same-length-4 c = search needs
 
 returns-2 : tie.Need-returns-2
-returns-2 c = search needs
+returns-2 c =
+    let f = c .before .before .before .before .before .before .before .before .before .before .read-form in
+    let a = c .before .before .before .before .before .before .before .before .before .before .before .before .before .before .before .args in
+    let m = now (a .mem) in
+    let w = subst (λ (r : Form). Reads (now (a .line)) _ r (f .last .1 .0)) (c .before .before .before .before .before .before .before .enum-told .given .1) (f .ensures) in
+    let e = w .means (omega (arith, length-replicate {A = ℕ} 512 0)) in
+    c .before .before .before .before .finish .ensures ∙ ap (memory-after-form m) e
 
 same-length-5 : tie.Need-same-length-5
 same-length-5 c = search needs
@@ -81,13 +100,25 @@ same-length-6 : tie.Need-same-length-6
 same-length-6 c = search needs
 
 returns-3 : tie.Need-returns-3
-returns-3 c = search needs
+returns-3 c =
+    let f = c .before .before .before .before .before .before .before .before .before .before .before .read-form in
+    let a = c .before .before .before .before .before .before .before .before .before .before .before .before .before .before .before .before .args in
+    let m = now (a .mem) in
+    let w = subst (λ (r : Form). Reads (now (a .line)) _ r (f .last .1 .0)) (c .before .before .before .before .before .before .before .before .length .given .1) (f .ensures) in
+    let e = w .means (omega (arith, length-replicate {A = ℕ} 512 0)) in
+    ap (memory-after-form m) e
 
 same-length-7 : tie.Need-same-length-7
 same-length-7 c = search needs
 
 returns-4 : tie.Need-returns-4
-returns-4 c = search needs
+returns-4 c =
+    let f = c .before .before .before .before .before .before .before .read-form in
+    let a = c .before .before .before .before .before .before .before .before .before .before .before .before .args in
+    let m = now (a .mem) in
+    let w = subst (λ (r : Form). Reads (now (a .line)) _ r (f .last .1 .0)) (c .before .before .before .before .enum-told2 .given .1) (f .ensures) in
+    let e = w .means (omega (arith, length-replicate {A = ℕ} 512 0)) in
+    ap (memory-after-form m) e
 
 pub answer-spec : {M : Type 1} → statement M
 answer-spec =

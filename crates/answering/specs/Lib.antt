@@ -1,0 +1,2 @@
+-- `Memory` says what a line does to the memory of an index. Assumes nothing.
+pub mod Memory
