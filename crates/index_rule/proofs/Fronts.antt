@@ -1,13 +1,13 @@
 -- Fronts on the stack: one put behind the others, the next one from an index on, and what stays below. Assumes nothing.
-use Prim.Native.Nat.{ℕ, _+_, _*_, _-_, _≤_, _<_}
+use Prim.Native.Nat.{ℕ, zero, suc, _+_, _*_, _-_, _≤_, _<_}
 use native.Mathlib.Omega.{arith}
 use mathlib.Core.Path.{_≡_, refl, sym, subst, _∙_}
 use mathlib.Core.List.{List, [], _∷_, _++_}
 use lib.ListN.{length, getD, set, length-set, length-append}
 use lib.Seq.{getD-set-same, getD-set-other}
 use Rattle.trie.specs.Trie.{Node}
-use Rattle.index_rule.specs.Parts.{TableOf}
-use Rattle.index_rule.specs.Fronts.{FrontsFrom, with-front, KeptBelow}
+use Rattle.index_rule.specs.Parts.{TableOf, HasTable}
+use Rattle.index_rule.specs.Fronts.{FrontsFrom, HasFronts, with-front, KeptBelow}
 
 -- ── a front on the stack ──
 
@@ -85,3 +85,16 @@ fronts-end (f ∷ fs) count i l e = absurd (omega arith)
 -- number 0 is where they start
 pub fronts-start : (s : List ℕ) (d : ℕ) (fronts : List ℕ) (from : ℕ) (fs : List Node) → FrontsFrom s d fronts from fs → FrontsFrom s d fronts (from + 0 * 2) fs
 fronts-start s d fronts from fs h = let z : from ≡ from + 0 * 2 = omega arith in subst (λ (p : ℕ). FrontsFrom s d fronts p fs) z h
+
+-- the table of front number i
+pub front-table : (s : List ℕ) (fronts : List ℕ) (from count i : ℕ) → i < count → HasFronts s fronts from count → HasTable s (getD fronts (from + i * 2) 0) (getD fronts (from + i * 2 + 1) 0)
+front-table s fronts from count i l h = go (h .nodes) from i (omega (arith, h .is .many)) (h .is .each)
+  where
+    go : (fs : List Node) (p i : ℕ) → i < length fs → FrontsFrom s (h .depth) fronts p fs → HasTable s (getD fronts (p + i * 2) 0) (getD fronts (p + i * 2 + 1) 0)
+    go [] p i l h = absurd (omega arith)
+    go (f ∷ fs) p zero l k = let z : p ≡ p + 0 * 2 = omega arith in subst (λ (q : ℕ). HasTable s (getD fronts q 0) (getD fronts (q + 1) 0)) z (record { depth = h .depth; forest = f .children; is = k .0 })
+    go (f ∷ fs) p (suc i) l k = let z : p + 2 + i * 2 ≡ p + suc i * 2 = omega arith in subst (λ (q : ℕ). HasTable s (getD fronts q 0) (getD fronts (q + 1) 0)) z (go fs (p + 2) i (omega arith) (k .1))
+
+-- where they stand from the start on
+pub first-table : (s : List ℕ) (fronts : List ℕ) (count i : ℕ) → i < count → HasFronts s fronts 0 count → HasTable s (getD fronts (i * 2) 0) (getD fronts (i * 2 + 1) 0)
+first-table s fronts count i l h = let z : 0 + i * 2 ≡ i * 2 = omega arith in subst (λ (q : ℕ). HasTable s (getD fronts q 0) (getD fronts (q + 1) 0)) z (front-table s fronts 0 count i l h)

@@ -1,4 +1,5 @@
 // The finished index rule, tested on an image in place; and the whole check of an image.
+mod ahead;
 mod runs;
 
 use image_walk::Child;
@@ -188,7 +189,7 @@ struct Found {
 }
 
 // The fronts of a child by byte, one depth further on: the children by byte of the fronts at depth.
-fn next_fronts(
+fn fronts_by(
     s: &[u8],
     byte: u8,
     depth: usize,
@@ -226,6 +227,23 @@ fn next_fronts(
         fronts: met,
         lists: listed,
     }
+}
+
+// The fronts of the child by byte at index at. Below the root they are many, and are read ahead with all below them.
+fn next_fronts(
+    s: &[u8],
+    byte: u8,
+    depth: usize,
+    fronts: &mut [usize],
+    count: usize,
+    lists: &mut [usize],
+    at: usize,
+) -> Found
+    requires { ⌜ HasFronts (now s) (now fronts) (depth * 512) count × (depth ≤ 15) × (8704 ≤ length (now fronts)) × (1024 ≤ length (now lists)) ⌝ }
+    ensures { λ r. ⌜ NextFronts (now (s .entry)) byte depth (now (fronts .entry)) count (now (fronts .exit)) (r .fronts) (now (lists .exit)) (r .lists) ⌝ }
+{
+    ahead::look_ahead(s, byte, depth, fronts, count, at, lists);
+    fronts_by(s, byte, depth, fronts, count, lists)
 }
 
 // Whether the child in a table of one entry has neither chunk nor suffix.
@@ -394,7 +412,7 @@ fn child_right(
     ensures { λ r. ⌜ ChildSays (now (s .entry)) byte at depth (now (fronts .entry)) count left (now (fronts .exit)) r ⌝ }
 {
     let c = image_walk::node_at(s, at);
-    let found = next_fronts(s, byte, depth, fronts, count, lists);
+    let found = next_fronts(s, byte, depth, fronts, count, lists, at);
     if !location_lists::is_union(s, c.prefixes, c.prefix_count, 1, lists, found.lists) {
         return false;
     }
