@@ -24,20 +24,9 @@ pub fn finish_open(mem: &mut [u8], h: Header)
     requires { ⌜ (header-at (now mem) ≡ header-of h) × (read-index (now mem) ≡ opened (header-of h .capacity) (log-in (now mem) (h .payload) 64)) ⌝ }
     ensures { λ _. ⌜ now (mem .exit) ≡ finished-memory (now (mem .entry)) (header-of h .capacity) (trie-of (log-in (now (mem .entry)) (h .payload) 64)) ⌝ }
 {
-    let nodes = h.node_room;
-    let entries = h.entry_room;
-    let work = HEADER_SIZE + 64 * nodes + 48 * entries;
+    let work = HEADER_SIZE + 64 * h.node_room + 48 * h.entry_room;
     let tails = sort_tails(mem, h.payload, work);
     let end = node_writer::put_image(mem, work, tails);
-    finished_memory::put_finished(
-        mem,
-        Header {
-            node_room: nodes,
-            entry_room: entries,
-            phase: 1,
-            nodes: end.nodes,
-            entries: end.entries,
-            payload: end.at - HEADER_SIZE,
-        },
-    );
+    let closed = index_memory::closed(h, end.nodes, end.entries, end.at - HEADER_SIZE);
+    finished_memory::put_finished(mem, closed);
 }

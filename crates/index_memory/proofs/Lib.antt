@@ -14,3 +14,4 @@ pub mod Holding
 pub mod Appending
 pub mod Taken
 pub mod Outcome
+pub mod Tallies

@@ -87,6 +87,9 @@ module _ (m : List ℕ) (h : Header) (e : header-at m ≡ h) (q : read-index m �
   is : OpenIs m (h .capacity) log
   is = open-is m (h .capacity) log q
 
+  open-phase : h .phase ≡ 0
+  open-phase = ap (λ (x : Header). x .phase) (sym e) ∙ is .phase
+
   tally-is : h .nodes ≡ log-nodes log
   tally-is = ap (λ (x : Header). x .nodes) (sym e) ∙ is .nodes
 
@@ -135,7 +138,7 @@ module _ (m : List ℕ) (h : Header) (e : header-at m ≡ h) (q : read-index m �
         let c₂ : h .entries + entry-charge n ≡ log-entries (log ++ pieces b) = omega (arith, entries-is, tally-entries log b) in
         let c₃ : h .payload + piece-count n ≡ length (log ++ pieces b) = omega (arith, payload-is, length-append log (pieces b), pieces-length b) in
         let head : _≡_ {A = Header} (grown h n) (record { capacity = h .capacity; phase = 0; nodes = log-nodes (log ++ pieces b); entries = log-entries (log ++ pieces b); payload = length (log ++ pieces b) }) =
-        λ i. record { capacity = h .capacity; phase = 0; nodes = c₁ i; entries = c₂ i; payload = c₃ i } in
+        λ i. record { capacity = h .capacity; phase = open-phase i; nodes = c₁ i; entries = c₂ i; payload = c₃ i } in
         let same : m′ ≡ appended m (h .capacity) log (pieces b) =
         w ∙ ap (λ (k : ℕ). sets (sets m (64 + 48 * k) new) 0 (header-bytes (grown h n))) payload-is
         ∙ ap (λ (x : Header). sets (sets m (64 + 48 * length log) new) 0 (header-bytes x)) head in

@@ -13,10 +13,12 @@ use Rattle.definitions.specs.Blocks.{Block, Piece, pieces, entry-charge}
 use Rattle.definitions.specs.Causes.{first-cause}
 use Rattle.definitions.specs.Calls.{last-number}
 use Rattle.definitions.proofs.Views.{lt-or-le}
+use Rattle.tally.specs.Tallied.{recorded}
 use Rattle.index_memory.specs.Layout.{Header, header-bytes, piece-bytes, log-bytes}
 use Rattle.index_memory.specs.Record.{refusal-of}
 use Rattle.index_memory.specs.Cut.{part, parts, piece-count, block-nodes}
-use Rattle.index_memory.specs.Answers.{block-checks, grown}
+use Rattle.index_memory.specs.Answers.{header-of, tally-in, with-tally, block-checks, grown}
+use Rattle.index_memory.specs.declared.Header as C
 use Rattle.index_memory.proofs.Charges.{pieces-parts}
 use Rattle.index_memory.proofs.PieceBytes.{piece-parts}
 use Rattle.index_memory.proofs.LogBytes.{log-sets}
@@ -136,8 +138,12 @@ module _ (b : Block) (from : ℕ) (m₀ : List ℕ) where
       let s : left ≡ 0 = omega arith in
       sym (ap (λ (k : ℕ). sets m (from + 48 * done) (log-bytes (parts b k))) s) ∙ w .same
 
+-- the header that counts a block: what it charges goes to the tally
+pub grown-by : (h r : C.Header) (n x y z : ℕ) → x ≡ block-nodes n → y ≡ entry-charge n → z ≡ piece-count n
+    → r ≡ with-tally h (recorded (tally-in h) x y) (h .payload + z) → header-of r ≡ grown (header-of h) n
+grown-by h r n x y z e f g w = ap header-of w ∙ rw (e, f, g) refl
+
 -- the pieces, and then the header that counts them
-pub append-in-turn : (m m₁ m₂ : List ℕ) (at : ℕ) (new : List ℕ) (h : Header) (n x y z : ℕ) → m₁ ≡ sets m at new → x ≡ block-nodes n → y ≡ entry-charge n → z ≡ piece-count n
-    → m₂ ≡ sets m₁ 0 (header-bytes (record { capacity = h .capacity; phase = 0; nodes = h .nodes + x; entries = h .entries + y; payload = h .payload + z }))
+pub append-in-turn : (m m₁ m₂ : List ℕ) (at : ℕ) (new : List ℕ) (h h′ : Header) (n : ℕ) → h′ ≡ grown h n → m₁ ≡ sets m at new → m₂ ≡ sets m₁ 0 (header-bytes h′)
     → m₂ ≡ sets (sets m at new) 0 (header-bytes (grown h n))
-append-in-turn m m₁ m₂ at new h n x y z e f g k w = w ∙ rw (e, f, g, k) refl
+append-in-turn m m₁ m₂ at new h h′ n g e w = w ∙ rw (e, g) refl

@@ -11,6 +11,7 @@ use Rattle.definitions.specs.Location.{Location}
 use Rattle.definitions.specs.Blocks.{Block, entry-charge}
 use Rattle.definitions.specs.Causes.{Check, data-too-long, no-life, address-too-high, too-many-nodes, too-many-entries}
 use Rattle.definitions.specs.Calls.{data-limit, last-number, needed}
+use Rattle.tally.specs.declared.Tally.{Tally}
 use Rattle.index_memory.specs.declared.Heading.{Heading}
 use Rattle.index_memory.specs.declared.Heading.the-variants.{Right, Broken}
 use Rattle.index_memory.specs.declared.Opened.{Opened}
@@ -32,6 +33,14 @@ heading-of Broken = none
 -- the header of a memory, where there is room for one and it is sound
 abbrev pub heading-at : List ℕ → Option Header
 heading-at m = cond (header-right m) (some (header-at m)) none
+
+-- the tally of a header
+abbrev pub tally-in : C.Header → Tally
+tally-in h = record { nodes = h .nodes; entries = h .entries; phase = h .phase }
+
+-- a header of the same capacity with this tally and payload
+abbrev pub with-tally : C.Header → Tally → ℕ → C.Header
+with-tally h t payload = record { «node_room» = h .«node_room»; «entry_room» = h .«entry_room»; phase = t .phase; nodes = t .nodes; entries = t .entries; payload = payload }
 
 -- the number of a refusal, 0 where the call was not refused
 abbrev pub opened-number : Opened → ℕ
@@ -67,7 +76,7 @@ block-checks h n l =
 
 -- the header that counts a block of n bytes too
 abbrev pub grown : Header → ℕ → Header
-grown h n = record { capacity = h .capacity; phase = 0; nodes = h .nodes + block-nodes n; entries = h .entries + entry-charge n; payload = h .payload + piece-count n }
+grown h n = record { capacity = h .capacity; phase = h .phase; nodes = h .nodes + block-nodes n; entries = h .entries + entry-charge n; payload = h .payload + piece-count n }
 
 -- a block that fits: the memory has room for its pieces behind the log, and the sums are small
 pub record Fitting (m : List ℕ) (h : Header) (b : Block) : Type 0 where

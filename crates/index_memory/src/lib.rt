@@ -1,6 +1,7 @@
 // The lent memory of an index: a header of eight numbers, the payload (a log of pieces, or an image), and room to work in.
 // Here are the header, the log of an open index, opening, and the recording of a block into an open index.
 use location::SpacetimeLocation;
+use tally::Tally;
 ghost use mathlib.Core.Path.{_≡_};
 ghost use mathlib.Core.Bool.{not, cond};
 ghost use mathlib.Core.Option.{some};
@@ -12,11 +13,12 @@ ghost use Rattle.definitions.specs.Blocks.{entry-charge, node-charge, pieces};
 ghost use Rattle.definitions.specs.Calls.{needed, out-of-range};
 ghost use Rattle.definitions.specs.Causes.{first-cause};
 ghost use Rattle.location.specs.Plain.{plain};
+ghost use Rattle.tally.specs.Tallied.{recorded, finished};
 ghost use Rattle.index_memory.specs.Layout.{header-at, header-bytes, payload-size, piece-sound, piece-bytes, log-bytes, log-in};
 ghost use Rattle.index_memory.specs.Index.{log-right, read-index, opened};
 ghost use Rattle.index_memory.specs.Record.{open-memory, record-open, refusal-of};
 ghost use Rattle.index_memory.specs.Cut.{part, piece-count, block-nodes};
-ghost use Rattle.index_memory.specs.Answers.{header-of, heading-of, heading-at, Front, Fitting, opened-number, recorded-number, block-checks, grown};
+ghost use Rattle.index_memory.specs.Answers.{header-of, heading-of, heading-at, Front, Fitting, opened-number, recorded-number, block-checks, grown, tally-in, with-tally};
 
 pub const HEADER_SIZE: usize = 64;
 
@@ -149,6 +151,50 @@ pub fn put_header(mem: &mut [u8], h: Header)
     words::put64(mem, 40, h.payload as u64);
     words::put64(mem, 48, 0);
     words::put64(mem, 56, 0);
+}
+
+// The tally of a header.
+fn tally_in(h: Header) -> Tally
+    ensures { λ r. ⌜ r ≡ tally-in h ⌝ }
+{
+    Tally {
+        nodes: h.nodes,
+        entries: h.entries,
+        phase: h.phase,
+    }
+}
+
+// A header of the same capacity with this tally and payload.
+fn with_tally(h: Header, t: Tally, payload: usize) -> Header
+    ensures { λ r. ⌜ r ≡ with-tally h t payload ⌝ }
+{
+    Header {
+        node_room: h.node_room,
+        entry_room: h.entry_room,
+        phase: t.phase,
+        nodes: t.nodes,
+        entries: t.entries,
+        payload,
+    }
+}
+
+// The header after a block that charges these nodes and entries: its tally is lent to `record`, and callers see headers alone.
+fn charged(h: Header, nodes: usize, entries: usize, payload: usize) -> Header
+    requires { ⌜ (h .nodes + nodes < 2 ^ 64) × (h .entries + entries < 2 ^ 64) ⌝ }
+    ensures { λ r. ⌜ r ≡ with-tally h (recorded (tally-in h) nodes entries) payload ⌝ }
+{
+    let mut t = tally_in(h);
+    tally::record(&mut t, nodes, entries);
+    with_tally(h, t, payload)
+}
+
+// The header of the finished index, which has these nodes and entries left: its tally is lent to `finish`.
+pub fn closed(h: Header, nodes: usize, entries: usize, payload: usize) -> Header
+    ensures { λ r. ⌜ r ≡ with-tally h (finished nodes entries) payload ⌝ }
+{
+    let mut t = tally_in(h);
+    tally::finish(&mut t, nodes, entries);
+    with_tally(h, t, payload)
 }
 
 // Opens an index of a capacity in the lent memory: only the header is written.
@@ -338,27 +384,24 @@ fn put_pieces(mem: &mut [u8], from: usize, data: &[u8], l: SpacetimeLocation)
     }
 }
 
+// The header that counts a block of n bytes too.
+fn grown(h: Header, n: usize) -> Header
+    requires { ⌜ (n ≤ 4096) × (h .nodes + block-nodes n < 2 ^ 64) × (h .entries + entry-charge n < 2 ^ 64) × (h .payload + piece-count n < 2 ^ 64) ⌝ }
+    ensures { λ r. ⌜ header-of r ≡ grown (header-of h) n ⌝ }
+{
+    let nodes = block_nodes(n);
+    let entries = entry_charge(n);
+    charged(h, nodes, entries, h.payload + piece_count(n))
+}
+
 // Appends the pieces of a block that fits to the log, and counts them in the header.
 fn append(mem: &mut [u8], h: Header, data: &[u8], l: SpacetimeLocation)
     requires { ⌜ Fitting (now mem) (header-of h) (record { bytes = now «data»; at = plain l }) ⌝ }
     ensures { λ _. ⌜ now (mem .exit) ≡ sets (sets (now (mem .entry)) (64 + 48 * h .payload) (log-bytes (pieces (record { bytes = now («data» .entry); at = plain l })))) 0 (header-bytes (grown (header-of h) (length (now («data» .entry))))) ⌝ }
 {
-    let n = data.len();
-    let nodes = h.nodes + block_nodes(n);
-    let entries = h.entries + entry_charge(n);
-    let payload = h.payload + piece_count(n);
+    let counted = grown(h, data.len());
     put_pieces(mem, HEADER_SIZE + 48 * h.payload, data, l);
-    put_header(
-        mem,
-        Header {
-            node_room: h.node_room,
-            entry_room: h.entry_room,
-            phase: 0,
-            nodes,
-            entries,
-            payload,
-        },
-    );
+    put_header(mem, counted);
 }
 
 // Records a block into an open index: h is the header of its memory.

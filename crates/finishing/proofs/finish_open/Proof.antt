@@ -1,6 +1,6 @@
 -- `finishing::finish_open` meets its contract. Assumes nothing.
 use native.Mathlib.Omega.{arith}
-use mathlib.Core.Path.{_∙_}
+use mathlib.Core.Path.{refl, _∙_}
 use borrow.Author.Needs.{needs}
 use denote.Ref.{now}
 use Rattle.sort.proofs.Bytes.{Bytes}
@@ -14,7 +14,7 @@ use Rattle.finishing.proofs.finish_open.Tie as tie
 
 mul-work : tie.Need-mul-work
 mul-work c =
-    let known = c in
+    let known = c .before in
     let start = known .before in
     let a = start .args in
     let m = now (a .mem) in
@@ -25,7 +25,7 @@ mul-work c =
 
 add-work : tie.Need-add-work
 add-work c =
-    let known = c in
+    let known = c .before in
     let start = known .before in
     let a = start .args in
     let m = now (a .mem) in
@@ -36,7 +36,7 @@ add-work c =
 
 mul-work-2 : tie.Need-mul-work-2
 mul-work-2 c =
-    let known = c in
+    let known = c .before .before in
     let start = known .before in
     let a = start .args in
     let m = now (a .mem) in
@@ -47,7 +47,7 @@ mul-work-2 c =
 
 add-work-2 : tie.Need-add-work-2
 add-work-2 c =
-    let known = c in
+    let known = c .before .before in
     let start = known .before in
     let a = start .args in
     let m = now (a .mem) in
@@ -58,7 +58,7 @@ add-work-2 c =
 
 sort-tails-requires : tie.Need-sort-tails-requires
 sort-tails-requires c κs =
-    let known = c .before in
+    let known = c .before .before .before in
     let start = known .before in
     let a = start .args in
     let m = now (a .mem) in
@@ -69,7 +69,7 @@ sort-tails-requires c κs =
 
 put-image-requires : tie.Need-put-image-requires
 put-image-requires c κs =
-    let known = c .before .before .before .before .before in
+    let known = c .before .before .before .before .before .before .before in
     let start = known .before in
     let a = start .args in
     let m = now (a .mem) in
@@ -79,27 +79,14 @@ put-image-requires c κs =
     let r = c .before .before .before .sort-tails in
     image-asked m room (a .h .payload) b o (r .last .0) (r .result) (r .ensures)
 
-sub-t8 : tie.Need-sub-t8
-sub-t8 c = omega (arith, c .before .before .before .before .put-image .ensures .at)
+sub-closed : tie.Need-sub-closed
+sub-closed c = omega (arith, c .before .before .before .put-image .ensures .at)
+
+closed-requires : tie.Need-closed-requires
+closed-requires c κs = search needs
 
 put-finished-requires : tie.Need-put-finished-requires
 put-finished-requires c κs =
-    let known = c .before .before .before .before .before .before .before .before .before .before in
-    let start = known .before in
-    let a = start .args in
-    let m = now (a .mem) in
-    let room = header-of (a .h) .capacity in
-    let b : Bytes m = λ j. omega (arith, known .slice-known .given j) in
-    let o = open-is m room (log-in m (a .h .payload) 64) (start .pre .1) in
-    let r = c .before .before .before .before .before .before .before .before .sort-tails in
-    let v = c .before .before .before .before .put-image in
-    closable m room (a .h .payload) b o (r .last .0) (r .result) (r .ensures) (v .last .0) (v .result) (v .ensures)
-
-same-length : tie.Need-same-length
-same-length c = search needs
-
-returns : tie.Need-returns
-returns c =
     let known = c .before .before .before .before .before .before .before .before .before .before .before .before .before in
     let start = known .before in
     let a = start .args in
@@ -107,9 +94,28 @@ returns c =
     let room = header-of (a .h) .capacity in
     let b : Bytes m = λ j. omega (arith, known .slice-known .given j) in
     let o = open-is m room (log-in m (a .h .payload) 64) (start .pre .1) in
-    let r = c .before .before .before .before .before .before .before .before .before .before .before .sort-tails in
-    let v = c .before .before .before .before .before .before .before .put-image in
-    c .before .before .put-finished .ensures ∙ closes m room (a .h .payload) b o (r .last .0) (r .result) (r .ensures) (v .last .0) (v .result) (v .ensures)
+    let r = c .before .before .before .before .before .before .before .before .before .sort-tails in
+    let v = c .before .before .before .before .before .put-image in
+    let k = c .before .closed in
+    closable m room (a .h .payload) b o (r .last .0) (r .result) (r .ensures) (v .last .0) (v .result) (v .ensures) (a .h) (k .result) refl (k .ensures)
+
+same-length : tie.Need-same-length
+same-length c = search needs
+
+returns : tie.Need-returns
+returns c =
+    let known = c .before .before .before .before .before .before .before .before .before .before .before .before .before .before .before .before in
+    let start = known .before in
+    let a = start .args in
+    let m = now (a .mem) in
+    let room = header-of (a .h) .capacity in
+    let b : Bytes m = λ j. omega (arith, known .slice-known .given j) in
+    let o = open-is m room (log-in m (a .h .payload) 64) (start .pre .1) in
+    let r = c .before .before .before .before .before .before .before .before .before .before .before .before .sort-tails in
+    let v = c .before .before .before .before .before .before .before .before .put-image in
+    let k = c .before .before .before .before .closed in
+    c .before .before .put-finished .ensures
+    ∙ closes m room (a .h .payload) b o (r .last .0) (r .result) (r .ensures) (v .last .0) (v .result) (v .ensures) (a .h) (k .result) refl (k .ensures)
 
 pub finish-open-spec : {M : Type 1} → statement M
 finish-open-spec =
@@ -121,7 +127,8 @@ finish-open-spec =
     add-work-2
     sort-tails-requires
     put-image-requires
-    sub-t8
+    sub-closed
+    closed-requires
     put-finished-requires
     same-length
     returns)
