@@ -35,7 +35,7 @@ module _ (s : List ℕ) (b at depth : ℕ) (old : List ℕ) (count left : ℕ) (
 
   module _ (mid : List ℕ) (met : ℕ) (lists : List ℕ) (listed : ℕ) (k : NextFronts s b depth old count mid met lists listed) (q : Bool)
       (e : q ≡ is-union 1 (locations-in s (c .«prefix_count») (c .prefixes)) (lists-in s lists listed)) where
-    union-says : (n : Node) (fs : List Node) → NodeHere s left at n → FrontsHere s left old (depth * 512) count fs → q ≡ is-union 1 (n .lists .prefixes) (front-lists (next-fronts b fs))
+    union-says : (n : Node) (fs : List Node) → NodeHere s left at n → FrontsHere s left old (depth * 768) count fs → q ≡ is-union 1 (n .lists .prefixes) (front-lists (next-fronts b fs))
     union-says n fs h w =
         let p = parts-here n h in
         e ∙ ap (λ (x : List Location). is-union 1 x (lists-in s lists listed)) (p .prefixes) ∙ ap (is-union 1 (n .lists .prefixes)) (k .lists-are left fs w)
@@ -50,10 +50,10 @@ module _ (s : List ℕ) (b at depth : ℕ) (old : List ℕ) (count left : ℕ) (
     }
 
     module _ (z : q ≡ true) (last : List ℕ) (r : Bool) (x : ChildrenSays s (c .table) (c .children) (depth + 1) mid met left last r) where
-      kept-below : KeptBelow ((depth + 1) * 512) old last
-      kept-below = kept-then ((depth + 1) * 512) ((depth + 1 + 1) * 512) old mid last (omega arith) (k .kept) (x .kept)
+      kept-below : KeptBelow ((depth + 1) * 768) old last
+      kept-below = kept-then ((depth + 1) * 768) ((depth + 1 + 1) * 768) old mid last (omega arith) (k .kept) (x .kept)
 
-      children-say : (n : Node) (fs : List Node) → NodeHere s left at n → FrontsHere s left old (depth * 512) count fs → r ≡ children-right (depth + 1) (next-fronts b fs) (n .children)
+      children-say : (n : Node) (fs : List Node) → NodeHere s left at n → FrontsHere s left old (depth * 768) count fs → r ≡ children-right (depth + 1) (next-fronts b fs) (n .children)
       children-say n fs h w = x .says (n .children) (next-fronts b fs) (parts-here n h .table) (k .are left fs w)
 
       pub child-not-children : r ≡ false → ChildSays s b at depth old count left last false
@@ -99,21 +99,21 @@ none-within : (s : List ℕ) (fronts : List ℕ) (from : ℕ) (fs : List Node) (
 none-within s fronts from [] g h = refl
 none-within s fronts from (f ∷ fs) g h =
     let e = h .0 .ends refl in
-    and-so (within (f .children) g) (fronts-within fs g) true (ap (λ (x : Forest). within x g) (sym e)) (none-within s fronts (from + 2) fs g (h .1))
+    and-so (within (f .children) g) (fronts-within fs g) true (ap (λ (x : Forest). within x g) (sym e)) (none-within s fronts (from + 3) fs g (h .2))
 
 -- ── the children ──
 
 module _ (s : List ℕ) (table children depth : ℕ) (old : List ℕ) (count left : ℕ) where
   pub children-none : left ≡ 0 → ChildrenSays s table children depth old count left old true
   unfolding children-right
-  children-none z = record { kept = kept-none ((depth + 1) * 512) old; says = says }
+  children-none z = record { kept = kept-none ((depth + 1) * 768) old; says = says }
     where
-      says : (g : Forest) (fs : List Node) → TableOf s left table children g → FrontsHere s (left - 1) old (depth * 512) count fs → true ≡ (fronts-within fs g && forest-right fs (suc depth) g)
+      says : (g : Forest) (fs : List Node) → TableOf s left table children g → FrontsHere s (left - 1) old (depth * 768) count fs → true ≡ (fronts-within fs g && forest-right fs (suc depth) g)
       says g fs h w =
           let y : left - 1 ≡ 0 = omega arith in
           let e = h .ends z in
           and-so (fronts-within fs g) (forest-right fs (suc depth) g) true
-          (none-within s old (depth * 512) fs g (subst (λ (x : ℕ). FrontsFrom s x old (depth * 512) fs) y (w .each))) (rw e refl)
+          (none-within s old (depth * 768) fs g (subst (λ (x : ℕ). FrontsFrom s x old (depth * 768) fs) y (w .each))) (rw e refl)
 
   -- siblings ahead, those passed being right
   pub record Right-ahead (j : ℕ) (g : Forest) (fs : List Node) : Type 0 where
@@ -122,33 +122,33 @@ module _ (s : List ℕ) (table children depth : ℕ) (old : List ℕ) (count lef
     pub says : forest-right fs (suc depth) rest ≡ forest-right fs (suc depth) g
 
   pub record Turning (j : ℕ) (fronts : List ℕ) : Type 0 where
-    pub kept : KeptBelow ((depth + 1) * 512) old fronts
-    pub each : (g : Forest) (fs : List Node) → TableOf s left table children g → FrontsHere s (left - 1) old (depth * 512) count fs → Right-ahead j g fs
+    pub kept : KeptBelow ((depth + 1) * 768) old fronts
+    pub each : (g : Forest) (fs : List Node) → TableOf s left table children g → FrontsHere s (left - 1) old (depth * 768) count fs → Right-ahead j g fs
 
   pub turning-start : Turning 0 old
-  turning-start = record { kept = kept-none ((depth + 1) * 512) old; each = λ g fs h w. record { rest = g; ahead = h .leads; says = refl } }
+  turning-start = record { kept = kept-none ((depth + 1) * 768) old; each = λ g fs h w. record { rest = g; ahead = h .leads; says = refl } }
 
   -- the fronts are on the stack still
-  fronts-still : (j : ℕ) (fronts : List ℕ) → Turning j fronts → (fs : List Node) → FrontsHere s (left - 1) old (depth * 512) count fs → FrontsHere s (left - 1) fronts (depth * 512) count fs
+  fronts-still : (j : ℕ) (fronts : List ℕ) → Turning j fronts → (fs : List Node) → FrontsHere s (left - 1) old (depth * 768) count fs → FrontsHere s (left - 1) fronts (depth * 768) count fs
   fronts-still j fronts i fs w =
       let m = w .many in
       let u = w .few in
-      record { many = m; few = u; each = fronts-same s (left - 1) old fronts (depth * 512) fs (λ k h. i .kept .first k (omega arith)) (w .each) }
+      record { many = m; few = u; each = fronts-same s (left - 1) old fronts (depth * 768) fs (λ k h. i .kept .first k (omega arith)) (w .each) }
 
-  pub has-fronts : (j : ℕ) (fronts : List ℕ) → Turning j fronts → (asked : List ℕ) → ChildrenAsked s table children depth old count asked left → HasFronts s fronts (depth * 512) count
+  pub has-fronts : (j : ℕ) (fronts : List ℕ) → Turning j fronts → (asked : List ℕ) → ChildrenAsked s table children depth old count asked left → HasFronts s fronts (depth * 768) count
   has-fronts j fronts i asked a = record { depth = left - 1; nodes = a .nodes; is = fronts-still j fronts i (a .nodes) (a .fronts-here) }
 
   module _ (j : ℕ) (fronts : List ℕ) (i : Turning j fronts) (l : j < children) where
     pub turning-skip : none ≡ slot-in s table children j → Turning (j + 1) fronts
     turning-skip q = record { kept = i .kept; each = step }
       where
-        step : (g : Forest) (fs : List Node) → TableOf s left table children g → FrontsHere s (left - 1) old (depth * 512) count fs → Right-ahead (j + 1) g fs
+        step : (g : Forest) (fs : List Node) → TableOf s left table children g → FrontsHere s (left - 1) old (depth * 768) count fs → Right-ahead (j + 1) g fs
         step g fs h w =
             let x = i .each g fs h w in
             record { rest = x .rest; ahead = slot-empty s left table children j (x .rest) l q (x .ahead); says = x .says }
 
     module _ (e : Entry) (q : some e ≡ slot-in s table children j) where
-      met : (g : Forest) (fs : List Node) (h : TableOf s left table children g) (w : FrontsHere s (left - 1) old (depth * 512) count fs) → Next s left table children j e (i .each g fs h w .rest)
+      met : (g : Forest) (fs : List Node) (h : TableOf s left table children g) (w : FrontsHere s (left - 1) old (depth * 768) count fs) → Next s left table children j e (i .each g fs h w .rest)
       met g fs h w = let x = i .each g fs h w in slot-taken s left table children j (x .rest) e l q (x .ahead)
 
       -- what the child asks
@@ -167,7 +167,7 @@ module _ (s : List ℕ) (table children depth : ℕ) (old : List ℕ) (count lef
 
       module _ (last : List ℕ) (r : Bool) (o : ChildSays s (e .byte) (e .node) depth fronts count (left - 1) last r) where
         -- this sibling and those ahead
-        one-more : (g : Forest) (fs : List Node) (h : TableOf s left table children g) (w : FrontsHere s (left - 1) old (depth * 512) count fs) → (r && forest-right fs (suc depth) (met g fs h w .later)) ≡ forest-right fs (suc depth) g
+        one-more : (g : Forest) (fs : List Node) (h : TableOf s left table children g) (w : FrontsHere s (left - 1) old (depth * 768) count fs) → (r && forest-right fs (suc depth) (met g fs h w .later)) ≡ forest-right fs (suc depth) g
         unfolding child-right
         one-more g fs h w =
             let x = met g fs h w in
@@ -175,8 +175,8 @@ module _ (s : List ℕ) (table children depth : ℕ) (old : List ℕ) (count lef
             let y : r ≡ child-right (e .byte) (suc depth) fs m = o .says m fs (x .here) (fronts-still j fronts i fs w) ∙ ap (λ (z : ℕ). child-right (e .byte) z fs m) (add-one depth) in
             ap (λ (z : Bool). z && forest-right fs (suc depth) (x .later)) y ∙ ap (forest-right fs (suc depth)) (sym (x .is)) ∙ i .each g fs h w .says
 
-        kept-on : KeptBelow ((depth + 1) * 512) old last
-        kept-on = kept-then ((depth + 1) * 512) ((depth + 1) * 512) old fronts last (omega arith) (i .kept) (o .kept)
+        kept-on : KeptBelow ((depth + 1) * 768) old last
+        kept-on = kept-then ((depth + 1) * 768) ((depth + 1) * 768) old fronts last (omega arith) (i .kept) (o .kept)
 
         pub turning-lost : r ≡ false → ChildrenSays s table children depth old count left last false
         unfolding children-right
@@ -190,12 +190,12 @@ module _ (s : List ℕ) (table children depth : ℕ) (old : List ℕ) (count lef
         pub turning-on : r ≡ true → Turning (j + 1) last
         turning-on z = record { kept = kept-on; each = step }
           where
-            step : (g : Forest) (fs : List Node) → TableOf s left table children g → FrontsHere s (left - 1) old (depth * 512) count fs → Right-ahead (j + 1) g fs
+            step : (g : Forest) (fs : List Node) → TableOf s left table children g → FrontsHere s (left - 1) old (depth * 768) count fs → Right-ahead (j + 1) g fs
             step g fs h x =
                 let y = met g fs h x in
                 record { rest = y .later; ahead = y .ahead; says = ap (λ (v : Bool). v && forest-right fs (suc depth) (y .later)) (sym z) ∙ one-more g fs h x }
 
-  pub turning-done : (j : ℕ) (fronts : List ℕ) → Turning j fronts → children ≤ j → (w : Bool) → SaysFronts s table children fronts (depth * 512) count w →
+  pub turning-done : (j : ℕ) (fronts : List ℕ) → Turning j fronts → children ≤ j → (w : Bool) → SaysFronts s table children fronts (depth * 768) count w →
       ChildrenSays s table children depth old count left fronts w
   unfolding children-right
   turning-done j fronts i l w f = record {
@@ -203,7 +203,7 @@ module _ (s : List ℕ) (table children depth : ℕ) (old : List ℕ) (count lef
     says = λ g fs h x. and-first (fronts-within fs g) (forest-right fs (suc depth) g) w (f left (left - 1) g fs h (fronts-still j fronts i fs x)) (end g fs h x);
   }
     where
-      end : (g : Forest) (fs : List Node) → TableOf s left table children g → FrontsHere s (left - 1) old (depth * 512) count fs → true ≡ forest-right fs (suc depth) g
+      end : (g : Forest) (fs : List Node) → TableOf s left table children g → FrontsHere s (left - 1) old (depth * 768) count fs → true ≡ forest-right fs (suc depth) g
       end g fs h x =
           let y = i .each g fs h x in
           let z = slots-end s left table children j (y .rest) l (y .ahead) in

@@ -7,6 +7,7 @@ pub mod TwoLists
 pub mod Children
 pub mod Nodes
 -- fronts
+pub mod MaskLaws
 pub mod Fronts
 pub mod RootFronts
 pub mod Within

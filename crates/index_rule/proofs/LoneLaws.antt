@@ -12,6 +12,7 @@ use Rattle.index_rule.specs.Parts.{TableOf, HasTable}
 use Rattle.index_rule.specs.Fronts.{FrontsFrom, FrontsHere, with-front}
 use Rattle.index_rule.specs.Says.{children-right, ChildrenAsked, ChildrenSays}
 use Rattle.index_rule.specs.Runs.{RunTo, Further, LoneSays, LeafSays, SaysNone}
+use Rattle.index_rule.proofs.MaskLaws.{no-mask}
 use Rattle.index_rule.proofs.Fronts.{fronts-put, kept-front, kept-none, kept-then}
 use Rattle.index_rule.proofs.RunLaws.{not-so}
 
@@ -30,9 +31,9 @@ module _ (s : List ℕ) (table children depth : ℕ) (old : List ℕ) (count lef
   -- ── no run ──
 
   none-at-all : LoneSays s table children depth old count left old 0 table true false
-  none-at-all = record { few = omega arith; kept = kept-none ((depth + 1) * 512) old; is = λ _. is; end = λ e. not-so e }
+  none-at-all = record { few = omega arith; kept = kept-none ((depth + 1) * 768) old; is = λ _. is; end = λ e. not-so e }
     where
-      is : (g : Forest) (fs : List Node) → TableOf s left table children g → FrontsHere s (left - 1) old (depth * 512) count fs → Further s depth children count left old 0 table true g fs
+      is : (g : Forest) (fs : List Node) → TableOf s left table children g → FrontsHere s (left - 1) old (depth * 768) count fs → Further s depth children count left old 0 table true g fs
       is g fs t w =
           let a : left ≡ left - 0 = omega arith in
           let b : depth ≡ depth + 0 = omega arith in
@@ -40,7 +41,7 @@ module _ (s : List ℕ) (table children depth : ℕ) (old : List ℕ) (count lef
             below = g;
             nodes = fs;
             leads = subst (λ (x : ℕ). TableOf s x table children g) a t;
-            fronts-here = subst (λ (x : ℕ). FrontsHere s (left - 0 - 1) old (x * 512) count fs) b (subst (λ (x : ℕ). FrontsHere s (x - 1) old (depth * 512) count fs) a w);
+            fronts-here = subst (λ (x : ℕ). FrontsHere s (left - 0 - 1) old (x * 768) count fs) b (subst (λ (x : ℕ). FrontsHere s (x - 1) old (depth * 768) count fs) a w);
             same = ap (λ (x : ℕ). children-right x fs g) (sym b);
           }
 
@@ -53,25 +54,25 @@ module _ (s : List ℕ) (table children depth : ℕ) (old : List ℕ) (count lef
     pub lone-table : children ≡ 1 → HasTable s table 1
     lone-table e = record { depth = left; forest = a .forest; is = subst (λ (x : ℕ). TableOf s left table x (a .forest)) e (a .is) }
 
-    pub lone-front : count ≡ 1 → getD old (depth * 512 + 1) 0 ≡ 1 → HasTable s (getD old (depth * 512) 0) 1
+    pub lone-front : count ≡ 1 → getD old (depth * 768 + 1) 0 ≡ 1 → HasTable s (getD old (depth * 768) 0) 1
     lone-front e f =
-        let x = one-front s (left - 1) old (depth * 512) (a .nodes) (a .fronts-here .many ∙ e) (a .fronts-here .each) in
-        record { depth = left - 1; forest = x .node .children; is = subst (λ (y : ℕ). TableOf s (left - 1) (getD old (depth * 512) 0) y (x .node .children)) f (x .leads) }
+        let x = one-front s (left - 1) old (depth * 768) (a .nodes) (a .fronts-here .many ∙ e) (a .fronts-here .each) in
+        record { depth = left - 1; forest = x .node .children; is = subst (λ (y : ℕ). TableOf s (left - 1) (getD old (depth * 768) 0) y (x .node .children)) f (x .leads) }
 
   -- ── a run ──
 
-  module _ (k t o : ℕ) (run : RunTo s table (getD old (depth * 512) 0) left k t o) (z : k ≡ 0 → ⊥) (c : children ≡ 1) (n : count ≡ 1) (f : getD old (depth * 512 + 1) 0 ≡ 1)
-      (room : (depth + k) * 512 + 2 ≤ length old) (right : Bool) (r : SaysNone s t right) where
+  module _ (k t o : ℕ) (run : RunTo s table (getD old (depth * 768) 0) left k t o) (z : k ≡ 0 → ⊥) (c : children ≡ 1) (n : count ≡ 1) (f : getD old (depth * 768 + 1) 0 ≡ 1)
+      (room : (depth + k) * 768 + 3 ≤ length old) (right : Bool) (r : SaysNone s t right) where
     abbrev stack : List ℕ
-    stack = with-front old ((depth + k) * 512) o 1
+    stack = with-front old ((depth + k) * 768) o 1 0
 
     pub lone-run : LoneSays s table children depth old count left stack k t right false
-    lone-run = record { few = run .few; kept = kept-front ((depth + 1) * 512) ((depth + k) * 512) o 1 old old (omega arith) (kept-none ((depth + 1) * 512) old); is = λ _. is; end = λ e. not-so e }
+    lone-run = record { few = run .few; kept = kept-front ((depth + 1) * 768) ((depth + k) * 768) o 1 0 old old (omega arith) (kept-none ((depth + 1) * 768) old); is = λ _. is; end = λ e. not-so e }
       where
-        is : (g : Forest) (fs : List Node) → TableOf s left table children g → FrontsHere s (left - 1) old (depth * 512) count fs → Further s depth children count left stack k t right g fs
+        is : (g : Forest) (fs : List Node) → TableOf s left table children g → FrontsHere s (left - 1) old (depth * 768) count fs → Further s depth children count left stack k t right g fs
         is g fs h w =
-            let x = one-front s (left - 1) old (depth * 512) fs (w .many ∙ n) (w .each) in
-            let y = run .is depth left (left - 1) g (x .node) (subst (λ (i : ℕ). TableOf s left table i g) c h) (subst (λ (i : ℕ). TableOf s (left - 1) (getD old (depth * 512) 0) i (x .node .children)) f (x .leads)) in
+            let x = one-front s (left - 1) old (depth * 768) fs (w .many ∙ n) (w .each) in
+            let y = run .is depth left (left - 1) g (x .node) (subst (λ (i : ℕ). TableOf s left table i g) c h) (subst (λ (i : ℕ). TableOf s (left - 1) (getD old (depth * 768) 0) i (x .node .children)) f (x .leads)) in
             let a : left - 1 - k ≡ left - k - 1 = omega arith in
             let b : right ≡ y .right = r (left - k) (y .below) (y .leads) ∙ sym (y .after z) in
             record {
@@ -81,16 +82,16 @@ module _ (s : List ℕ) (table children depth : ℕ) (old : List ℕ) (count lef
               fronts-here = record {
                 many = sym n;
                 few = w .few;
-                each = fronts-put s (left - k - 1) old ((depth + k) * 512) ((depth + k) * 512) o 1 [] (y .last) (omega arith) room tt (subst (λ (i : ℕ). TableOf s i o 1 (y .last .children)) a (y .front-leads));
+                each = fronts-put s (left - k - 1) old ((depth + k) * 768) ((depth + k) * 768) o 1 0 [] (y .last) (omega arith) room tt (subst (λ (i : ℕ). TableOf s i o 1 (y .last .children)) a (y .front-leads)) (no-mask s o 1);
               };
               same = ap (λ (i : Bool). i && children-right (depth + k) (y .last ∷ []) (y .below)) b ∙ y .same ∙ ap (λ (i : List Node). children-right depth i g) (x .is);
             }
 
   -- ── a run that ends at leaves ──
 
-  lone-leaf : (k t o : ℕ) → RunTo s table (getD old (depth * 512) 0) left k t o → children ≡ 1 → count ≡ 1 → getD old (depth * 512 + 1) 0 ≡ 1 → (right : Bool) → LeafSays s t o right →
+  lone-leaf : (k t o : ℕ) → RunTo s table (getD old (depth * 768) 0) left k t o → children ≡ 1 → count ≡ 1 → getD old (depth * 768 + 1) 0 ≡ 1 → (right : Bool) → LeafSays s t o right →
       LoneSays s table children depth old count left old 0 table right true
-  lone-leaf k t o run c n f right r = record { few = omega arith; kept = kept-none ((depth + 1) * 512) old; is = λ e. not-so (sym e); end = λ _. end }
+  lone-leaf k t o run c n f right r = record { few = omega arith; kept = kept-none ((depth + 1) * 768) old; is = λ e. not-so (sym e); end = λ _. end }
     where
       passed : (b : Bool) {v : Bool} → (k ≡ 0 → b ≡ true) → ((k ≡ 0 → ⊥) → b ≡ v) → v ≡ true → b ≡ true
       passed b f g e = go (eqb k 0) (eq k 0)
@@ -99,15 +100,15 @@ module _ (s : List ℕ) (table children depth : ℕ) (old : List ℕ) (count lef
           go true z = f z
           go false z = g z ∙ e
 
-      end : (g : Forest) (fs : List Node) → TableOf s left table children g → FrontsHere s (left - 1) old (depth * 512) count fs → right ≡ children-right depth fs g
+      end : (g : Forest) (fs : List Node) → TableOf s left table children g → FrontsHere s (left - 1) old (depth * 768) count fs → right ≡ children-right depth fs g
       end g fs h w =
-          let x = one-front s (left - 1) old (depth * 512) fs (w .many ∙ n) (w .each) in
-          let y = run .is depth left (left - 1) g (x .node) (subst (λ (i : ℕ). TableOf s left table i g) c h) (subst (λ (i : ℕ). TableOf s (left - 1) (getD old (depth * 512) 0) i (x .node .children)) f (x .leads)) in
+          let x = one-front s (left - 1) old (depth * 768) fs (w .many ∙ n) (w .each) in
+          let y = run .is depth left (left - 1) g (x .node) (subst (λ (i : ℕ). TableOf s left table i g) c h) (subst (λ (i : ℕ). TableOf s (left - 1) (getD old (depth * 768) 0) i (x .node .children)) f (x .leads)) in
           let l = r (depth + k) (left - k) (left - 1 - k) (y .below) (y .last) (y .leads) (y .front-leads) in
           let u : y .right ≡ true = passed (y .right) (y .first) (y .after) (l .none) in
           l .says ∙ ap (λ (i : Bool). i && children-right (depth + k) (y .last ∷ []) (y .below)) (sym u) ∙ y .same ∙ ap (λ (i : List Node). children-right depth i g) (x .is)
 
-  pub lone-leaves : (k t o : ℕ) → RunTo s table (getD old (depth * 512) 0) left k t o → children ≡ 1 → count ≡ 1 → getD old (depth * 512 + 1) 0 ≡ 1 → (v : Bool) → LeafSays s t o v →
+  pub lone-leaves : (k t o : ℕ) → RunTo s table (getD old (depth * 768) 0) left k t o → children ≡ 1 → count ≡ 1 → getD old (depth * 768 + 1) 0 ≡ 1 → (v : Bool) → LeafSays s t o v →
       (levels to : ℕ) (right ended : Bool) → (levels ≡ 0) × (to ≡ table) × (right ≡ v) × (ended ≡ true) → LoneSays s table children depth old count left old levels to right ended
   lone-leaves k t o run c n f v r levels to right ended e = rw (e .0, e .1, e .2, e .3) (lone-leaf k t o run c n f v r)
 
@@ -139,7 +140,7 @@ module _ (s : List ℕ) (table children depth : ℕ) (old : List ℕ) (count lef
 
     pub lone-then : ended ≡ false → right ≡ true → (last : List ℕ) (r : Bool) → ChildrenSays s t children (depth + k) fronts count (left - k) last r → ChildrenSays s table children depth old count left last r
     lone-then i z last r y = record {
-      kept = kept-then ((depth + 1) * 512) ((depth + k + 1) * 512) old fronts last (omega arith) (l .kept) (y .kept);
+      kept = kept-then ((depth + 1) * 768) ((depth + k + 1) * 768) old fronts last (omega arith) (l .kept) (y .kept);
       says = λ g fs h w.
           let x = l .is i g fs h w in
           y .says (x .below) (x .nodes) (x .leads) (x .fronts-here) ∙ ap (λ (i : Bool). i && children-right (depth + k) (x .nodes) (x .below)) (sym z) ∙ x .same;

@@ -13,6 +13,7 @@ use Rattle.image_walk.specs.Tables.{slot-in}
 use Rattle.image_walk.specs.Here.{Laid}
 use Rattle.image_walk.specs.declared.Node.{Node as Parts}
 use Rattle.index_rule.specs.Parts.{Ahead, TableOf, HasTable}
+use Rattle.index_rule.specs.Masks.{SaysMask}
 use Rattle.index_rule.specs.Fronts.{FrontsFrom, FrontsHere, with-front}
 use Rattle.index_rule.specs.Says.{RootFronts}
 use Rattle.index_rule.proofs.Tables.{Next, slot-taken, slot-empty, slots-end}
@@ -53,10 +54,13 @@ module _ (s : List ℕ) (table children : ℕ) where
       pub putting-laid : HasTable s table children → Laid s (e .node)
       putting-laid h = next-laid (met (h .depth) (h .forest) (h .is))
 
-      pub putting-add : count * 2 + 2 ≤ length fronts → (c : Parts) → c ≡ parts-at s (e .node) → Putting (j + 1) (with-front fronts (count * 2) (c .table) (c .children)) (count + 1)
-      putting-add r c g = record { few = omega (arith, i .few); in-table = omega arith; each = step }
+      pub putting-table : HasTable s table children → (c : Parts) → c ≡ parts-at s (e .node) → HasTable s (c .table) (c .children)
+      putting-table h c g = let x = met (h .depth) (h .forest) (h .is) in record { depth = h .depth - 1; forest = x .below; is = next-parts c g x .table }
+
+      pub putting-add : count * 3 + 3 ≤ length fronts → (c : Parts) → c ≡ parts-at s (e .node) → (mask : ℕ) → SaysMask s (c .table) (c .children) mask → Putting (j + 1) (with-front fronts (count * 3) (c .table) (c .children) mask) (count + 1)
+      putting-add r c g mask says = record { few = omega (arith, i .few); in-table = omega arith; each = step }
         where
-          step : (d : ℕ) (f : Forest) → TableOf s d table children f → Put d (j + 1) (with-front fronts (count * 2) (c .table) (c .children)) (count + 1) f
+          step : (d : ℕ) (f : Forest) → TableOf s d table children f → Put d (j + 1) (with-front fronts (count * 3) (c .table) (c .children) mask) (count + 1) f
           step d f t =
               let o = i .each d f t in
               let x = met d f t in
@@ -67,7 +71,7 @@ module _ (s : List ℕ) (table children : ℕ) where
                 rest = x .later;
                 ahead = x .ahead;
                 gone = o .gone ++ (n ∷ []);
-                found = fronts-put s (d - 1) fronts 0 (count * 2) (c .table) (c .children) (o .gone) n (omega arith) r (o .found) (next-parts c g x .table);
+                found = fronts-put s (d - 1) fronts 0 (count * 3) (c .table) (c .children) mask (o .gone) n (omega arith) r (o .found) (next-parts c g x .table) says;
                 many = length-more (o .gone) n count m;
                 nodes = append-assoc (o .gone) (n ∷ []) (siblings (x .later)) ∙ w;
               }

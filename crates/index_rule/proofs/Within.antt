@@ -78,7 +78,7 @@ module _ (s : List ℕ) (table children other others : ℕ) where
 module _ (s : List ℕ) (table children : ℕ) (fronts : List ℕ) (from count : ℕ) where
   pub record Fronts-ahead (d i : ℕ) (g : Forest) (fs : List Node) : Type 0 where
     pub rest : List Node
-    pub ahead : FrontsFrom s d fronts (from + i * 2) rest
+    pub ahead : FrontsFrom s d fronts (from + i * 3) rest
     pub left : length rest ≡ count - i
     pub says : fronts-within rest g ≡ fronts-within fs g
 
@@ -99,12 +99,12 @@ module _ (s : List ℕ) (table children : ℕ) (fronts : List ℕ) (from count :
         (within (front-now e d g fs t h .node .children) g && fronts-within (front-now e d g fs t h .later) g) ≡ fronts-within fs g
     one-front e d g fs t h = ap (λ (y : List Node). fronts-within y g) (sym (front-now e d g fs t h .is)) ∙ o .each e d g fs t h .says
 
-    pub passing-table : HasTable s table children → HasFronts s fronts from count → HasTable s (getD fronts (from + i * 2) 0) (getD fronts (from + i * 2 + 1) 0)
+    pub passing-table : HasTable s table children → HasFronts s fronts from count → HasTable s (getD fronts (from + i * 3) 0) (getD fronts (from + i * 3 + 1) 0)
     passing-table t h =
         let x = front-now (t .depth) (h .depth) (t .forest) (h .nodes) (t .is) (h .is) in
         record { depth = h .depth; forest = x .node .children; is = x .table }
 
-    module _ (r : Bool) (w : SaysWithin s table children (getD fronts (from + i * 2) 0) (getD fronts (from + i * 2 + 1) 0) r) where
+    module _ (r : Bool) (w : SaysWithin s table children (getD fronts (from + i * 3) 0) (getD fronts (from + i * 3 + 1) 0) r) where
       pub passing-lost : r ≡ false → SaysFronts s table children fronts from count false
       passing-lost z e d g fs t h =
           let x = front-now e d g fs t h in

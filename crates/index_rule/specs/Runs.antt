@@ -76,15 +76,15 @@ pub record Further (s : List ℕ) (depth children : ℕ) (count left : ℕ) (fro
   pub below : Forest
   pub nodes : List Node
   pub leads : TableOf s (left - k) t children below
-  pub fronts-here : FrontsHere s (left - k - 1) fronts ((depth + k) * 512) count nodes
+  pub fronts-here : FrontsHere s (left - k - 1) fronts ((depth + k) * 768) count nodes
   pub same : (right && children-right (depth + k) nodes below) ≡ children-right depth fs g
 
 -- where the run ends at leaves, it is all that there is to say
 pub record LoneSays (s : List ℕ) (table children depth : ℕ) (old : List ℕ) (count left : ℕ) (fronts : List ℕ) (k t : ℕ) (right ended : Bool) : Type 0 where
   pub few : k ≤ left
-  pub kept : KeptBelow ((depth + 1) * 512) old fronts
-  pub is : ended ≡ false → (g : Forest) (fs : List Node) → TableOf s left table children g → FrontsHere s (left - 1) old (depth * 512) count fs → Further s depth children count left fronts k t right g fs
-  pub end : ended ≡ true → (g : Forest) (fs : List Node) → TableOf s left table children g → FrontsHere s (left - 1) old (depth * 512) count fs → right ≡ children-right depth fs g
+  pub kept : KeptBelow ((depth + 1) * 768) old fronts
+  pub is : ended ≡ false → (g : Forest) (fs : List Node) → TableOf s left table children g → FrontsHere s (left - 1) old (depth * 768) count fs → Further s depth children count left fronts k t right g fs
+  pub end : ended ≡ true → (g : Forest) (fs : List Node) → TableOf s left table children g → FrontsHere s (left - 1) old (depth * 768) count fs → right ≡ children-right depth fs g
 
 -- whether siblings leave their parent without suffixes
 abbrev pub SaysNone : List ℕ → ℕ → Bool → Type 0

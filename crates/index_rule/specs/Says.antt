@@ -51,10 +51,10 @@ pub record RootFronts (s : List ℕ) (table children : ℕ) (fronts : List ℕ) 
 
 -- the fronts of a child by a byte, one level further up the stack, and their chunks and prefixes
 pub record NextFronts (s : List ℕ) (b depth : ℕ) (old : List ℕ) (count : ℕ) (fronts : List ℕ) (met : ℕ) (lists : List ℕ) (listed : ℕ) : Type 0 where
-  pub kept : KeptBelow ((depth + 1) * 512) old fronts
+  pub kept : KeptBelow ((depth + 1) * 768) old fronts
   pub valid : Lists s lists listed
-  pub are : (d : ℕ) (fs : List Node) → FrontsHere s d old (depth * 512) count fs → FrontsHere s (d - 1) fronts ((depth + 1) * 512) met (next-fronts b fs)
-  pub lists-are : (d : ℕ) (fs : List Node) → FrontsHere s d old (depth * 512) count fs → lists-in s lists listed ≡ front-lists (next-fronts b fs)
+  pub are : (d : ℕ) (fs : List Node) → FrontsHere s d old (depth * 768) count fs → FrontsHere s (d - 1) fronts ((depth + 1) * 768) met (next-fronts b fs)
+  pub lists-are : (d : ℕ) (fs : List Node) → FrontsHere s d old (depth * 768) count fs → lists-in s lists listed ≡ front-lists (next-fronts b fs)
 
 -- ── all nodes ──
 
@@ -73,25 +73,25 @@ pub record ChildAsked (s : List ℕ) (at depth : ℕ) (fronts : List ℕ) (count
   pub node : Node
   pub here : NodeHere s left at node
   pub nodes : List Node
-  pub fronts-here : FrontsHere s left fronts (depth * 512) count nodes
+  pub fronts-here : FrontsHere s left fronts (depth * 768) count nodes
   pub levels : depth + left ≤ 15
-  pub room : 8704 ≤ length fronts
+  pub room : 13056 ≤ length fronts
   pub lists-room : 1024 ≤ length lists
 
 pub record ChildSays (s : List ℕ) (b at depth : ℕ) (old : List ℕ) (count left : ℕ) (fronts : List ℕ) (r : Bool) : Type 0 where
-  pub kept : KeptBelow ((depth + 1) * 512) old fronts
-  pub says : (n : Node) (fs : List Node) → NodeHere s left at n → FrontsHere s left old (depth * 512) count fs → r ≡ child-right b (depth + 1) fs n
+  pub kept : KeptBelow ((depth + 1) * 768) old fronts
+  pub says : (n : Node) (fs : List Node) → NodeHere s left at n → FrontsHere s left old (depth * 768) count fs → r ≡ child-right b (depth + 1) fs n
 
 -- the table of a node and its fronts, where left levels are left below the node
 pub record ChildrenAsked (s : List ℕ) (table children depth : ℕ) (fronts : List ℕ) (count : ℕ) (lists : List ℕ) (left : ℕ) : Type 0 where
   pub forest : Forest
   pub is : TableOf s left table children forest
   pub nodes : List Node
-  pub fronts-here : FrontsHere s (left - 1) fronts (depth * 512) count nodes
+  pub fronts-here : FrontsHere s (left - 1) fronts (depth * 768) count nodes
   pub levels : depth + left ≤ 16
-  pub room : 8704 ≤ length fronts
+  pub room : 13056 ≤ length fronts
   pub lists-room : 1024 ≤ length lists
 
 pub record ChildrenSays (s : List ℕ) (table children depth : ℕ) (old : List ℕ) (count left : ℕ) (fronts : List ℕ) (r : Bool) : Type 0 where
-  pub kept : KeptBelow ((depth + 1) * 512) old fronts
-  pub says : (g : Forest) (fs : List Node) → TableOf s left table children g → FrontsHere s (left - 1) old (depth * 512) count fs → r ≡ children-right depth fs g
+  pub kept : KeptBelow ((depth + 1) * 768) old fronts
+  pub says : (g : Forest) (fs : List Node) → TableOf s left table children g → FrontsHere s (left - 1) old (depth * 768) count fs → r ≡ children-right depth fs g

@@ -33,7 +33,7 @@ fn read_part(s: &[u8], at: usize, n: usize) -> u64 {
 // Reads of the image an even share below the child by byte of each front of the root, and one below the node at index at,
 // which has the same byte.
 fn read_ahead(s: &[u8], byte: u8, fronts: &[usize], count: usize, at: usize) -> u64
-    requires { ⌜ HasFronts (now s) (now fronts) 0 count × (count * 2 ≤ length (now fronts)) ⌝ }
+    requires { ⌜ HasFronts (now s) (now fronts) 0 count × (count * 3 ≤ length (now fronts)) ⌝ }
 {
     if count == 0 {
         return 0;
@@ -42,7 +42,7 @@ fn read_ahead(s: &[u8], byte: u8, fronts: &[usize], count: usize, at: usize) -> 
     let mut sum = read_part(s, at, share);
     let mut i = 0;
     while i < count {
-        let f = i * 2;
+        let f = i * 3;
         i += 1;
         let c = image_walk::child_in(s, fronts[f], fronts[f + 1], byte);
         if let Child::At(p) = c {
@@ -62,7 +62,7 @@ pub fn look_ahead(
     at: usize,
     lists: &mut [usize],
 )
-    requires { ⌜ HasFronts (now s) (now fronts) (depth * 512) count × (8704 ≤ length (now fronts)) × (1024 ≤ length (now lists)) ⌝ }
+    requires { ⌜ HasFronts (now s) (now fronts) (depth * 768) count × (13056 ≤ length (now fronts)) × (1024 ≤ length (now lists)) ⌝ }
 {
     if depth != 0 {
         return;

@@ -1,5 +1,6 @@
 // The finished index rule, tested on an image in place; and the whole check of an image.
 mod ahead;
+mod masks;
 mod runs;
 
 use image_walk::Child;
@@ -109,21 +110,22 @@ fn node_right(s: &[u8], n: Node, depth: usize, lists: &mut [usize]) -> bool
     suffixes_right(s, n, lists)
 }
 
-// The nodes whose path has one byte more in front are a node's fronts. Each is two numbers on a stack of 256 for each
-// depth: its table and how many entries that has.
+// The nodes whose path has one byte more in front are a node's fronts. Each is three numbers on a stack of 256 for each
+// depth: its table, how many entries that has, and a mask of their bytes.
 
 // Puts a front at an index of the stack.
-fn put_front(fronts: &mut [usize], at: usize, table: usize, children: usize)
-    requires { ⌜ at + 2 ≤ length (now fronts) ⌝ }
-    ensures { λ _. ⌜ now (fronts .exit) ≡ with-front (now (fronts .entry)) at table children ⌝ }
+fn put_front(fronts: &mut [usize], at: usize, table: usize, children: usize, mask: usize)
+    requires { ⌜ at + 3 ≤ length (now fronts) ⌝ }
+    ensures { λ _. ⌜ now (fronts .exit) ≡ with-front (now (fronts .entry)) at table children mask ⌝ }
 {
     fronts[at] = table;
     fronts[at + 1] = children;
+    fronts[at + 2] = mask;
 }
 
 // The fronts of the root, which are its children in a table; how many.
 fn root_fronts(s: &[u8], table: usize, children: usize, fronts: &mut [usize]) -> usize
-    requires { ⌜ HasTable (now s) table children × (512 ≤ length (now fronts)) ⌝ }
+    requires { ⌜ HasTable (now s) table children × (768 ≤ length (now fronts)) ⌝ }
     ensures { λ r. ⌜ RootFronts (now (s .entry)) table children (now (fronts .exit)) r ⌝ }
 {
     let mut count = 0;
@@ -133,7 +135,8 @@ fn root_fronts(s: &[u8], table: usize, children: usize, fronts: &mut [usize]) ->
         j += 1;
         if let Slot::Taken { byte: _, at } = slot {
             let c = image_walk::node_at(s, at);
-            put_front(fronts, count * 2, c.table, c.children);
+            let mask = masks::mask_of(s, c.table, c.children);
+            put_front(fronts, count * 3, c.table, c.children, mask);
             count += 1;
         }
     }
@@ -168,12 +171,12 @@ fn fronts_within(
     from: usize,
     count: usize,
 ) -> bool
-    requires { ⌜ HasTable (now s) table children × HasFronts (now s) (now fronts) from count × (from + count * 2 ≤ length (now fronts)) ⌝ }
+    requires { ⌜ HasTable (now s) table children × HasFronts (now s) (now fronts) from count × (from + count * 3 ≤ length (now fronts)) ⌝ }
     ensures { λ r. ⌜ SaysFronts (now (s .entry)) table children (now (fronts .entry)) from count r ⌝ }
 {
     let mut i = 0;
     while i < count {
-        let f = from + i * 2;
+        let f = from + i * 3;
         i += 1;
         if !table_within(s, table, children, fronts[f], fronts[f + 1]) {
             return false;
@@ -197,30 +200,33 @@ fn fronts_by(
     count: usize,
     lists: &mut [usize],
 ) -> Found
-    requires { ⌜ HasFronts (now s) (now fronts) (depth * 512) count × (depth ≤ 15) × (8704 ≤ length (now fronts)) × (1024 ≤ length (now lists)) ⌝ }
+    requires { ⌜ HasFronts (now s) (now fronts) (depth * 768) count × (depth ≤ 15) × (13056 ≤ length (now fronts)) × (1024 ≤ length (now lists)) ⌝ }
     ensures { λ r. ⌜ NextFronts (now (s .entry)) byte depth (now (fronts .entry)) count (now (fronts .exit)) (r .fronts) (now (lists .exit)) (r .lists) ⌝ }
 {
-    let from = depth * 512;
-    let to = (depth + 1) * 512;
+    let from = depth * 768;
+    let to = (depth + 1) * 768;
     let mut met = 0;
     let mut listed = 0;
     let mut i = 0;
     while i < count {
-        let f = from + i * 2;
+        let f = from + i * 3;
         i += 1;
-        let c = image_walk::child_in(s, fronts[f], fronts[f + 1], byte);
-        if let Child::At(at) = c {
-            let n = image_walk::node_at(s, at);
-            put_front(fronts, to + met * 2, n.table, n.children);
-            met += 1;
-            listed = add_two(
-                lists,
-                listed,
-                n.chunks,
-                n.chunk_count,
-                n.prefixes,
-                n.prefix_count,
-            );
+        if !masks::is_absent(fronts[f + 2], byte) {
+            let c = image_walk::child_in(s, fronts[f], fronts[f + 1], byte);
+            if let Child::At(at) = c {
+                let n = image_walk::node_at(s, at);
+                let mask = masks::mask_of(s, n.table, n.children);
+                put_front(fronts, to + met * 3, n.table, n.children, mask);
+                met += 1;
+                listed = add_two(
+                    lists,
+                    listed,
+                    n.chunks,
+                    n.chunk_count,
+                    n.prefixes,
+                    n.prefix_count,
+                );
+            }
         }
     }
     Found {
@@ -239,7 +245,7 @@ fn next_fronts(
     lists: &mut [usize],
     at: usize,
 ) -> Found
-    requires { ⌜ HasFronts (now s) (now fronts) (depth * 512) count × (depth ≤ 15) × (8704 ≤ length (now fronts)) × (1024 ≤ length (now lists)) ⌝ }
+    requires { ⌜ HasFronts (now s) (now fronts) (depth * 768) count × (depth ≤ 15) × (13056 ≤ length (now fronts)) × (1024 ≤ length (now lists)) ⌝ }
     ensures { λ r. ⌜ NextFronts (now (s .entry)) byte depth (now (fronts .entry)) count (now (fronts .exit)) (r .fronts) (now (lists .exit)) (r .lists) ⌝ }
 {
     ahead::look_ahead(s, byte, depth, fronts, count, at, lists);
@@ -375,7 +381,7 @@ fn lone_run(
     if children != 1 {
         return no_run(table);
     }
-    let from = depth * 512;
+    let from = depth * 768;
     if fronts[from + 1] != 1 {
         return no_run(table);
     }
@@ -387,7 +393,7 @@ fn lone_run(
     if run.levels == 0 {
         return no_run(table);
     }
-    put_front(fronts, (depth + run.levels) * 512, run.other, 1);
+    put_front(fronts, (depth + run.levels) * 768, run.other, 1, 0);
     Lone {
         levels: run.levels,
         table: run.table,
@@ -468,7 +474,7 @@ fn children_right(
             }
         }
     }
-    fronts_within(s, run.table, children, fronts, here * 512, count)
+    fronts_within(s, run.table, children, fronts, here * 768, count)
 }
 
 // Whether the finished index rule holds of an image whose layout is right.
@@ -479,7 +485,7 @@ pub fn index_rule(s: &[u8]) -> bool
     if s[0] == 0 {
         return true;
     }
-    let mut fronts = [0usize; 8704];
+    let mut fronts = [0usize; 13056];
     let mut lists = [0usize; 1024];
     let root = image_walk::node_at(s, 0);
     if !node_right(s, root, 0, &mut lists) {

@@ -20,6 +20,15 @@ mul-fronts-2 c = search needs
 slice-write-fronts-2 : tie.Need-slice-write-fronts-2
 slice-write-fronts-2 c = simp length-set (omega arith)
 
+add-fronts-2 : tie.Need-add-fronts-2
+add-fronts-2 c = search needs
+
+mul-fronts-3 : tie.Need-mul-fronts-3
+mul-fronts-3 c = search needs
+
+slice-write-fronts-3 : tie.Need-slice-write-fronts-3
+slice-write-fronts-3 c = simp length-set (omega arith)
+
 same-length : tie.Need-same-length
 same-length c = search needs
 
@@ -35,5 +44,8 @@ put-front-spec =
     add-fronts
     mul-fronts-2
     slice-write-fronts-2
+    add-fronts-2
+    mul-fronts-3
+    slice-write-fronts-3
     same-length
     returns)

@@ -7,7 +7,7 @@ use borrow.Author.Needs.{needs}
 use denote.Ref.{now}
 use Rattle.image_walk.specs.Answers.{entry-of-answer}
 use Rattle.index_rule.proofs.Fronts.{front-length}
-use Rattle.index_rule.proofs.RootFronts.{Putting, putting-start, putting-skip, putting-laid, putting-add, putting-done}
+use Rattle.index_rule.proofs.RootFronts.{Putting, putting-start, putting-skip, putting-laid, putting-table, putting-add, putting-done}
 use Rattle.index_rule.proofs.root_fronts.Statement.{statement}
 use Rattle.index_rule.proofs.root_fronts.Tie as tie
 
@@ -36,29 +36,37 @@ node-at-requires c κs =
     let e = ap entry-of-answer (sym (c .before .slot .given .1)) ∙ c .before .before .before .slot-in .ensures in
     putting-laid (now (a .s)) (a .table) (a .children) (o .j) (o .fronts) (o .count) (o .inv .0) (omega arith) _ e (c .before .before .before .before .before .before .before .before .pre .0)
 
+mask-of-requires : tie.Need-mask-of-requires Inv-loop μ-loop
+mask-of-requires c κs =
+    let a = c .before .before .before .before .before .before .before .before .before .args in
+    let o = c .before .before .before .before .before .before .loop in
+    let e = ap entry-of-answer (sym (c .before .before .slot .given .1)) ∙ c .before .before .before .before .slot-in .ensures in
+    let n = c .node-at in
+    putting-table (now (a .s)) (a .table) (a .children) (o .j) (o .fronts) (o .count) (o .inv .0) (c .before .before .before .before .before .loop-test .taken) _ e (c .before .before .before .before .before .before .before .before .before .pre .0) (n .result) (n .ensures)
+
 mul-put-front : tie.Need-mul-put-front Inv-loop μ-loop
-mul-put-front c = omega (arith, c .before .before .before .before .before .before .before .before .before .before .pre .0 .is .most, c .before .before .before .before .before .before .before .loop .inv .0 .few)
+mul-put-front c = omega (arith, c .before .before .before .before .before .before .before .before .before .before .before .pre .0 .is .most, c .before .before .before .before .before .before .before .before .loop .inv .0 .few)
 
 put-front-requires : tie.Need-put-front-requires Inv-loop μ-loop
-put-front-requires c κs = omega (arith, c .before .before .before .before .before .before .before .before .before .before .pre .0 .is .most, c .before .before .before .before .before .before .before .loop .inv .0 .few, c .before .before .before .before .before .before .before .before .before .before .pre .1, c .before .before .before .before .before .before .before .loop .inv .1)
+put-front-requires c κs = omega (arith, c .before .before .before .before .before .before .before .before .before .before .before .pre .0 .is .most, c .before .before .before .before .before .before .before .before .loop .inv .0 .few, c .before .before .before .before .before .before .before .before .before .before .before .pre .1, c .before .before .before .before .before .before .before .before .loop .inv .1)
 
 add-count : tie.Need-add-count Inv-loop μ-loop
-add-count c = omega (arith, c .before .before .before .before .before .before .before .before .before .before .before .before .before .pre .0 .is .most, c .before .before .before .before .before .before .before .before .before .before .loop .inv .0 .few, c .before .before .before .before .before .before .before .before .before .loop-test .taken)
+add-count c = omega (arith, c .before .before .before .before .before .before .before .before .before .before .before .before .before .before .pre .0 .is .most, c .before .before .before .before .before .before .before .before .before .before .before .loop .inv .0 .few, c .before .before .before .before .before .before .before .before .before .before .loop-test .taken)
 
 loop-less : tie.Need-loop-less Inv-loop μ-loop
-loop-less c = omega (arith, c .before .before .before .before .before .before .before .before .before .loop-test .taken)
+loop-less c = omega (arith, c .before .before .before .before .before .before .before .before .before .before .loop-test .taken)
 
 loop-again : tie.Need-loop-again Inv-loop μ-loop
 loop-again c =
-    let u = c .before .before .before .before .before .before .before .before .before .before .before .before .before in
+    let u = c .before .before .before .before .before .before .before .before .before .before .before .before .before .before in
     let a = u .args in
-    let o = c .before .before .before .before .before .before .before .before .before .before .loop in
-    let l = c .before .before .before .before .before .before .before .before .before .loop-test .taken in
-    let e = ap entry-of-answer (sym (c .before .before .before .before .before .before .slot .given .1)) ∙ c .before .before .before .before .before .before .before .before .slot-in .ensures in
-    let n = c .before .before .before .before .node-at in
+    let o = c .before .before .before .before .before .before .before .before .before .before .before .loop in
+    let l = c .before .before .before .before .before .before .before .before .before .before .loop-test .taken in
+    let e = ap entry-of-answer (sym (c .before .before .before .before .before .before .before .slot .given .1)) ∙ c .before .before .before .before .before .before .before .before .before .slot-in .ensures in
+    let n = c .before .before .before .before .before .node-at in
     let m = u .pre .0 .is .most in
-    let w = putting-add (now (a .s)) (a .table) (a .children) (o .j) (o .fronts) (o .count) (o .inv .0) l _ e (omega (arith, o .inv .0 .few, u .pre .1, o .inv .1)) (n .result) (n .ensures) in
-    rw (c .before .before .put-front .ensures) (w, front-length (o .fronts) (o .count * 2) (n .result .table) (n .result .children) ∙ o .inv .1)
+    let w = putting-add (now (a .s)) (a .table) (a .children) (o .j) (o .fronts) (o .count) (o .inv .0) l _ e (omega (arith, o .inv .0 .few, u .pre .1, o .inv .1)) (n .result) (n .ensures) (c .before .before .before .before .mask-of .result) (c .before .before .before .before .mask-of .ensures) in
+    rw (c .before .before .put-front .ensures) (w, front-length (o .fronts) (o .count * 3) (n .result .table) (n .result .children) (c .before .before .before .before .mask-of .result) ∙ o .inv .1)
 
 enum-told : tie.Need-enum-told Inv-loop μ-loop
 enum-told c = search needs
@@ -93,6 +101,7 @@ root-fronts-spec =
     add-j
     enum-known-slot
     node-at-requires
+    mask-of-requires
     mul-put-front
     put-front-requires
     add-count

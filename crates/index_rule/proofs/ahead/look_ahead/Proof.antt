@@ -15,7 +15,7 @@ read-ahead-requires : tie.Need-read-ahead-requires
 read-ahead-requires c κs =
     let u = c .before .before .before .before in
     let a = u .args in
-    let z : a .depth * 512 ≡ 0 = omega (arith, c .if1 .left) in
+    let z : a .depth * 768 ≡ 0 = omega (arith, c .if1 .left) in
     (subst (λ (p : ℕ). HasFronts (now (a .s)) (now (a .fronts)) p (a .count)) z (u .pre .0), omega (arith, u .pre .0 .is .few, u .pre .1))
 
 slice-write-lists : tie.Need-slice-write-lists

@@ -10,7 +10,7 @@ use Rattle.index_rule.proofs.ahead.read_ahead.Statement.{statement}
 use Rattle.index_rule.proofs.ahead.read_ahead.Tie as tie
 
 abbrev Inv-loop : tie.InvT-loop
-Inv-loop s byte fronts count at share sum₀ i₀ sum i = HasFronts s fronts 0 count × (count * 2 ≤ length fronts) × (1 ≤ count)
+Inv-loop s byte fronts count at share sum₀ i₀ sum i = HasFronts s fronts 0 count × (count * 3 ≤ length fronts) × (1 ≤ count)
 
 abbrev μ-loop : tie.MeasureT-loop
 μ-loop s byte fronts count at share sum₀ i₀ sum i = count - i
