@@ -10,7 +10,8 @@ pub mod Nodes
 pub mod MaskLaws
 pub mod Fronts
 pub mod RootFronts
-pub mod Within
+pub mod WithinLaws
+pub mod MarkLaws
 pub mod NextFronts
 -- all nodes
 pub mod Forest
@@ -19,3 +20,4 @@ pub mod Whole
 pub mod Theorems
 pub mod RunLaws
 pub mod LoneLaws
+pub mod SingleLaws

@@ -67,6 +67,14 @@ module _ (s : List ℕ) (at : ℕ) (b : BareAt s at) where
         sym (ap (λ (y : Parts). y .«suffix_count») p),
       )
 
+  pub bare-place : (u : ℕ) → u ≡ le64 s (at + 17) → 1 ≡ le64 s (at + 25 + 24 * u) → parts-at s at .suffixes ≡ at + 25
+  bare-place u e f =
+      let z : getD s at 0 ≡ 1 → ⊥ = omega (arith, b .kind) in
+      let x : at + 25 + 24 * u ≡ at + 1 + 8 + 24 * 0 + 8 + 24 * 0 + 8 + 24 * u = omega arith in
+      let p = parts-are s at 0 0 u (at + 1 + 8 + 24 * 0 + 8 + 24 * 0 + 8 + 24 * u + 8) 1 (sym (b .prefixes)) chunks-there (e ∙ suffixes-there) (simp (ne-eqb _ _ z)) (simp (ne-eqb _ _ z) (f ∙ ap (le64 s) x)) in
+      let y : at + 1 + 8 + 24 * 0 + 8 + 24 * 0 + 8 ≡ at + 25 = omega arith in
+      sym (ap (λ (y : Parts). y .suffixes) p) ∙ y
+
   pub bare-some : (u r : ℕ) → u ≡ le64 s (at + 17) → LoneTable s (at + 25 + 24 * u) r → Bare (parts-at s at) r
   bare-some u r e l = subst (Bare (parts-at s at)) (l .table-is) (bare-parts u e (sym (l .one)) .0)
 
@@ -84,24 +92,24 @@ module _ (s : List ℕ) (at : ℕ) (b : BareAt s at) where
 
 -- ── two nodes ──
 
-no-locations : (s : List ℕ) (n at : ℕ) (ls : List Location) → n ≡ 0 → locations-in s n at ≡ ls → [] ≡ ls
+pub no-locations : (s : List ℕ) (n at : ℕ) (ls : List Location) → n ≡ 0 → locations-in s n at ≡ ls → [] ≡ ls
 unfolding locations-in
 no-locations s n at ls z e = subst (λ (k : ℕ). locations-in s k at ≡ ls) z e
 
 module _ (s : List ℕ) (table : ℕ) (e : Entry) (q : some e ≡ slot-in s table 1 0) where
-  only : (d : ℕ) (g : Forest) → TableOf s d table 1 g → Next s d table 1 0 e g
+  pub only : (d : ℕ) (g : Forest) → TableOf s d table 1 g → Next s d table 1 0 e g
   only d g t = slot-taken s d table 1 0 g e (omega arith) q (t .leads)
 
   pub only-laid : HasTable s table 1 → Laid s (e .node)
   only-laid h = next-laid (only (h .depth) (h .forest) (h .is))
 
-  only-is : (d : ℕ) (g : Forest) (t : TableOf s d table 1 g) → g ≡ more (e .byte) (only d g t .lists) (only d g t .below) leaf
+  pub only-is : (d : ℕ) (g : Forest) (t : TableOf s d table 1 g) → g ≡ more (e .byte) (only d g t .lists) (only d g t .below) leaf
   only-is d g t = let x = only d g t in x .is ∙ ap (more (e .byte) (x .lists) (x .below)) (slots-end s d table 1 (0 + 1) (x .later) (omega arith) (x .ahead))
 
-  only-parts : (d : ℕ) (g : Forest) (t : TableOf s d table 1 g) → PartsOf s (d - 1) (parts-at s (e .node)) (record { lists = only d g t .lists; children = only d g t .below })
+  pub only-parts : (d : ℕ) (g : Forest) (t : TableOf s d table 1 g) → PartsOf s (d - 1) (parts-at s (e .node)) (record { lists = only d g t .lists; children = only d g t .below })
   only-parts d g t = let x = only d g t in parts-of s (d - 1) (e .node) (record { lists = x .lists; children = x .below }) (x .here)
 
-  only-leads : (d : ℕ) (g : Forest) (t : TableOf s d table 1 g) (n : ℕ) → Bare (parts-at s (e .node)) n → TableOf s (d - 1) n 1 (only d g t .below)
+  pub only-leads : (d : ℕ) (g : Forest) (t : TableOf s d table 1 g) (n : ℕ) → Bare (parts-at s (e .node)) n → TableOf s (d - 1) n 1 (only d g t .below)
   only-leads d g t n b = let p = only-parts d g t .table in subst (λ (k : ℕ). TableOf s (d - 1) n k (only d g t .below)) (b .one) (subst (λ (k : ℕ). TableOf s (d - 1) k (parts-at s (e .node) .children) (only d g t .below)) (b .leads) p)
 
 pub goes-down : (s : List ℕ) (table other t o : ℕ) (e f : Entry) → some e ≡ slot-in s table 1 0 → some f ≡ slot-in s other 1 0 → e .byte ≡ f .byte →
@@ -176,7 +184,7 @@ none-owed g b h below e c u = rw (e, ← c, ← u) refl
 
 -- ── leaves ──
 
-one-location : (s : List ℕ) (n at : ℕ) (ls : List Location) → n ≡ 1 → locations-in s n at ≡ ls → location-at s at ∷ [] ≡ ls
+pub one-location : (s : List ℕ) (n at : ℕ) (ls : List Location) → n ≡ 1 → locations-in s n at ≡ ls → location-at s at ∷ [] ≡ ls
 unfolding locations-in
 one-location s n at ls z e = subst (λ (k : ℕ). locations-in s k at ≡ ls) z e
 

@@ -2,6 +2,8 @@
 mod ahead;
 mod masks;
 mod runs;
+mod singles;
+mod within;
 
 use image_walk::Child;
 use image_walk::Node;
@@ -16,8 +18,9 @@ ghost use Rattle.image.specs.Held.{trie-in};
 ghost use Rattle.image.specs.Answers.{layout-of};
 ghost use Rattle.index_rule.specs.Parts.{HasTable, HasParts};
 ghost use Rattle.index_rule.specs.Fronts.{HasFronts, with-front};
-ghost use Rattle.index_rule.specs.Says.{with-two, ChildLists, SaysOwed, SaysLists, SaysSuffixes, SaysNode, SaysWithin, SaysFronts, RootFronts, NextFronts, ChildAsked, ChildSays, ChildrenAsked, ChildrenSays};
+ghost use Rattle.index_rule.specs.Says.{with-two, ChildLists, SaysOwed, SaysLists, SaysSuffixes, SaysNode, RootFronts, NextFronts, ChildAsked, ChildSays, ChildrenAsked, ChildrenSays};
 ghost use Rattle.index_rule.specs.Runs.{LeafParts, LeafSays, LoneSays, SaysNone};
+ghost use Rattle.index_rule.specs.Singles.{SinglesSay};
 ghost use Rattle.index_rule.specs.Check.{LayoutRight, check-image};
 
 // Whether a node other than the root that has no child has a prefix or a chunk, and the root has no prefix.
@@ -141,48 +144,6 @@ fn root_fronts(s: &[u8], table: usize, children: usize, fronts: &mut [usize]) ->
         }
     }
     count
-}
-
-// Whether a table has a child for each byte for which another has one.
-fn table_within(s: &[u8], table: usize, children: usize, other: usize, others: usize) -> bool
-    requires { ⌜ HasTable (now s) table children × HasTable (now s) other others ⌝ }
-    ensures { λ r. ⌜ SaysWithin (now (s .entry)) table children other others r ⌝ }
-{
-    let mut j = 0;
-    while j < others {
-        let slot = image_walk::slot_in(s, other, others, j);
-        j += 1;
-        if let Slot::Taken { byte, at: _ } = slot {
-            let c = image_walk::child_in(s, table, children, byte);
-            let Child::At(_) = c else {
-                return false;
-            };
-        }
-    }
-    true
-}
-
-// Whether a table has a child for each byte for which one of the fronts from an index on has one.
-fn fronts_within(
-    s: &[u8],
-    table: usize,
-    children: usize,
-    fronts: &[usize],
-    from: usize,
-    count: usize,
-) -> bool
-    requires { ⌜ HasTable (now s) table children × HasFronts (now s) (now fronts) from count × (from + count * 3 ≤ length (now fronts)) ⌝ }
-    ensures { λ r. ⌜ SaysFronts (now (s .entry)) table children (now (fronts .entry)) from count r ⌝ }
-{
-    let mut i = 0;
-    while i < count {
-        let f = from + i * 3;
-        i += 1;
-        if !table_within(s, table, children, fronts[f], fronts[f + 1]) {
-            return false;
-        }
-    }
-    true
 }
 
 // How many fronts, and how many lists of their chunks and prefixes.
@@ -361,8 +322,25 @@ fn leaf_run(table: usize, right: bool) -> Lone
     }
 }
 
-// The run below a node at depth; its last front is put on the stack.
-fn lone_run(
+// The run below a node that has no front.
+fn run_without_front(s: &[u8], table: usize, children: usize, left: usize) -> Lone
+    requires { ⌜ HasTable (now s) table children ⌝ }
+    ensures { λ r. ⌜ SinglesSay (now (s .entry)) table children left (r .levels) (r .table) (r .right) (r .ended) ⌝ }
+{
+    if children != 1 {
+        return no_run(table);
+    }
+    let run = singles::single_run(s, table, left);
+    Lone {
+        levels: run.levels,
+        table: run.table,
+        right: true,
+        ended: false,
+    }
+}
+
+// The run below a node at depth that has fronts; its last front is put on the stack.
+fn run_with_front(
     s: &[u8],
     table: usize,
     children: usize,
@@ -400,6 +378,26 @@ fn lone_run(
         right: owes_none(s, run.table, lists),
         ended: false,
     }
+}
+
+// The run below a node at depth, if there is one.
+fn lone_run(
+    s: &[u8],
+    table: usize,
+    children: usize,
+    depth: usize,
+    fronts: &mut [usize],
+    count: usize,
+    lists: &mut [usize],
+    left: usize,
+) -> Lone
+    requires { ⌜ ChildrenAsked (now s) table children depth (now fronts) count (now lists) left ⌝ }
+    ensures { λ r. ⌜ LoneSays (now (s .entry)) table children depth (now (fronts .entry)) count left (now (fronts .exit)) (r .levels) (r .table) (r .right) (r .ended) ⌝ }
+{
+    if count == 0 {
+        return run_without_front(s, table, children, left);
+    }
+    run_with_front(s, table, children, depth, fronts, count, lists, left)
 }
 
 // One child of a node at depth, by byte at index at: its prefixes are the chunks and prefixes of its fronts, one address
@@ -474,7 +472,7 @@ fn children_right(
             }
         }
     }
-    fronts_within(s, run.table, children, fronts, here * 768, count)
+    within::fronts_within(s, run.table, children, fronts, here * 768, count)
 }
 
 // Whether the finished index rule holds of an image whose layout is right.

@@ -11,7 +11,7 @@ ghost use Rattle.index_rule.specs.Runs.{BareAt, LoneTable, Bare, Thin, D
 
 // Whether the node at an index is of kind 3 and has neither prefix nor chunk.
 // Compared with 0 a word would be tested byte by byte, so the counts are compared with each other.
-fn is_bare(s: &[u8], at: usize) -> bool
+pub fn is_bare(s: &[u8], at: usize) -> bool
     requires { ⌜ Laid (now s) at ⌝ }
     ensures { λ r. ⌜ (r ≡ true → BareAt (now (s .entry)) at) ⌝ }
 {

@@ -20,7 +20,7 @@ use Rattle.index_rule.proofs.children_right.Kinds as children-right-kin
 use Rattle.index_rule.proofs.+child_right+children_right.Lts-children_right as children-right-lts
 use Rattle.image_walk.proofs.node_at.Reads as node-at-reads
 use Rattle.image_walk.proofs.slot_in.Reads as slot-in-reads
-use Rattle.index_rule.proofs.fronts_within.Reads as fronts-within-reads
+use Rattle.index_rule.proofs.within.fronts_within.Reads as fronts-within-reads
 use Rattle.index_rule.proofs.lone_run.Reads as lone-run-reads
 use Rattle.index_rule.proofs.next_fronts.Reads as next-fronts-reads
 use Rattle.index_rule.proofs.node_right.Reads as node-right-reads

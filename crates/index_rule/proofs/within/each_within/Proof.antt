@@ -1,20 +1,21 @@
--- `index_rule::fronts_within` meets its contract: the fronts ahead decide. Assumes nothing.
+-- `index_rule::within::each_within` meets its contract: the fronts ahead decide. Assumes nothing.
 use Prim.Native.Nat.{_-_}
 use native.Mathlib.Omega.{arith}
+use mathlib.Core.Bool.{true, false}
 use borrow.Author.Tests.{not-true, not-false}
 use denote.Ref.{now}
-use Rattle.index_rule.proofs.Within.{Passing, passing-start, passing-table, passing-lost, passing-on, passing-done}
-use Rattle.index_rule.proofs.fronts_within.Statement.{statement}
-use Rattle.index_rule.proofs.fronts_within.Tie as tie
+use Rattle.index_rule.proofs.WithinLaws.{Led, led-within, led-fronts, Passing, passing-start, passing-table, passing-lost, passing-on, passing-done}
+use Rattle.index_rule.proofs.within.each_within.Statement.{statement}
+use Rattle.index_rule.proofs.within.each_within.Tie as tie
 
 abbrev Inv-loop : tie.InvT-loop
-Inv-loop s table children fronts from count i₀ i = Passing s table children fronts from count i
+Inv-loop s table children fronts from count i₀ i = Passing s (Led s table children) fronts from count i
 
 abbrev μ-loop : tie.MeasureT-loop
 μ-loop s table children fronts from count i₀ i = count - i
 
 loop-holds : tie.Need-loop-holds Inv-loop μ-loop
-loop-holds c = let a = c .before .before .args in passing-start (now (a .s)) (a .table) (a .children) (now (a .fronts)) (a .from) (a .count)
+loop-holds c = let a = c .before .before .args in passing-start (now (a .s)) (Led (now (a .s)) (a .table) (a .children)) (now (a .fronts)) (a .from) (a .count)
 
 mul-f : tie.Need-mul-f Inv-loop μ-loop
 mul-f c = omega arith
@@ -45,14 +46,14 @@ table-within-requires c κs =
     let u = c .before .before .before .before .before .before in
     let a = u .args in
     let o = c .before .before .before .loop in
-    (u .pre .0, passing-table (now (a .s)) (a .table) (a .children) (now (a .fronts)) (a .from) (a .count) (o .i) (o .inv) (c .before .before .loop-test .taken) (u .pre .0) (u .pre .1))
+    (u .pre .0, passing-table (now (a .s)) (Led (now (a .s)) (a .table) (a .children)) (now (a .fronts)) (a .from) (a .count) (o .i) (o .inv) (c .before .before .loop-test .taken) (u .pre .1))
 
 returns : tie.Need-returns Inv-loop μ-loop
 returns c =
     let a = c .before .before .before .before .before .before .before .before .args in
     let o = c .before .before .before .before .before .loop in
     let f = c .before .table-within in
-    passing-lost (now (a .s)) (a .table) (a .children) (now (a .fronts)) (a .from) (a .count) (o .i) (o .inv) (c .before .before .before .before .loop-test .taken) (f .result) (f .ensures) (not-true (f .result) (c .if1 .taken))
+    led-fronts (now (a .s)) (a .table) (a .children) (now (a .fronts)) (a .from) (a .count) false (passing-lost (now (a .s)) (Led (now (a .s)) (a .table) (a .children)) (now (a .fronts)) (a .from) (a .count) (o .i) (o .inv) (c .before .before .before .before .loop-test .taken) (f .result) (led-within (now (a .s)) (a .table) (a .children) _ _ (f .result) (f .ensures)) (not-true (f .result) (c .if1 .taken)))
 
 loop-less : tie.Need-loop-less Inv-loop μ-loop
 loop-less c = omega (arith, c .before .before .before .before .loop-test .taken)
@@ -62,13 +63,16 @@ loop-again c =
     let a = c .before .before .before .before .before .before .before .before .args in
     let o = c .before .before .before .before .before .loop in
     let f = c .before .table-within in
-    passing-on (now (a .s)) (a .table) (a .children) (now (a .fronts)) (a .from) (a .count) (o .i) (o .inv) (c .before .before .before .before .loop-test .taken) (f .result) (f .ensures) (not-false (f .result) (c .if1 .left))
+    passing-on (now (a .s)) (Led (now (a .s)) (a .table) (a .children)) (now (a .fronts)) (a .from) (a .count) (o .i) (o .inv) (c .before .before .before .before .loop-test .taken) (f .result) (led-within (now (a .s)) (a .table) (a .children) _ _ (f .result) (f .ensures)) (not-false (f .result) (c .if1 .left))
 
 returns-2 : tie.Need-returns-2 Inv-loop μ-loop
-returns-2 c = let a = c .before .before .before .before .args in let o = c .before .loop in passing-done (now (a .s)) (a .table) (a .children) (now (a .fronts)) (a .from) (a .count) (o .i) (o .inv) (c .loop-test .left)
+returns-2 c =
+    let a = c .before .before .before .before .args in
+    let o = c .before .loop in
+    led-fronts (now (a .s)) (a .table) (a .children) (now (a .fronts)) (a .from) (a .count) true (passing-done (now (a .s)) (Led (now (a .s)) (a .table) (a .children)) (now (a .fronts)) (a .from) (a .count) (o .i) (o .inv) (c .loop-test .left))
 
-pub fronts-within-spec : {M : Type 1} → statement M
-fronts-within-spec =
+pub each-within-spec : {M : Type 1} → statement M
+each-within-spec =
     tie.close
     (tie.spec
     Inv-loop
