@@ -24,7 +24,7 @@ enum { NODES = 1000, ENTRIES = 400, PLACES = 256, ROWS = 64 };
 
 static uint8_t memory[HELMAPRICOT_NEEDED(NODES, ENTRIES)];
 static uint8_t scratch[PLACES * HELMAPRICOT_PLACE_SIZE];
-static uint64_t rows[ROWS * HELMAPRICOT_ROW_NUMBERS];
+static struct helmapricot_row rows[ROWS];
 
 static void say(uint64_t answer, const char *done)
 {
@@ -47,10 +47,10 @@ static void find(const char *text)
 {
     uint64_t count;
     say(helmapricot_search(memory, sizeof memory, (const uint8_t *)text, strlen(text), scratch, sizeof scratch, rows,
-                           ROWS * HELMAPRICOT_ROW_NUMBERS, &count),
+                           ROWS, &count),
         NULL);
     for (uint64_t i = 0; i < count; i++)
-        printf("(place %" PRIu64 " %" PRIu64 " %" PRIu64 ")\n", rows[3 * i], rows[3 * i + 1], rows[3 * i + 2]);
+        printf("(place %" PRIu64 " %" PRIu64 " %" PRIu64 ")\n", rows[i].address, rows[i].created, rows[i].destroyed);
     printf("(end %" PRIu64 ")\n", count);
 }
 

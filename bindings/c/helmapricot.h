@@ -34,7 +34,7 @@ enum helmapricot_answer {
     HELMAPRICOT_TOO_MANY_ENTRIES = 8,       /* entry charge over capacity (load: entries) */
     HELMAPRICOT_QUERY_TOO_LONG = 9,         /* query over 256 bytes */
     HELMAPRICOT_SCRATCH_TOO_SMALL = 10,     /* more places than scratch holds */
-    HELMAPRICOT_TOO_MANY_ROWS = 11,         /* more rows than the row buffer holds */
+    HELMAPRICOT_TOO_MANY_ROWS = 11,         /* more rows than the slice of rows holds */
     HELMAPRICOT_SAVE_BUFFER_TOO_SHORT = 12, /* the image is longer than the save buffer */
     HELMAPRICOT_CUT_SHORT = 13,             /* stream or image ends inside a field */
     HELMAPRICOT_UNKNOWN_KIND = 14,          /* space kind over 4, node kind unknown */
@@ -74,9 +74,6 @@ enum helmapricot_node_kind {
 #define HELMAPRICOT_EMPTY_IMAGE_SIZE 25  /* of the image of an index without a block */
 #define HELMAPRICOT_BLOCK_HEADER_SIZE 33 /* of a block in a stream, before its data */
 
-/* How many numbers a row has: address, first tick, end. */
-#define HELMAPRICOT_ROW_NUMBERS 3
-
 /* The bytes of lent memory that a capacity needs. */
 #define HELMAPRICOT_NEEDED(nodes, entries) \
     (HELMAPRICOT_HEADER_SIZE + HELMAPRICOT_NODE_SIZE * (size_t)(nodes) + HELMAPRICOT_ENTRY_SIZE * (size_t)(entries))
@@ -87,8 +84,7 @@ enum helmapricot_node_kind {
     ((size_t)(bytes) / 16 * 136 + (size_t)(bytes) % 16 * ((size_t)(bytes) % 16 + 1) / 2)
 #define HELMAPRICOT_ENTRIES_CHARGED(bytes) ((bytes) == 0 ? (size_t)1 : 2 * (size_t)(bytes))
 
-/* A row: the query stood at the address at every tick from created to destroyed - 1, and not at the tick before or after.
- * A buffer of rows is a buffer of three numbers a row. */
+/* A row: the query stood at the address at every tick from created to destroyed - 1, and not at the tick before or after. */
 struct helmapricot_row {
     uint64_t address;
     uint64_t created;
@@ -122,12 +118,12 @@ uint64_t helmapricot_record(uint8_t *mem, size_t mem_len, uint64_t kind, uint64_
  * Answers 0 or 1. */
 uint64_t helmapricot_finish(uint8_t *mem, size_t mem_len);
 
-/* Writes the rows of a query to rows, by address and then by first tick, and how many they are to *count; numbers after the
- * last row stay. rows_len counts numbers: three a row. Scratch needs 24 bytes a place: a place is where and when the query
- * from one of its bytes on stood, counted over all its bytes; its contents are free afterwards. An empty query has no rows.
+/* Writes the rows of a query to rows, by address and then by first tick, and how many they are to *count; rows after the
+ * last stay. rows_len counts rows. Scratch needs 24 bytes a place: a place is where and when the query from one of its bytes
+ * on stood, counted over all its bytes; its contents are free afterwards. An empty query has no rows.
  * Answers 0, or 1, 3, 9, 10, 11. *count is 0 where it is refused. */
 uint64_t helmapricot_search(const uint8_t *mem, size_t mem_len, const uint8_t *query, size_t query_len, uint8_t *scratch,
-                            size_t scratch_len, uint64_t *rows, size_t rows_len, uint64_t *count);
+                            size_t scratch_len, struct helmapricot_row *rows, size_t rows_len, uint64_t *count);
 
 /* Writes the image of a finished index to the front of out, and its size to *size; bytes behind the image stay. An image has
  * at most 64 * nodes + 48 * entries bytes, by the index's capacity.

@@ -1,5 +1,6 @@
 //! Buffers to lend, with a page behind them that nobody may touch: one byte read or written too far ends the program.
 //! Before them stand bytes whose change is noticed.
+use crate::linked::Row;
 use std::ptr;
 
 extern "C" {
@@ -52,10 +53,10 @@ impl Fenced {
         unsafe { std::slice::from_raw_parts_mut(self.base(), self.len) }
     }
 
-    /// The same as numbers; the length is a multiple of 8.
-    pub fn numbers(&mut self) -> &mut [u64] {
-        assert_eq!(self.len % 8, 0);
-        unsafe { std::slice::from_raw_parts_mut(self.base() as *mut u64, self.len / 8) }
+    /// The same as rows; the length is a multiple of 24.
+    pub fn rows(&mut self) -> &mut [Row] {
+        assert_eq!(self.len % 24, 0);
+        unsafe { std::slice::from_raw_parts_mut(self.base() as *mut Row, self.len / 24) }
     }
 
     /// Nothing was written before the buffer.

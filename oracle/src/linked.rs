@@ -1,10 +1,20 @@
 //! The calls of the port, as its archive exports them: a slice is a pointer and a length.
+
+/// A row as the port writes it: three numbers, side by side.
+#[derive(Clone, Copy, Default)]
+#[repr(C)]
+pub struct Row {
+    pub address: u64,
+    pub created: u64,
+    pub destroyed: u64,
+}
+
 #[link(name = "helmapricot", kind = "static")]
 extern "C" {
     fn helmapricot_open(mem: *mut u8, len: usize, nodes: u64, entries: u64) -> u64;
     fn helmapricot_record(mem: *mut u8, len: usize, kind: u64, address: u64, created_at: u64, destroyed_at: u64, data: *const u8, data_len: usize) -> u64;
     fn helmapricot_finish(mem: *mut u8, len: usize) -> u64;
-    fn helmapricot_search(mem: *const u8, len: usize, q: *const u8, q_len: usize, scratch: *mut u8, scratch_len: usize, rows: *mut u64, rows_len: usize, count: *mut u64) -> u64;
+    fn helmapricot_search(mem: *const u8, len: usize, q: *const u8, q_len: usize, scratch: *mut u8, scratch_len: usize, rows: *mut Row, rows_len: usize, count: *mut u64) -> u64;
     fn helmapricot_save(mem: *const u8, len: usize, out: *mut u8, out_len: usize, size: *mut u64) -> u64;
     fn helmapricot_load(mem: *mut u8, len: usize, image: *const u8, image_len: usize) -> u64;
     fn helmapricot_read_block(s: *const u8, len: usize, at: usize, fields: *mut u64) -> u64;
@@ -23,7 +33,7 @@ pub fn finish(mem: &mut [u8]) -> u64 {
 }
 
 /// The number of the refusal, 0 for none, and how many rows there are. The call writes the count, refused or not.
-pub fn search(mem: &[u8], q: &[u8], scratch: &mut [u8], rows: &mut [u64]) -> (u64, u64) {
+pub fn search(mem: &[u8], q: &[u8], scratch: &mut [u8], rows: &mut [Row]) -> (u64, u64) {
     let mut count = u64::MAX;
     let n = unsafe { helmapricot_search(mem.as_ptr(), mem.len(), q.as_ptr(), q.len(), scratch.as_mut_ptr(), scratch.len(), rows.as_mut_ptr(), rows.len(), &mut count) };
     (n, count)

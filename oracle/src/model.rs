@@ -64,13 +64,13 @@ pub fn foretell(pieces: &[Piece], q: &[u8]) -> Foretold {
 }
 
 impl Foretold {
-    /// The answer, by bytes of scratch and numbers in the row buffer.
-    pub fn answer(&self, query: usize, scratch: usize, buffer: usize) -> u64 {
+    /// The answer, by bytes of scratch and rows in the lent slice.
+    pub fn answer(&self, query: usize, scratch: usize, room: usize) -> u64 {
         if query > 256 {
             9
         } else if (scratch as u64) / 24 < self.places {
             10
-        } else if buffer / 3 < self.rows.len() {
+        } else if room < self.rows.len() {
             11
         } else {
             0

@@ -156,8 +156,7 @@ impl<M: AsRef<[u8]>> Index<M> {
     pub fn search_in(&self, query: &[u8], scratch: &mut [u8], rows: &mut [Row]) -> Result<usize, Refusal> {
         let m = self.memory.as_ref();
         let mut count = 0;
-        // a row is three numbers, side by side
-        answer(unsafe { calls::helmapricot_search(m.as_ptr(), m.len(), query.as_ptr(), query.len(), scratch.as_mut_ptr(), scratch.len(), rows.as_mut_ptr().cast(), 3 * rows.len(), &mut count) })?;
+        answer(unsafe { calls::helmapricot_search(m.as_ptr(), m.len(), query.as_ptr(), query.len(), scratch.as_mut_ptr(), scratch.len(), rows.as_mut_ptr(), rows.len(), &mut count) })?;
         Ok(count as usize)
     }
 

@@ -1,6 +1,6 @@
 //! Saving and loading, borrowed memory, and streams.
 mod random;
-use helmapricot::{blocks, read_block, Index, Kind, Refusal};
+use helmapricot::{blocks, read_block, Index, Kind, Refusal, Row};
 use random::Random;
 
 type Done = Result<(), Refusal>;
@@ -63,7 +63,7 @@ fn lent_buffers() -> Done {
     let mut index = Index::open_in(&mut memory[..], 10, 10)?;
     index.record(Kind::Memory, 1, 1, 9, b"aba")?;
     index.finish()?;
-    let mut rows = [helmapricot::Row::default(); 2];
+    let mut rows = [Row::default(); 2];
     assert_eq!(index.search_in(b"a", &mut [0; 48], &mut rows), Ok(2));
     assert_eq!(index.search_in(b"a", &mut [0; 47], &mut rows), Err(Refusal::ScratchTooSmall));
     assert_eq!(index.search_in(b"a", &mut [0; 48], &mut rows[..1]), Err(Refusal::TooManyRows));
@@ -74,6 +74,26 @@ fn lent_buffers() -> Done {
     assert_eq!(held[held.len() - 7..], [0xee; 7]);
     memory[70] ^= 1;
     assert_eq!(Index::held_in(memory).search(b"ba"), Err(Refusal::IndexRuleBroken));
+    Ok(())
+}
+
+#[test]
+fn rows_in_memory() -> Done {
+    let mut index = Index::new(10, 10)?;
+    index.record(Kind::Memory, 0x0102030405060708, 0x1112131415161718, 0x2122232425262728, b"a")?;
+    index.record(Kind::Memory, 0x0102030405060709, 5, 6, b"a")?;
+    index.finish()?;
+    let untouched = Row { address: u64::MAX, created: u64::MAX, destroyed: u64::MAX };
+    let mut rows = [untouched; 4];
+    assert_eq!(index.search_in(b"a", &mut [0; 48], &mut rows), Ok(2));
+    assert_eq!(rows[0], Row { address: 0x0102030405060708, created: 0x1112131415161718, destroyed: 0x2122232425262728 });
+    assert_eq!(rows[1], Row { address: 0x0102030405060709, created: 5, destroyed: 6 });
+    assert_eq!(rows[2..], [untouched; 2]);
+    // a row is three numbers of eight bytes, lowest byte first, and the next one stands right behind
+    let bytes: [u8; 96] = unsafe { std::mem::transmute(rows) };
+    let numbers = [0x0102030405060708, 0x1112131415161718, 0x2122232425262728, 0x0102030405060709, 5, 6];
+    let expected: Vec<u8> = numbers.into_iter().chain([u64::MAX; 6]).flat_map(u64::to_le_bytes).collect();
+    assert_eq!(bytes[..], expected);
     Ok(())
 }
 

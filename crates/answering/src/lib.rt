@@ -3,7 +3,6 @@ use forms::Form;
 use libc::STDOUT_FILENO;
 use location::SpacetimeLocation;
 use replies::REPLY_LIMIT;
-use string_index::Answer;
 use string_index::Finished;
 use string_index::Recorded;
 ghost use mathlib.Core.Path.{_≡_};
@@ -17,8 +16,8 @@ ghost use Rattle.answering.specs.Memory.{memory-after-form};
 
 // The bytes of scratch for 256 places.
 const SCRATCH_SIZE: usize = 6144;
-// The numbers of 64 rows.
-const ROW_NUMBERS: usize = 192;
+// How many rows a query may have.
+const ROW_LIMIT: usize = 64;
 
 // Writes out what stands before index at.
 pub fn flush(out: &[u8], at: usize) {
@@ -53,27 +52,32 @@ pub fn at_most(n: usize, limit: usize) -> usize
     if n <= limit { n } else { limit }
 }
 
-// The place of row i.
-fn put_row(out: &mut [u8], at: usize, rows: &[u64], i: usize) -> usize
-    requires { ⌜ (71 ≤ length (now out)) × (i * 3 + 3 ≤ length (now rows)) ⌝ }
+// The place of the row in the 24 bytes of scratch from index p on.
+fn put_row(out: &mut [u8], at: usize, scratch: &[u8], p: usize) -> usize
+    requires { ⌜ (71 ≤ length (now out)) × (p + 24 ≤ length (now scratch)) ⌝ }
 {
     let a = room(out, at);
-    replies::put_place(out, a, rows[i * 3], rows[i * 3 + 1], rows[i * 3 + 2])
+    replies::put_place(
+        out,
+        a,
+        words::get64(scratch, p),
+        words::get64(scratch, p + 8),
+        words::get64(scratch, p + 16),
+    )
 }
 
-// The places of the rows, and how many they are.
-fn put_rows(out: &mut [u8], at: usize, rows: &[u64], n: usize) -> usize
-    requires { ⌜ (71 ≤ length (now out)) × (192 ≤ length (now rows)) ⌝ }
+// The places of the n rows in scratch from index p on, and how many they are.
+fn put_rows(out: &mut [u8], at: usize, scratch: &[u8], p: usize, n: usize) -> usize
+    requires { ⌜ (71 ≤ length (now out)) × (p + n * 24 ≤ length (now scratch)) ⌝ }
 {
-    let count = at_most(n, 64);
     let mut a = at;
     let mut i = 0;
-    while i < count {
-        a = put_row(out, a, rows, i);
+    while i < n {
+        a = put_row(out, a, scratch, p + i * 24);
         i += 1;
     }
     a = room(out, a);
-    replies::put_end(out, a, count as u64)
+    replies::put_end(out, a, n as u64)
 }
 
 fn record(
@@ -113,11 +117,11 @@ fn find(mem: &[u8], q: &[u8], out: &mut [u8], at: usize) -> usize
     requires { ⌜ 71 ≤ length (now out) ⌝ }
 {
     let mut scratch = [0u8; SCRATCH_SIZE];
-    let mut rows = [0u64; ROW_NUMBERS];
-    match string_index::search(mem, q, &mut scratch, &mut rows) {
-        Answer::Rows(n) => put_rows(out, at, &rows, n),
-        Answer::Refused(n) => refuse(out, at, n),
+    let found = string_index::find(mem, q, &mut scratch, ROW_LIMIT);
+    if found.refusal != 0 {
+        return refuse(out, at, found.refusal);
     }
+    put_rows(out, at, &scratch, found.at, found.count)
 }
 
 // Answers a line to the output from index at on; the index behind the answer.

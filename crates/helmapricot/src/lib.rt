@@ -4,9 +4,10 @@ use block_stream::Read;
 use index_memory::Opened;
 use index_memory::Recorded;
 use location::SpacetimeLocation;
+use rows::Row;
 use saving::Loaded;
 use saving::Saved;
-use searching::Answer;
+use string_index::Answer;
 use string_index::Finished;
 ghost use mathlib.Core.Path.{_≡_};
 ghost use lib.ListN.{length, set};
@@ -15,8 +16,9 @@ ghost use mathlib.Core.List.{[], _∷_};
 ghost use Rattle.definitions.specs.BlockStream.{read-block};
 ghost use Rattle.index_memory.specs.Answers.{opened-number, recorded-number};
 ghost use Rattle.index_memory.specs.Record.{open-memory, record-memory};
+ghost use Rattle.rows.specs.Rows.{numbers-of};
 ghost use Rattle.string_index.specs.Finish.{finish-memory, search-memory};
-ghost use Rattle.string_index.specs.Answers.{finished-number};
+ghost use Rattle.string_index.specs.Answers.{finished-number, found-by};
 ghost use Rattle.saving.specs.Saving.{save-memory, load-memory};
 ghost use Rattle.saving.specs.Answers.{loaded-number};
 ghost use Rattle.helmapricot.specs.Stream.{stream-number, with-fields};
@@ -89,20 +91,11 @@ pub extern "C" fn helmapricot_finish(mem: &mut [u8]) -> u64
     finished_number(string_index::finish(mem))
 }
 
-// How many rows there are goes into count; 0 where the search is refused.
-#[no_mangle]
-pub extern "C" fn helmapricot_search(
-    mem: &[u8],
-    q: &[u8],
-    scratch: &mut [u8],
-    rows: &mut [u64],
-    count: &mut [u64; 1],
-) -> u64
-    ensures answer { λ r. ⌜ r ≡ search-memory (now (mem .entry)) (now (q .entry)) (length (now (scratch .entry))) (now (rows .entry)) .refusal ⌝ }
-    ensures rows { λ _. ⌜ now (rows .exit) ≡ search-memory (now (mem .entry)) (now (q .entry)) (length (now (scratch .entry))) (now (rows .entry)) .buffer ⌝ }
-    ensures count { λ _. ⌜ now (count .exit) ≡ set (now (count .entry)) 0 (search-memory (now (mem .entry)) (now (q .entry)) (length (now (scratch .entry))) (now (rows .entry)) .count) ⌝ }
+// Writes how many rows there are, 0 where a search is refused, and answers the refusal's number.
+fn put_count(count: &mut [u64; 1], a: Answer) -> u64
+    ensures { λ r. ⌜ (r ≡ found-by a [] .refusal) × (now (count .exit) ≡ set (now (count .entry)) 0 (found-by a [] .count)) ⌝ }
 {
-    match string_index::search(mem, q, scratch, rows) {
+    match a {
         Answer::Rows(n) => {
             count[0] = n as u64;
             0
@@ -112,6 +105,23 @@ pub extern "C" fn helmapricot_search(
             n
         }
     }
+}
+
+// How many rows there are goes into count; 0 where the search is refused.
+#[no_mangle]
+pub extern "C" fn helmapricot_search(
+    mem: &[u8],
+    q: &[u8],
+    scratch: &mut [u8],
+    rows: &mut [Row],
+    count: &mut [u64; 1],
+) -> u64
+    ensures answer { λ r. ⌜ r ≡ search-memory (now (mem .entry)) (now (q .entry)) (length (now (scratch .entry))) (numbers-of (now (rows .entry))) .refusal ⌝ }
+    ensures rows { λ _. ⌜ numbers-of (now (rows .exit)) ≡ search-memory (now (mem .entry)) (now (q .entry)) (length (now (scratch .entry))) (numbers-of (now (rows .entry))) .buffer ⌝ }
+    ensures count { λ _. ⌜ now (count .exit) ≡ set (now (count .entry)) 0 (search-memory (now (mem .entry)) (now (q .entry)) (length (now (scratch .entry))) (numbers-of (now (rows .entry))) .count) ⌝ }
+{
+    let a = string_index::search(mem, q, scratch, rows);
+    put_count(count, a)
 }
 
 // How many bytes the image has goes into size; 0 where saving is refused.

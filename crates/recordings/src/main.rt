@@ -1,12 +1,11 @@
 // Document 01's recordings 11, 12 and 13, which no form can hold or whose images are to be seen. Prints a line for each answer.
 use libc::STDOUT_FILENO;
 use location::SpacetimeLocation;
-use string_index::Answer;
 use string_index::Finished;
 use string_index::Opened;
 use string_index::Recorded;
 use string_index::Saved;
-ghost use Prim.Native.Nat.{_≤_};
+ghost use Prim.Native.Nat.{_+_, _*_, _≤_};
 ghost use lib.ListN.{length};
 
 fn wide(x: u8) -> u64 {
@@ -59,26 +58,33 @@ fn finish(mem: &mut [u8]) {
     }
 }
 
+// Prints the first of the n rows in scratch from index p on, where there is one.
+fn print_first(scratch: &[u8], p: usize, n: usize)
+    requires { ⌜ p + n * 24 ≤ length (now scratch) ⌝ }
+{
+    if 0 < n {
+        io::write_all(STDOUT_FILENO, b" the first at");
+        print_number(words::get64(scratch, p));
+        print_number(words::get64(scratch, p + 8));
+        print_number(words::get64(scratch, p + 16));
+    }
+    io::write_all(STDOUT_FILENO, b"\n");
+}
+
 // The first row and how many there are.
 fn find(mem: &[u8], q: &[u8]) {
     let mut scratch = [0u8; 240000];
-    let mut rows = [0u64; 60];
     io::write_all(STDOUT_FILENO, b"  query of");
     print_number(q.len() as u64);
-    match string_index::search(mem, q, &mut scratch, &mut rows) {
-        Answer::Rows(n) => {
-            io::write_all(STDOUT_FILENO, b" has rows");
-            print_number(n as u64);
-            io::write_all(STDOUT_FILENO, b" the first at");
-            print_number(rows[0]);
-            print_number(rows[1]);
-            print_line(rows[2]);
-        }
-        Answer::Refused(n) => {
-            io::write_all(STDOUT_FILENO, b" refused");
-            print_line(n);
-        }
+    let found = string_index::find(mem, q, &mut scratch, 20);
+    if found.refusal != 0 {
+        io::write_all(STDOUT_FILENO, b" refused");
+        print_line(found.refusal);
+        return;
     }
+    io::write_all(STDOUT_FILENO, b" has rows");
+    print_number(found.count as u64);
+    print_first(&scratch, found.at, found.count);
 }
 
 // The image: its size, its first byte, and the number at an index.

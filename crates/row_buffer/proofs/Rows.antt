@@ -1,18 +1,16 @@
--- The first row of places in bytes: how many places it has, what its numbers are, and which rows are left. Assumes nothing.
+-- The first row of places in bytes: how many places it has, what it is, and which rows are left. Assumes nothing.
 use Prim.Native.Nat.{ℕ, zero, suc, _+_, _-_, _*_, _≤_, _<_}
 use native.Mathlib.Nat.{not-suc-le-zero}
 use native.Mathlib.Omega.{arith}
 use mathlib.Core.Path.{_≡_, refl, sym, ap, subst, _∙_}
 use mathlib.Core.Bool.{Bool, true, false, cond}
 use mathlib.Core.List.{List, [], _∷_}
-use lib.ListN.{set}
-use lib.Seq.{sets}
 use lib.Dec.{eqb}
 use borrow.Author.Tests.{eq-eqb, ne-eqb}
 use Rattle.words.specs.Words.{le64}
 use Rattle.definitions.specs.Location.{Location, location-at, locations-in}
 use Rattle.definitions.specs.Rows.{goes-on, lengthened, combined, combine-split-times}
-use Rattle.row_buffer.specs.Numbers.{ended, going-on, row-size}
+use Rattle.row_buffer.specs.Numbers.{row-at, ended, going-on, row-size}
 
 module _ (s : List ℕ) where
   -- the first of n places, and those behind it
@@ -102,7 +100,7 @@ module _ (s : List ℕ) where
     row-within = omega (arith, size, going-le (n - 1) (p + 24) (location-at s p))
 
     pub rows-first : combine-split-times (locations-in s n p)
-        ≡ record { address = le64 s p; created = le64 s (p + 8); destroyed = le64 s (p + (k - 1) * 24 + 16) } ∷ combine-split-times (locations-in s (n - k) (p + k * 24))
+        ≡ row-at s p (p + (k - 1) * 24) ∷ combine-split-times (locations-in s (n - k) (p + k * 24))
     unfolding l more long
     rows-first =
         let a : n - 1 - more ≡ n - k = omega (arith, size) in
@@ -171,7 +169,7 @@ module _ {s : List ℕ} {n at end u : ℕ} (g : Going s n at end u) where
       size = g .size ∙ rw split (rw (tested t, ← e) (omega arith));
     }
 
--- ── `goes_on` and `put_row` ──
+-- ── `goes_on` ──
 
 module _ (s : List ℕ) (p address end : ℕ) (x : ℕ) (ex : x ≡ le64 s p) where
   pub goes-there : (y : ℕ) → address ≡ x → y ≡ le64 s (p + 8) → eqb end y ≡ goes-on (ended address end) (location-at s p)
@@ -179,10 +177,3 @@ module _ (s : List ℕ) (p address end : ℕ) (x : ℕ) (ex : x ≡ le64 s p) wh
 
   pub goes-elsewhere : (address ≡ x → ⊥) → false ≡ goes-on (ended address end) (location-at s p)
   goes-elsewhere n = rw (ne-eqb address (le64 s p) (λ e. n (e ∙ sym ex))) refl
-
--- three numbers written one after the other
-pub put-three : (rows : List ℕ) (i a b d x y z : ℕ) → a ≡ x → b ≡ y → d ≡ z → set (set (set rows i a) (i + 1) b) (i + 2) d ≡ sets rows i (x ∷ y ∷ z ∷ [])
-put-three rows i a b d x y z e f g =
-    let j : i + 1 ≡ suc i = omega arith in
-    let k : i + 2 ≡ suc (suc i) = omega arith in
-    rw (e, f, g, j, k)

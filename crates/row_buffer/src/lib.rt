@@ -1,13 +1,12 @@
-// Rows: places with lives that touch, joined. They are counted, or written as three numbers each.
+// Rows: places with lives that touch, joined. They are counted, or joined where they stand.
+use location::SpacetimeLocation;
 ghost use mathlib.Core.Path.{_≡_};
 ghost use Prim.Native.Nat.{_+_, _*_, _≤_, _<_};
-ghost use mathlib.Core.List.{[], _∷_};
 ghost use lib.ListN.{length};
 ghost use lib.Seq.{sets};
-ghost use Rattle.words.specs.Words.{le64};
-ghost use Rattle.definitions.specs.Location.{location-at, locations-in};
+ghost use Rattle.definitions.specs.Location.{location-at, location-bytes, locations-in, locations-bytes};
 ghost use Rattle.definitions.specs.Rows.{goes-on, combine-split-times};
-ghost use Rattle.row_buffer.specs.Numbers.{row-size, row-numbers, ended};
+ghost use Rattle.row_buffer.specs.Numbers.{row-size, row-at, ended};
 
 // Whether the place at byte p goes on from a row with an address and an end.
 fn goes_on(scratch: &[u8], p: usize, address: u64, end: u64) -> bool
@@ -58,28 +57,31 @@ pub fn count_rows(scratch: &[u8], at: usize, n: usize) -> usize
     count
 }
 
-// Writes the row of the places from byte p to byte q on: the first one's address and creation, and the last one's end.
-fn put_row(scratch: &[u8], p: usize, q: usize, rows: &mut [u64], i: usize)
-    requires { ⌜ (p + 24 ≤ length (now scratch)) × (q + 24 ≤ length (now scratch)) × (i + 3 ≤ length (now rows)) ⌝ }
-    ensures { λ _. ⌜ now (rows .exit) ≡ sets (now (rows .entry)) i (le64 (now (scratch .entry)) p ∷ le64 (now (scratch .entry)) (p + 8) ∷ le64 (now (scratch .entry)) (q + 16) ∷ []) ⌝ }
+// Writes the row of the places from byte p to byte q on to byte w: the first one's address and creation, and the last one's end.
+fn put_row(scratch: &mut [u8], p: usize, q: usize, w: usize)
+    requires { ⌜ (p + 24 ≤ length (now scratch)) × (q + 24 ≤ length (now scratch)) × (w + 24 ≤ length (now scratch)) ⌝ }
+    ensures { λ _. ⌜ now (scratch .exit) ≡ sets (now (scratch .entry)) w (location-bytes (row-at (now (scratch .entry)) p q)) ⌝ }
 {
-    rows[i] = words::get64(scratch, p);
-    rows[i + 1] = words::get64(scratch, p + 8);
-    rows[i + 2] = words::get64(scratch, q + 16);
+    let row = SpacetimeLocation::new(
+        words::get64(scratch, p),
+        words::get64(scratch, p + 8),
+        words::get64(scratch, q + 16),
+    );
+    location::put_location(scratch, w, row);
 }
 
-// Writes the rows that the n places from byte at on make, three numbers each, and answers how many they are.
-pub fn combine_split_times(scratch: &[u8], at: usize, n: usize, rows: &mut [u64]) -> usize
-    requires { ⌜ (at + n * 24 ≤ length (now scratch)) × (3 * length (combine-split-times (locations-in (now scratch) n at)) ≤ length (now rows)) ⌝ }
+// Joins the n places from byte at on where they stand: their rows come to stand from byte at on. Answers how many they are.
+pub fn combine_split_times(scratch: &mut [u8], at: usize, n: usize) -> usize
+    requires { ⌜ at + n * 24 ≤ length (now scratch) ⌝ }
     ensures count { λ r. ⌜ r ≡ length (combine-split-times (locations-in (now (scratch .entry)) n at)) ⌝ }
-    ensures numbers { λ _. ⌜ now (rows .exit) ≡ sets (now (rows .entry)) 0 (row-numbers (combine-split-times (locations-in (now (scratch .entry)) n at))) ⌝ }
+    ensures bytes { λ _. ⌜ now (scratch .exit) ≡ sets (now (scratch .entry)) at (locations-bytes (combine-split-times (locations-in (now (scratch .entry)) n at))) ⌝ }
 {
     let mut p = at;
     let mut left = n;
     let mut count = 0;
     while 0 < left {
         let k = row_end(scratch, p, left);
-        put_row(scratch, p, p + (k - 1) * 24, rows, 3 * count);
+        put_row(scratch, p, p + (k - 1) * 24, at + count * 24);
         p += k * 24;
         left -= k;
         count += 1;

@@ -18,12 +18,24 @@ ghost use Rattle.collecting.specs.Collected.{Standing};
 ghost use Rattle.place_buffer.specs.Buffer.{Valid, Taken};
 ghost use Rattle.searching.specs.Found.{rooted, last-of, ended-lists, ending-lists, along-from};
 ghost use Rattle.searching.specs.Layout.{Sound, lists-of, Listed, EndsNothing, Ending, Reached, starting, LaidOut, EndFound, AllFound, Tabled, TableFound};
-ghost use Rattle.searching.specs.Search.{RightImage, Answers, rows-answer, search-answer};
+ghost use Rattle.searching.specs.Search.{RightImage, no-rows, Answers, rows-answer, search-answer};
 
-// How many rows were written, or the number of a refusal.
-pub enum Answer {
-    Rows(usize),
-    Refused(u64),
+// What is found: the number of a refusal (0 for none), and count rows, which stand in scratch from byte at on.
+pub struct Finding {
+    pub refusal: u64,
+    pub at: usize,
+    pub count: usize,
+}
+
+// No rows, because of a refusal or, where its number is 0, because there are none.
+pub fn no_rows(refusal: u64) -> Finding
+    ensures { λ r. ⌜ r ≡ no-rows refusal ⌝ }
+{
+    Finding {
+        refusal,
+        at: 0,
+        count: 0,
+    }
 }
 
 // Joins what ends at the node n, k bytes long, with the places number from to to - 1, which stand before the set.
@@ -300,35 +312,40 @@ fn find_all(img: &[u8], q: &[u8], ends: &mut [usize], scratch: &mut [u8]) -> boo
     find_exactly(img, q, last, ends, scratch)
 }
 
-// The rows of the places number from to to - 1. They are counted before one is written.
-fn hand_over(scratch: &[u8], from: usize, to: usize, rows: &mut [u64]) -> Answer
+// The rows of the places number from to to - 1, where those stood. They are counted before one is written.
+fn hand_over(scratch: &mut [u8], from: usize, to: usize, room: usize) -> Finding
     requires { ⌜ (from ≤ to) × (to * 24 ≤ length (now scratch)) ⌝ }
-    ensures { λ r. ⌜ Answers (rows-answer (combine-split-times (locations-in (now (scratch .entry)) (to - from) (from * 24))) (now (rows .entry))) r (now (rows .exit)) ⌝ }
+    ensures { λ r. ⌜ Answers (rows-answer (combine-split-times (locations-in (now (scratch .entry)) (to - from) (from * 24))) room) (now (scratch .exit)) r ⌝ }
 {
     let at = from * 24;
     let n = to - from;
     let count = row_buffer::count_rows(scratch, at, n);
-    if rows.len() / 3 < count {
-        return Answer::Refused(definitions::TOO_MANY_ROWS);
+    if room < count {
+        return no_rows(definitions::TOO_MANY_ROWS);
     }
-    let written = row_buffer::combine_split_times(scratch, at, n, rows);
-    Answer::Rows(written)
+    let written = row_buffer::combine_split_times(scratch, at, n);
+    Finding {
+        refusal: 0,
+        at,
+        count: written,
+    }
 }
 
-// The rows of a query of at most 256 bytes in a sound image. An empty query has none, nor has an empty index.
-pub fn search_image(img: &[u8], q: &[u8], scratch: &mut [u8], rows: &mut [u64]) -> Answer
+// The rows of a query of at most 256 bytes in a sound image, where so many rows have room.
+// An empty query has none, nor has an empty index.
+pub fn search_image(img: &[u8], q: &[u8], scratch: &mut [u8], room: usize) -> Finding
     requires { ⌜ RightImage (now img) × Rule (trie-in (now img)) × (length (now q) ≤ 256) ⌝ }
-    ensures { λ r. ⌜ Answers (search-answer (trie-in (now (img .entry))) (now (q .entry)) (length (now (scratch .entry))) (now (rows .entry))) r (now (rows .exit)) ⌝ }
+    ensures { λ r. ⌜ Answers (search-answer (trie-in (now (img .entry))) (now (q .entry)) (length (now (scratch .entry))) room) (now (scratch .exit)) r ⌝ }
 {
     if q.len() == 0 {
-        return Answer::Rows(0);
+        return no_rows(0);
     }
     if img[0] == 0 {
-        return Answer::Rows(0);
+        return no_rows(0);
     }
     let mut ends = [0usize; 257];
     if find_all(img, q, &mut ends, scratch) {
-        return Answer::Refused(definitions::SCRATCH_TOO_SMALL);
+        return no_rows(definitions::SCRATCH_TOO_SMALL);
     }
-    hand_over(scratch, ends[1], ends[0], rows)
+    hand_over(scratch, ends[1], ends[0], room)
 }

@@ -3,4 +3,6 @@ pub mod Demand
 pub mod SavedTrie
 pub mod ReadFinished
 pub mod Theorem
+pub mod Finding
+pub mod Searched
 pub mod Calling

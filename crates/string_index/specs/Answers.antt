@@ -1,8 +1,11 @@
 -- What the answers of the calls mean. Assumes nothing.
 use Prim.Native.Nat.{ℕ}
+use mathlib.Core.Bool.{cond}
 use mathlib.Core.List.{List}
-use Rattle.searching.specs.declared.Answer.{Answer}
-use Rattle.searching.specs.declared.Answer.the-variants.{Rows, Refused}
+use lib.Dec.{eqb}
+use Rattle.searching.specs.declared.Finding.{Finding}
+use Rattle.string_index.specs.declared.Answer.{Answer}
+use Rattle.string_index.specs.declared.Answer.the-variants.{Rows, Refused}
 use Rattle.string_index.specs.declared.Finished.{Finished}
 use Rattle.string_index.specs.declared.Finished.the-variants.{Done as Finished·Done, Refused as Finished·Refused}
 use Rattle.string_index.specs.Finish.{Found}
@@ -11,6 +14,10 @@ use Rattle.string_index.specs.Finish.{Found}
 abbrev pub finished-number : Finished → ℕ
 finished-number Finished·Done = 0
 finished-number (Finished·Refused n) = n
+
+-- what a search answers for what was found: the refusal where there is one, else how many rows
+abbrev pub answer-of : Finding → Answer
+answer-of f = cond (eqb (f .refusal) 0) (Rows (f .count)) (Refused (f .refusal))
 
 -- a search's answer with the row buffer that it leaves
 abbrev pub found-by : Answer → List ℕ → Found

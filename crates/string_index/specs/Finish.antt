@@ -1,16 +1,13 @@
 -- Finish and search as functions on memory: the answer, and each lent slice afterwards. Assumes nothing.
-use Prim.Native.Nat.{ℕ, _-_, _/_}
-use mathlib.Core.List.{List, [], _∷_}
+use Prim.Native.Nat.{ℕ, _/_}
+use mathlib.Core.List.{List}
 use mathlib.Core.Option.{Option, none, some}
 use lib.ListN.{length}
 use lib.Seq.{sets}
-use lib.Dec.{ltb}
 use Rattle.definitions.specs.Location.{Location}
 use Rattle.definitions.specs.Blocks.{Piece}
-use Rattle.definitions.specs.Places.{places-counted}
 use Rattle.definitions.specs.Rows.{rows}
-use Rattle.definitions.specs.Causes.{Cause, number, index-rule-broken, before-finish, query-too-long, scratch-too-small, too-many-rows, Check, first-cause}
-use Rattle.definitions.specs.Calls.{query-limit}
+use Rattle.definitions.specs.Causes.{Cause, number, index-rule-broken, before-finish, Check, first-cause}
 use Rattle.trie.specs.Trie.{trie-pieces}
 use Rattle.trie.specs.Build.{trie-of}
 use Rattle.image.specs.Image.{image}
@@ -18,6 +15,7 @@ use Rattle.row_buffer.specs.Numbers.{row-numbers}
 use Rattle.finished_memory.specs.Finished.{finished-memory}
 use Rattle.index_memory.specs.Index.{Index, broken, opened, finished, read-index}
 use Rattle.index_memory.specs.Record.{Done}
+use Rattle.string_index.specs.Find.{room-checks}
 
 -- ── finish: the log becomes an image ──
 
@@ -37,12 +35,9 @@ pub record Found : Type 0 where
   pub count : ℕ
   pub buffer : List ℕ
 
--- a place takes 24 bytes of scratch, a row three numbers of the row buffer
+-- a row takes three numbers of the row buffer
 abbrev pub query-checks : List Piece → List ℕ → ℕ → ℕ → List Check
-query-checks ps q scratch buffer =
-    record { applies = ltb query-limit (length q); cause = query-too-long } ∷
-    record { applies = ltb (scratch / 24) (places-counted ps q); cause = scratch-too-small } ∷
-    record { applies = ltb (buffer / 3) (length (rows ps q)); cause = too-many-rows } ∷ []
+query-checks ps q scratch buffer = room-checks ps q scratch (buffer / 3)
 
 abbrev pub found-or-refused : Option Cause → List Location → List ℕ → Found
 found-or-refused none rs buffer = record { refusal = 0; count = length rs; buffer = sets buffer 0 (row-numbers rs) }

@@ -6,9 +6,10 @@ pub use index_memory::Recorded;
 pub use index_memory::open;
 use inspecting::Held;
 use location::SpacetimeLocation;
+pub use rows::Row;
 pub use saving::Loaded;
 pub use saving::Saved;
-pub use searching::Answer;
+pub use searching::Finding;
 ghost use mathlib.Core.Path.{_≡_};
 ghost use lib.ListN.{length};
 ghost use Rattle.location.specs.Plain.{plain};
@@ -18,10 +19,13 @@ ghost use Rattle.index_memory.specs.Record.{record-memory};
 ghost use Rattle.index_memory.specs.Index.{image-part};
 ghost use Rattle.index_memory.specs.Answers.{header-of, recorded-number};
 ghost use Rattle.inspecting.specs.Held.{ImageIn};
+ghost use Rattle.rows.specs.Rows.{numbers-of};
 ghost use Rattle.saving.specs.Saving.{save-memory, load-memory};
 ghost use Rattle.saving.specs.Answers.{saved-by, loaded-number};
-ghost use Rattle.string_index.specs.Finish.{finish-memory, search-memory, search-pieces};
-ghost use Rattle.string_index.specs.Answers.{finished-number, found-by};
+ghost use Rattle.searching.specs.Search.{Answers};
+ghost use Rattle.string_index.specs.Find.{find-pieces, Finds};
+ghost use Rattle.string_index.specs.Finish.{finish-memory, search-memory};
+ghost use Rattle.string_index.specs.Answers.{finished-number, answer-of, found-by};
 
 // Records a block: the bytes of one of kind Memory go into an open index.
 pub fn record(mem: &mut [u8], kind: u64, l: SpacetimeLocation, data: &[u8]) -> Recorded
@@ -56,26 +60,52 @@ pub fn finish(mem: &mut [u8]) -> Finished
     }
 }
 
-// The rows of a query in a finished index: h is the header of its memory.
-fn search_finished(mem: &[u8], h: Header, q: &[u8], scratch: &mut [u8], rows: &mut [u64]) -> Answer
-    requires { ⌜ ImageIn (now mem) (header-of h) ⌝ }
-    ensures { λ r. ⌜ found-by r (now (rows .exit)) ≡ search-pieces (trie-pieces (trie-in (image-part (now (mem .entry)) (header-of h)))) (now (q .entry)) (length (now (scratch .entry))) (now (rows .entry)) ⌝ }
-{
-    if definitions::QUERY_LIMIT < q.len() {
-        return Answer::Refused(definitions::QUERY_TOO_LONG);
-    }
-    searching::search_image(&mem[HEADER_SIZE..HEADER_SIZE + h.payload], q, scratch, rows)
+// How many rows are handed over, or the number of a refusal.
+pub enum Answer {
+    Rows(usize),
+    Refused(u64),
 }
 
-// The rows of a query, in the row buffer.
-pub fn search(mem: &[u8], q: &[u8], scratch: &mut [u8], rows: &mut [u64]) -> Answer
-    ensures { λ r. ⌜ found-by r (now (rows .exit)) ≡ search-memory (now (mem .entry)) (now (q .entry)) (length (now (scratch .entry))) (now (rows .entry)) ⌝ }
+// Finds the rows of a query in a finished index, where so many rows have room: h is the header of its memory.
+fn find_finished(mem: &[u8], h: Header, q: &[u8], scratch: &mut [u8], room: usize) -> Finding
+    requires { ⌜ ImageIn (now mem) (header-of h) ⌝ }
+    ensures { λ r. ⌜ Answers (find-pieces (trie-pieces (trie-in (image-part (now (mem .entry)) (header-of h)))) (now (q .entry)) (length (now (scratch .entry))) room) (now (scratch .exit)) r ⌝ }
+{
+    if definitions::QUERY_LIMIT < q.len() {
+        return searching::no_rows(definitions::QUERY_TOO_LONG);
+    }
+    searching::search_image(&mem[HEADER_SIZE..HEADER_SIZE + h.payload], q, scratch, room)
+}
+
+// Finds the rows of a query, where so many rows have room; they stand in scratch.
+pub fn find(mem: &[u8], q: &[u8], scratch: &mut [u8], room: usize) -> Finding
+    ensures { λ r. ⌜ Finds (now (mem .entry)) (now (q .entry)) (length (now (scratch .entry))) room (now (scratch .exit)) (r .refusal) (r .at) (r .count) ⌝ }
 {
     match inspecting::inspect(mem) {
-        Held::Broken => Answer::Refused(definitions::INDEX_RULE_BROKEN),
-        Held::Open(_) => Answer::Refused(definitions::BEFORE_FINISH),
-        Held::Finished(h) => search_finished(mem, h, q, scratch, rows),
+        Held::Broken => searching::no_rows(definitions::INDEX_RULE_BROKEN),
+        Held::Open(_) => searching::no_rows(definitions::BEFORE_FINISH),
+        Held::Finished(h) => find_finished(mem, h, q, scratch, room),
     }
+}
+
+// What a search answers for what was found.
+fn answer_of(f: Finding) -> Answer
+    ensures { λ r. ⌜ r ≡ answer-of f ⌝ }
+{
+    if f.refusal == 0 {
+        Answer::Rows(f.count)
+    } else {
+        Answer::Refused(f.refusal)
+    }
+}
+
+// The rows of a query, handed over in the slice that is lent for them; rows after the last stay.
+pub fn search(mem: &[u8], q: &[u8], scratch: &mut [u8], rows: &mut [Row]) -> Answer
+    ensures { λ r. ⌜ found-by r (numbers-of (now (rows .exit))) ≡ search-memory (now (mem .entry)) (now (q .entry)) (length (now (scratch .entry))) (numbers-of (now (rows .entry))) ⌝ }
+{
+    let f = find(mem, q, scratch, rows.len());
+    rows::put_rows(rows, scratch, f.at, f.count);
+    answer_of(f)
 }
 
 // Saves the image of a finished index into the buffer.

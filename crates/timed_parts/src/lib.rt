@@ -1,6 +1,5 @@
 // Parts of the calls that the benchmark times by themselves: the layout, the test of an image, the search without it.
 use image::Layout;
-use searching::Answer;
 ghost use mathlib.Core.Path.{_≡_};
 ghost use Prim.Native.Nat.{_≤_};
 ghost use lib.ListN.{length};
@@ -10,7 +9,7 @@ ghost use Rattle.image.specs.Held.{trie-in};
 ghost use Rattle.image.specs.Reading.{read-image};
 ghost use Rattle.index_rule.specs.Check.{check-image};
 ghost use Rattle.searching.specs.Search.{RightImage, search-answer};
-ghost use Rattle.timed_parts.specs.Parts.{refusal-of, CountsRows};
+ghost use Rattle.timed_parts.specs.Parts.{refusal-of, row-count};
 
 fn number(l: Layout) -> u64
     ensures { λ r. ⌜ r ≡ refusal-of (layout-of l) ⌝ }
@@ -37,19 +36,20 @@ pub extern "C" fn helmapricot_layout(img: &[u8]) -> u64
     number(image::read_image(img))
 }
 
-// The search of an image that passed the test: how many rows, or the largest number where it is refused.
+// The search of an image that passed the test: how many rows stand in scratch, or the largest number where it is refused.
 #[no_mangle]
 pub extern "C" fn helmapricot_search_image(
     img: &[u8],
     q: &[u8],
     scratch: &mut [u8],
-    rows: &mut [u64],
+    room: usize,
 ) -> u64
     requires { ⌜ RightImage (now img) × Rule (trie-in (now img)) × (length (now q) ≤ 256) ⌝ }
-    ensures { λ r. ⌜ CountsRows (search-answer (trie-in (now (img .entry))) (now (q .entry)) (length (now (scratch .entry))) (now (rows .entry))) (now (rows .exit)) r ⌝ }
+    ensures { λ r. ⌜ r ≡ row-count (search-answer (trie-in (now (img .entry))) (now (q .entry)) (length (now (scratch .entry))) room) ⌝ }
 {
-    match searching::search_image(img, q, scratch, rows) {
-        Answer::Rows(n) => n as u64,
-        Answer::Refused(_) => u64::MAX,
+    let found = searching::search_image(img, q, scratch, room);
+    if found.refusal != 0 {
+        return u64::MAX;
     }
+    found.count as u64
 }

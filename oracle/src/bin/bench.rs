@@ -140,7 +140,7 @@ fn main() {
     let image = image_of(&mem);
     test_of_image("3,000 blocks", image);
     let mut scratch = vec![0u8; 24 << 20];
-    let mut rows = vec![0u64; 3 << 18];
+    let mut rows = vec![linked::Row::default(); 1 << 18];
     // all bytes in the order of their addresses, to take queries from
     let all: Vec<u8> = made.iter().flat_map(|b| b.data.iter().copied()).collect();
     println!("{:24} {:>12} {:>12} {:>12}   rows, port and published", "search, microseconds", "with test", "proper", "published");
@@ -151,7 +151,7 @@ fn main() {
         let mut next = || { k += 1; queries[k % queries.len()] };
         let whole = middle(9, || { black_box(linked::search(&mem, next(), &mut scratch, &mut rows)); });
         let times = if len == 1 { 401 } else { 4001 };
-        let proper = middle(times, || { black_box(timed_parts::search_image(image, next(), &mut scratch, &mut rows)); });
+        let proper = middle(times, || { black_box(timed_parts::search_image(image, next(), &mut scratch, rows.len())); });
         let rust = middle(times, || { black_box(index.search(next())); });
         let ours: u64 = queries.iter().map(|q| linked::search(&mem, q, &mut scratch, &mut rows)).map(|(n, c)| { assert_eq!(n, 0); c }).sum();
         let theirs: usize = queries.iter().map(|q| index.search(q).len()).sum();

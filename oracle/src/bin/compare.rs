@@ -102,25 +102,25 @@ impl Port {
         Ok(n)
     }
 
-    /// A search with so many bytes of scratch and so many numbers in the row buffer.
-    fn search(&mut self, q: &[u8], scratch: usize, buffer: usize, r: &mut Random) -> Result<Answer, String> {
-        let before_rows = r.bytes(8 * buffer);
+    /// A search with so many bytes of scratch and so many rows in the lent slice.
+    fn search(&mut self, q: &[u8], scratch: usize, room: usize, r: &mut Random) -> Result<Answer, String> {
+        let before_rows = r.bytes(24 * room);
         let before_scratch = r.bytes(scratch);
         self.input.set(q);
         self.rows.set(&before_rows);
         self.scratch.set(&before_scratch);
-        let (number, count) = linked::search(self.mem.bytes(), self.input.bytes(), self.scratch.bytes(), self.rows.numbers());
+        let (number, count) = linked::search(self.mem.bytes(), self.input.bytes(), self.scratch.bytes(), self.rows.rows());
         self.fences()?;
         same_bytes("a query afterwards", q, self.input.bytes())?;
         if ![0, 10, 11].contains(&number) {
             same_bytes("scratch after a refusal", &before_scratch, self.scratch.bytes())?;
         }
-        if count > buffer as u64 / 3 {
-            return Err(format!("{count} rows in a buffer of {buffer} numbers, answer {number}"));
+        if count > room as u64 {
+            return Err(format!("{count} rows in a slice of {room}, answer {number}"));
         }
         let end = 24 * count as usize;
-        same_bytes("the row buffer after the last row", &before_rows[end..], &self.rows.bytes()[end..])?;
-        let rows = self.rows.numbers()[..end / 8].chunks(3).map(|x| Location::new(x[0], x[1], x[2])).collect();
+        same_bytes("the rows after the last", &before_rows[end..], &self.rows.bytes()[end..])?;
+        let rows = self.rows.rows()[..count as usize].iter().map(|x| Location::new(x.address, x.created, x.destroyed)).collect();
         Ok(Answer { number, rows })
     }
 
@@ -235,19 +235,19 @@ impl Run<'_> {
         }
     }
 
-    /// Searches with room for all, with just enough, and with one byte or number too few.
+    /// Searches with room for all, with just enough, and with one byte or row too few.
     fn find(&mut self, q: &[u8]) -> Compared {
         let refusal = self.model.search_refusal();
         if refusal != 0 || q.len() > 256 {
-            let (scratch, buffer) = (self.r.below(100) as usize, self.r.below(20) as usize);
-            let a = self.port.search(q, scratch, buffer, &mut self.r)?;
+            let (scratch, room) = (self.r.below(100) as usize, self.r.below(7) as usize);
+            let a = self.port.search(q, scratch, room, &mut self.r)?;
             self.counts.one(&format!("searches answered {}", a.number));
             return same("a search that is refused", (if refusal == 0 { 9 } else { refusal }, 0), (a.number, a.rows.len()));
         }
         let f = self.finished.as_ref().unwrap();
         let told = model::foretell(&f.pieces, q);
-        let (places, rows) = (24 * told.places as usize, 3 * told.rows.len());
-        let mut rooms = vec![(places + self.r.below(30) as usize, rows + self.r.below(9) as usize), (places, rows)];
+        let (places, rows) = (24 * told.places as usize, told.rows.len());
+        let mut rooms = vec![(places + self.r.below(30) as usize, rows + self.r.below(3) as usize), (places, rows)];
         if places > 0 {
             rooms.extend([(places - 1, rows), (self.r.below(places as u64) as usize, rows.saturating_sub(1)), (0, 0)]);
         }
@@ -257,17 +257,17 @@ impl Run<'_> {
         if self.is_large() {
             rooms.drain(..1);
         }
-        for (scratch, buffer) in rooms {
-            self.search(q, &told, scratch, buffer)?;
+        for (scratch, room) in rooms {
+            self.search(q, &told, scratch, room)?;
         }
         self.judge_rows(q, told.rows)
     }
 
-    fn search(&mut self, q: &[u8], told: &Foretold, scratch: usize, buffer: usize) -> Compared {
-        let number = told.answer(q.len(), scratch, buffer);
-        let a = self.port.search(q, scratch, buffer, &mut self.r)?;
+    fn search(&mut self, q: &[u8], told: &Foretold, scratch: usize, room: usize) -> Compared {
+        let number = told.answer(q.len(), scratch, room);
+        let a = self.port.search(q, scratch, room, &mut self.r)?;
         self.counts.one(&format!("searches answered {number}"));
-        let what = format!("search for ({}) with {scratch} bytes of scratch, {} places, a row buffer of {buffer} numbers", hex(q), told.places);
+        let what = format!("search for ({}) with {scratch} bytes of scratch, {} places, a slice of {room} rows", hex(q), told.places);
         same(&what, number, a.number)?;
         let none = Vec::new();
         same(&what, if number == 0 { &told.rows } else { &none }, &a.rows)
@@ -371,7 +371,7 @@ impl Run<'_> {
         let f = self.finished.as_ref().unwrap();
         for (q, rows) in f.queries.iter().take(if self.model.bytes.len() > LARGE { 4 } else { 99 }) {
             let places = model::foretell(&f.pieces, q).places as usize;
-            let a = self.port.search(q, 24 * places, 3 * rows.len(), &mut self.r)?;
+            let a = self.port.search(q, 24 * places, rows.len(), &mut self.r)?;
             same(&format!("rows of ({}) in the Rust's image, loaded", hex(q)), (0, rows), (a.number, &a.rows))?;
             self.counts.one("row lists found in the Rust's image, loaded");
         }
@@ -491,8 +491,8 @@ impl Run<'_> {
 
         self.port.mem.set(&bad.bytes);
         let told = model::foretell(&if bad.search_refusal() == 0 { bad.pieces() } else { Vec::new() }, q);
-        let (scratch, buffer) = (24 * told.places as usize, 3 * told.rows.len());
-        let a = self.port.search(q, scratch, buffer, &mut self.r)?;
+        let (scratch, room) = (24 * told.places as usize, told.rows.len());
+        let a = self.port.search(q, scratch, room, &mut self.r)?;
         same("search on a damaged memory", bad.search_refusal(), a.number)?;
         same("rows in a damaged memory", told.rows, a.rows)?;
         same_bytes("a damaged memory after search", &bad.bytes, self.port.mem.bytes())?;

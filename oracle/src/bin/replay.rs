@@ -27,9 +27,9 @@ fn opened() -> Vec<u8> {
 }
 
 fn find(mem: &[u8], q: &[u8]) -> String {
-    let mut rows = vec![0; 3 * ROWS];
+    let mut rows = vec![linked::Row::default(); ROWS];
     let (answer, count) = linked::search(mem, q, &mut vec![0; 24 * PLACES], &mut rows);
-    let places: String = rows[..3 * count as usize].chunks(3).map(|r| format!("(place {} {} {})\n", r[0], r[1], r[2])).collect();
+    let places: String = rows[..count as usize].iter().map(|r| format!("(place {} {} {})\n", r.address, r.created, r.destroyed)).collect();
     said(answer, format!("{places}(end {count})\n"))
 }
 

@@ -1,5 +1,5 @@
 -- `answering::put_rows` is safe and ends. Assumes nothing.
-use Prim.Native.Nat.{_-_, _≤_}
+use Prim.Native.Nat.{_+_, _-_, _*_, _≤_}
 use mathlib.Core.Path.{_≡_}
 use lib.ListN.{length}
 use borrow.Author.Needs.{needs}
@@ -7,16 +7,19 @@ use Rattle.answering.proofs.put_rows.Statement.{statement}
 use Rattle.answering.proofs.put_rows.Tie as tie
 
 abbrev Inv-loop : tie.InvT-loop
-Inv-loop out₀ at rows n count a₀ i₀ out a i = (length out ≡ length out₀) × (71 ≤ length out) × (192 ≤ length rows) × (count ≤ 64) × (i ≤ count)
+Inv-loop out₀ at scratch p n a₀ i₀ out a i = (length out ≡ length out₀) × (71 ≤ length out) × (p + n * 24 ≤ length scratch) × (i ≤ n)
 
 abbrev μ-loop : tie.MeasureT-loop
-μ-loop out₀ at rows n count a₀ i₀ out a i = count - i
-
-at-most-requires : tie.Need-at-most-requires Inv-loop μ-loop
-at-most-requires c κs = search needs
+μ-loop out₀ at scratch p n a₀ i₀ out a i = n - i
 
 loop-holds : tie.Need-loop-holds Inv-loop μ-loop
 loop-holds c = search needs
+
+mul-put-row : tie.Need-mul-put-row Inv-loop μ-loop
+mul-put-row c = search needs
+
+add-put-row : tie.Need-add-put-row Inv-loop μ-loop
+add-put-row c = search needs
 
 put-row-requires : tie.Need-put-row-requires Inv-loop μ-loop
 put-row-requires c κs = search needs
@@ -48,8 +51,9 @@ put-rows-spec =
     (tie.spec
     Inv-loop
     μ-loop
-    at-most-requires
     loop-holds
+    mul-put-row
+    add-put-row
     put-row-requires
     add-i
     loop-less

@@ -1,0 +1,54 @@
+-- The first rows replaced one after the other, as `put_rows` does it: there are as many as before, and in the end the first n are those of the bytes. Assumes nothing.
+use Prim.Native.Nat.{ℕ, zero, suc, _+_, _*_, _≤_}
+use native.Mathlib.Omega.{arith}
+use mathlib.Core.Path.{_≡_, refl, sym, ap, _∙_}
+use mathlib.Core.List.{List, [], _∷_, _++_}
+use lib.ListN.{length, set, drop, length-set}
+use lib.Seq.{drop-cons, append-snoc, set-at}
+use Rattle.definitions.specs.Location.{location-at, locations-in}
+use Rattle.rows.specs.declared.Row.{Row}
+use Rattle.rows.specs.Rows.{row-of, rows-of}
+
+-- rows with the same three numbers
+pub row-path : {a b d x y z : ℕ} → a ≡ x → b ≡ y → d ≡ z → _≡_ {A = Row} (record { address = a; «created_at» = b; «destroyed_at» = d }) (record { address = x; «created_at» = y; «destroyed_at» = z })
+row-path e f g = λ i. record { address = e i; «created_at» = f i; «destroyed_at» = g i }
+
+-- row i of those that stand in bytes from index at on
+abbrev pub row-in : List ℕ → ℕ → ℕ → Row
+row-in s at i = row-of (location-at s (at + i * 24))
+
+-- the first n rows replaced
+abbrev pub copied : List Row → List ℕ → ℕ → ℕ → List Row
+copied rows s at zero = rows
+copied rows s at (suc n) = set (copied rows s at n) n (row-in s at n)
+
+pub length-copied : (rows : List Row) (s : List ℕ) (at n : ℕ) → length (copied rows s at n) ≡ length rows
+length-copied rows s at zero = refl
+length-copied rows s at (suc n) = length-set (copied rows s at n) n (row-in s at n) ∙ length-copied rows s at n
+
+module _ (s : List ℕ) where
+  length-rows : (n at : ℕ) → length (rows-of (locations-in s n at)) ≡ n
+  unfolding rows-of locations-in
+  length-rows zero at = refl
+  length-rows (suc n) at = ap suc (length-rows n (at + 24))
+
+  -- one row more
+  rows-more : (n at : ℕ) → rows-of (locations-in s (suc n) at) ≡ rows-of (locations-in s n at) ++ (row-in s at n ∷ [])
+  unfolding rows-of locations-in
+  rows-more zero at =
+      let e : at + 0 * 24 ≡ at = omega arith in
+      rw e
+  rows-more (suc n) at =
+      let e : at + 24 + n * 24 ≡ at + suc n * 24 = omega arith in
+      ap (λ (rs : List Row). row-of (location-at s at) ∷ rs) (rows-more n (at + 24) ∙ rw e refl)
+
+  pub copied-is : (rows : List Row) (at n : ℕ) → n ≤ length rows → copied rows s at n ≡ rows-of (locations-in s n at) ++ drop n rows
+  unfolding rows-of locations-in
+  copied-is rows at zero h = refl
+  copied-is rows at (suc n) h =
+      let first : List Row = rows-of (locations-in s n at) in
+      let y : Row = row-in s at n in
+      ap (λ (l : List Row). set l n y) (copied-is rows at n (omega arith) ∙ ap (λ (l : List Row). first ++ l) (drop-cons rows n y (omega arith)))
+      ∙ set-at first _ (drop (suc n) rows) y n (length-rows n at)
+      ∙ sym (append-snoc first y (drop (suc n) rows))
+      ∙ ap (λ (l : List Row). l ++ drop (suc n) rows) (sym (rows-more n at))

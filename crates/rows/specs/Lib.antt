@@ -1,0 +1,2 @@
+-- `Rows` has what the contracts cite. Assumes nothing.
+pub mod Rows

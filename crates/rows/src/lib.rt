@@ -1,0 +1,39 @@
+// Rows as records: where a query stands, from which tick on and until which. They are handed over in a lent slice.
+ghost use mathlib.Core.Path.{_≡_};
+ghost use Prim.Native.Nat.{_+_, _*_, _≤_};
+ghost use mathlib.Core.List.{_++_};
+ghost use lib.ListN.{length, drop};
+ghost use Rattle.definitions.specs.Location.{location-at, locations-in};
+ghost use Rattle.rows.specs.Rows.{row-of, rows-of};
+
+// Three numbers side by side, so that programs in other languages can lend rows.
+#[repr(C)]
+pub struct Row {
+    pub address: u64,
+    pub created_at: u64,
+    pub destroyed_at: u64,
+}
+
+// The row in the 24 bytes from index p on.
+fn row_at(s: &[u8], p: usize) -> Row
+    requires { ⌜ p + 24 ≤ length (now s) ⌝ }
+    ensures { λ r. ⌜ r ≡ row-of (location-at (now (s .entry)) p) ⌝ }
+{
+    Row {
+        address: words::get64(s, p),
+        created_at: words::get64(s, p + 8),
+        destroyed_at: words::get64(s, p + 16),
+    }
+}
+
+// Hands over the n rows that stand in bytes from index at on. Rows after the last are left as they are.
+pub fn put_rows(rows: &mut [Row], from: &[u8], at: usize, n: usize)
+    requires { ⌜ (n ≤ length (now rows)) × (at + n * 24 ≤ length (now from)) ⌝ }
+    ensures { λ _. ⌜ now (rows .exit) ≡ rows-of (locations-in (now (from .entry)) n at) ++ drop n (now (rows .entry)) ⌝ }
+{
+    let mut i = 0;
+    while i < n {
+        rows[i] = row_at(from, at + i * 24);
+        i = i + 1;
+    }
+}
