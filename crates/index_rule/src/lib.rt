@@ -116,6 +116,21 @@ fn node_right(s: &[u8], n: Node, depth: usize, lists: &mut [usize]) -> bool
 // The nodes whose path has one byte more in front are a node's fronts. Each is three numbers on a stack of 256 for each
 // depth: its table, how many entries that has, and a mask of their bytes.
 
+// Adds the chunks and prefixes of a front to count lists; how many there are then.
+fn add_front(lists: &mut [usize], count: usize, n: Node) -> usize
+    requires { ⌜ (count * 2 + 4 ≤ length (now lists)) × (n .chunks + n .«chunk_count» * 24 < 2 ^ 64) × (n .prefixes + n .«prefix_count» * 24 < 2 ^ 64) ⌝ }
+    ensures { λ r. ⌜ (now (lists .exit) ≡ with-two (now (lists .entry)) count (n .chunks) (n .«chunk_count») (n .prefixes) (n .«prefix_count»)) × (r ≡ count-with (count-with count (n .«chunk_count»)) (n .«prefix_count»)) ⌝ }
+{
+    add_two(
+        lists,
+        count,
+        n.chunks,
+        n.chunk_count,
+        n.prefixes,
+        n.prefix_count,
+    )
+}
+
 // Puts a front at an index of the stack.
 fn put_front(fronts: &mut [usize], at: usize, table: usize, children: usize, mask: usize)
     requires { ⌜ at + 3 ≤ length (now fronts) ⌝ }
@@ -179,14 +194,7 @@ fn fronts_by(
                 let mask = masks::mask_of(s, n.table, n.children);
                 put_front(fronts, to + met * 3, n.table, n.children, mask);
                 met += 1;
-                listed = add_two(
-                    lists,
-                    listed,
-                    n.chunks,
-                    n.chunk_count,
-                    n.prefixes,
-                    n.prefix_count,
-                );
+                listed = add_front(lists, listed, n);
             }
         }
     }
@@ -277,14 +285,7 @@ fn leaf_right(s: &[u8], table: usize, other: usize, lists: &mut [usize]) -> Leaf
     if f.children != 0 {
         return no_leaf();
     }
-    let n = add_two(
-        lists,
-        0,
-        f.chunks,
-        f.chunk_count,
-        f.prefixes,
-        f.prefix_count,
-    );
+    let n = add_front(lists, 0, f);
     Leaf {
         found: true,
         right: location_lists::is_union(s, c.prefixes, c.prefix_count, 1, lists, n),

@@ -108,8 +108,8 @@ put-front-requires c κs = omega (arith, c .before .before .before .before .befo
 add-met : tie.Need-add-met Inv-loop μ-loop
 add-met c = omega (arith, c .before .before .before .before .before .before .before .before .before .before .before .before .before .before .before .before .before .before .before .before .pre .0 .is .few, c .before .before .before .before .before .before .before .before .before .before .before .before .before .before .before .before .loop .inv .0 .met-few, c .before .before .before .before .before .before .before .before .before .before .before .before .before .before .before .loop-test .taken)
 
-add-two-requires : tie.Need-add-two-requires Inv-loop μ-loop
-add-two-requires c κs =
+add-front-requires : tie.Need-add-front-requires Inv-loop μ-loop
+add-front-requires c κs =
     let u = c .before .before .before .before .before .before .before .before .before .before .before .before .before .before .before .before .before .before .before .before .before in
     let a = u .args in
     let o = c .before .before .before .before .before .before .before .before .before .before .before .before .before .before .before .before .before .loop in
@@ -131,7 +131,7 @@ loop-again c =
     let m = c .before .before .before .before .before .before .before .before .mask-of in
     let n = c .before .before .before .before .before .before .before .before .before .node-at in
     let q = ap child-of-answer (sym (c .before .before .before .before .before .before .before .before .before .before .before .c .given .1)) ∙ c .before .before .before .before .before .before .before .before .before .before .before .before .before .child-in .ensures ∙ finding-read (now (a .s)) (a .byte) (a .depth * 768) ((a .depth + 1) * 768) (now (a .fronts)) (a .count) (o .i) (o .fronts) (o .met) (o .lists) (o .listed) (o .inv .0) l (omega (arith, u .pre .0 .is .few, l)) in
-    let f = c .before .before .add-two in
+    let f = c .before .before .add-front in
     let g = c .before .before .before .before .before .before .put-front in
     let room = o .inv .0 .kept .same-length in
     let w = finding-some (now (a .s)) (a .byte) (a .depth * 768) ((a .depth + 1) * 768) (now (a .fronts)) (a .count) (o .i) (o .fronts) (o .met) (o .lists) (o .listed) (o .inv .0) l _ q (n .result) (n .ensures) (m .result) (u .pre .0) (m .ensures) (omega (arith, u .pre .0 .is .few, o .inv .0 .met-few, o .inv .0 .few, l, u .pre .3, o .inv .1))
@@ -209,7 +209,7 @@ fronts-by-spec =
     add-put-front
     put-front-requires
     add-met
-    add-two-requires
+    add-front-requires
     loop-less
     loop-again
     enum-told

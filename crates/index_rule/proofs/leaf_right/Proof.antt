@@ -66,8 +66,8 @@ no-leaf-requires-5 c κs = search needs
 returns-5 : tie.Need-returns-5
 returns-5 c = λ e. not-so (sym (c .no-leaf5 .ensures) ∙ e)
 
-add-two-requires : tie.Need-add-two-requires
-add-two-requires c κs =
+add-front-requires : tie.Need-add-front-requires
+add-front-requires c κs =
     let a = c .before .before .before .before .before .before .before .before .before .before .before .before .before .before .before .before .before .before .args in
     let p = c .before .before .before .before .before .before .before .before .before .before .before .before .before .before .before .before .before .before .pre in
     let m = c .before .before .before .before .before .before .node-at in
@@ -81,7 +81,7 @@ is-union-requires c κs =
     let p = c .before .before .before .before .before .before .before .before .before .before .before .before .before .before .before .before .before .before .before .before .before .before .pre in
     let m = c .before .before .before .before .before .before .before .before .before .before .node-at in
     let n = c .before .before .before .before .before .before .before .node-at2 in
-    let d = c .before .before .before .add-two in
+    let d = c .before .before .before .add-front in
     (leaf-prefixes (now (a .s)) (a .table) (a .other) _ _ (ap entry-of-answer (sym (c .before .before .before .before .before .before .before .before .before .before .before .before .before .before .before .before .before .slot .given .1)) ∙ c .before .before .before .before .before .before .before .before .before .before .before .before .before .before .before .before .before .before .before .slot-in .ensures) (ap entry-of-answer (sym (c .before .before .before .before .before .before .before .before .before .before .before .before .before .front .given .1)) ∙ c .before .before .before .before .before .before .before .before .before .before .before .before .before .before .before .slot-in2 .ensures) (m .result) (n .result) (m .ensures) (n .ensures) (p .0), rw (d .ensures .0, d .ensures .1) (leaf-valid (now (a .s)) (a .table) (a .other) _ _ (ap entry-of-answer (sym (c .before .before .before .before .before .before .before .before .before .before .before .before .before .before .before .before .before .slot .given .1)) ∙ c .before .before .before .before .before .before .before .before .before .before .before .before .before .before .before .before .before .before .before .slot-in .ensures) (ap entry-of-answer (sym (c .before .before .before .before .before .before .before .before .before .before .before .before .before .front .given .1)) ∙ c .before .before .before .before .before .before .before .before .before .before .before .before .before .before .before .slot-in2 .ensures) (m .result) (n .result) (m .ensures) (n .ensures) (now (a .lists)) (omega (arith, p .2)) (p .1)))
 
 same-length : tie.Need-same-length
@@ -93,7 +93,7 @@ returns-6 c =
     let p = c .before .before .before .before .before .before .before .before .before .before .before .before .before .before .before .before .before .before .before .before .before .before .before .before .before .pre in
     let m = c .before .before .before .before .before .before .before .before .before .before .before .before .before .node-at in
     let n = c .before .before .before .before .before .before .before .before .before .before .node-at2 in
-    let d = c .before .before .before .before .before .before .add-two in
+    let d = c .before .before .before .before .before .before .add-front in
     let u = c .before .before .is-union in
     λ _. leaf-says (now (a .s)) (a .table) (a .other) _ _ (ap entry-of-answer (sym (c .before .before .before .before .before .before .before .before .before .before .before .before .before .before .before .before .before .before .before .before .slot .given .1)) ∙ c .before .before .before .before .before .before .before .before .before .before .before .before .before .before .before .before .before .before .before .before .before .before .slot-in .ensures) (ap entry-of-answer (sym (c .before .before .before .before .before .before .before .before .before .before .before .before .before .before .before .before .front .given .1)) ∙ c .before .before .before .before .before .before .before .before .before .before .before .before .before .before .before .before .before .before .slot-in2 .ensures) (m .result) (n .result) (m .ensures) (n .ensures) (now (a .lists)) (omega (arith, p .2)) (c .before .before .before .before .before .before .before .before .before .before .before .before .before .before .if1 .left) (c .before .before .before .before .before .before .before .before .before .before .before .before .is-leaf .ensures (not-false _ (c .before .before .before .before .before .before .before .before .before .before .before .if2 .left))) (c .before .before .before .before .before .before .before .before .if3 .left) (u .result) (rw (d .ensures .0, d .ensures .1) at (u .ensures .0))
 
@@ -120,7 +120,7 @@ leaf-right-spec =
     node-at-requires-2
     no-leaf-requires-5
     returns-5
-    add-two-requires
+    add-front-requires
     is-union-requires
     same-length
     returns-6)
