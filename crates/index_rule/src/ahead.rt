@@ -3,7 +3,7 @@
 use image_walk::Child;
 ghost use Prim.Native.Nat.{_*_, _≤_};
 ghost use lib.ListN.{length};
-ghost use Rattle.index_rule.specs.Fronts.{HasFronts};
+ghost use Rattle.index_rule.specs.Fronts.{HasFronts, KeptBelow};
 
 // How many parts of 64 bytes of n bytes are among room bytes.
 fn parts_within(n: usize, room: usize) -> usize
@@ -52,7 +52,7 @@ fn read_ahead(s: &[u8], byte: u8, fronts: &[usize], count: usize, at: usize) -> 
     sum
 }
 
-// Reads ahead for a child of the root; depth is its parent's. The lists are empty yet, and keep the number.
+// Reads ahead for a child of the root; depth is its parent's. The number is put behind the lists.
 pub fn look_ahead(
     s: &[u8],
     byte: u8,
@@ -63,6 +63,7 @@ pub fn look_ahead(
     lists: &mut [usize],
 )
     requires { ⌜ HasFronts (now s) (now fronts) (depth * 768) count × (13056 ≤ length (now fronts)) × (1024 ≤ length (now lists)) ⌝ }
+    ensures { λ _. ⌜ KeptBelow 1023 (now (lists .entry)) (now (lists .exit)) ⌝ }
 {
     if depth != 0 {
         return;
