@@ -59,6 +59,7 @@ fn loaded_number(r: Loaded) -> u64
     }
 }
 
+// Opens an index of a capacity in the lent memory.
 #[no_mangle]
 pub extern "C" fn helmapricot_open(mem: &mut [u8], nodes: u64, entries: u64) -> u64
     ensures answer { λ r. ⌜ r ≡ open-memory (now (mem .entry)) (record { nodes = nodes; entries = entries }) .refusal ⌝ }
@@ -67,6 +68,7 @@ pub extern "C" fn helmapricot_open(mem: &mut [u8], nodes: u64, entries: u64) -> 
     opened_number(index_memory::open(mem, nodes, entries))
 }
 
+// Records a block.
 #[no_mangle]
 pub extern "C" fn helmapricot_record(
     mem: &mut [u8],
@@ -83,6 +85,7 @@ pub extern "C" fn helmapricot_record(
     recorded_number(string_index::record(mem, kind, l, data))
 }
 
+// Finishes an index, so that it can be searched and saved.
 #[no_mangle]
 pub extern "C" fn helmapricot_finish(mem: &mut [u8]) -> u64
     ensures answer { λ r. ⌜ r ≡ finish-memory (now (mem .entry)) .refusal ⌝ }
@@ -143,6 +146,7 @@ pub extern "C" fn helmapricot_save(mem: &[u8], out: &mut [u8], size: &mut [u64; 
     }
 }
 
+// Loads an image in place of what the index holds.
 #[no_mangle]
 pub extern "C" fn helmapricot_load(mem: &mut [u8], img: &[u8]) -> u64
     ensures answer { λ r. ⌜ r ≡ load-memory (now (mem .entry)) (now (img .entry)) .refusal ⌝ }

@@ -13,6 +13,8 @@ use Rattle.definitions.specs.Calls.{Capacity, out-of-range, needed}
 use Rattle.definitions.proofs.Views.{Lt, lt}
 use Rattle.index_memory.specs.Layout.{header-bytes}
 use Rattle.index_memory.specs.Record.{Done, open-memory, unless-refused, fresh-header}
+use Rattle.index_memory.specs.Answers.{opened-as}
+use Rattle.index_memory.specs.declared.Opened.the-variants as O
 use Rattle.index_memory.proofs.HeaderFacts.{Range, range}
 
 -- the memory holds the capacity
@@ -49,19 +51,19 @@ module _ (m : List ℕ) (c : Capacity) where
   abbrev by-test : Bool → Done
   by-test o = unless-refused (cond o (some capacity-refused) none) m fresh-memory
 
-  pub open-refused : (Opens m c → ⊥) → (16 ≡ open-memory m c .refusal) × (m ≡ open-memory m c .memory)
+  pub open-refused : (Opens m c → ⊥) → (O.Refused 16 ≡ opened-as (open-memory m c .refusal)) × (m ≡ open-memory m c .memory)
   unfolding open-memory
   open-refused f = go refuses view
     where
-      go : (o : Bool) → View o → (16 ≡ by-test o .refusal) × (m ≡ by-test o .memory)
+      go : (o : Bool) → View o → (O.Refused 16 ≡ opened-as (by-test o .refusal)) × (m ≡ by-test o .memory)
       go true v = (refl, refl)
       go false v = absurd (f v)
 
-  pub open-taken : Opens m c → (0 ≡ open-memory m c .refusal) × (fresh-memory ≡ open-memory m c .memory)
+  pub open-taken : Opens m c → (O.Done ≡ opened-as (open-memory m c .refusal)) × (fresh-memory ≡ open-memory m c .memory)
   unfolding open-memory
   open-taken f = go refuses view
     where
-      go : (o : Bool) → View o → (0 ≡ by-test o .refusal) × (fresh-memory ≡ by-test o .memory)
+      go : (o : Bool) → View o → (O.Done ≡ opened-as (by-test o .refusal)) × (fresh-memory ≡ by-test o .memory)
       go true v = absurd (v f)
       go false v = (refl, refl)
 

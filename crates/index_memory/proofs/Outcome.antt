@@ -16,7 +16,8 @@ use Rattle.index_memory.specs.Layout.{Header, header-at, header-bytes, l
 use Rattle.index_memory.specs.Index.{opened, read-index}
 use Rattle.index_memory.specs.Record.{refusal-of, unless-refused, log-checks, appended, record-open}
 use Rattle.index_memory.specs.Cut.{piece-count, block-nodes}
-use Rattle.index_memory.specs.Answers.{block-checks, grown, Fitting}
+use Rattle.index_memory.specs.Answers.{block-checks, grown, Fitting, recorded-as}
+use Rattle.index_memory.specs.declared.Recorded.the-variants as R
 use Rattle.index_memory.proofs.Charges.{charge-count, pieces-length, entry-max}
 use Rattle.index_memory.proofs.Holding.{OpenIs, open-is}
 use Rattle.index_memory.proofs.Opening.{Opens}
@@ -42,6 +43,10 @@ number-some cut-short e = omega arith
 number-some unknown-kind e = omega arith
 number-some image-broken e = omega arith
 number-some no-form e = omega arith
+
+-- a number that is not 0 is answered as a refusal
+pub refused-as : (n : ℕ) → (n ≡ 0 → ⊥) → R.Refused n ≡ recorded-as n
+refused-as n h = rw (ne-eqb n 0 h) refl
 
 -- a refusal leaves the memory as it was
 refused-memory : (o : Option Cause) (old new : List ℕ) → (refusal-of o ≡ 0 → ⊥) → (refusal-of o ≡ unless-refused o old new .refusal) × (old ≡ unless-refused o old new .memory)

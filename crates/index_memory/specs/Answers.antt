@@ -5,7 +5,7 @@ use mathlib.Core.Bool.{cond}
 use mathlib.Core.List.{List, [], _∷_}
 use mathlib.Core.Option.{Option, none, some}
 use lib.ListN.{length}
-use lib.Dec.{ltb, leb}
+use lib.Dec.{ltb, leb, eqb}
 use Rattle.words.specs.Words.{le64}
 use Rattle.definitions.specs.Location.{Location}
 use Rattle.definitions.specs.Blocks.{Block, entry-charge}
@@ -41,6 +41,14 @@ tally-in h = record { nodes = h .nodes; entries = h .entries; phase = h .phase }
 -- a header of the same capacity with this tally and payload
 abbrev pub with-tally : C.Header → Tally → ℕ → C.Header
 with-tally h t payload = record { «node_room» = h .«node_room»; «entry_room» = h .«entry_room»; phase = t .phase; nodes = t .nodes; entries = t .entries; payload = payload }
+
+-- what opening answers for the number of its refusal, which is 0 where it is not refused
+abbrev pub opened-as : ℕ → Opened
+opened-as n = cond (eqb n 0) O.Done (O.Refused n)
+
+-- what recording answers for the number of its refusal
+abbrev pub recorded-as : ℕ → Recorded
+recorded-as n = cond (eqb n 0) R.Taken (R.Refused n)
 
 -- the number of a refusal, 0 where the call was not refused
 abbrev pub opened-number : Opened → ℕ

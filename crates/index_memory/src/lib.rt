@@ -18,7 +18,7 @@ ghost use Rattle.index_memory.specs.Layout.{header-at, header-bytes, pay
 ghost use Rattle.index_memory.specs.Index.{log-right, read-index, opened};
 ghost use Rattle.index_memory.specs.Record.{open-memory, record-open, refusal-of};
 ghost use Rattle.index_memory.specs.Cut.{part, piece-count, block-nodes};
-ghost use Rattle.index_memory.specs.Answers.{header-of, heading-of, heading-at, Front, Fitting, opened-number, recorded-number, block-checks, grown, tally-in, with-tally};
+ghost use Rattle.index_memory.specs.Answers.{header-of, heading-of, heading-at, Front, Fitting, opened-as, recorded-as, block-checks, grown, tally-in, with-tally};
 
 pub const HEADER_SIZE: usize = 64;
 
@@ -199,7 +199,7 @@ pub fn closed(h: Header, nodes: usize, entries: usize, payload: usize) -> Header
 
 // Opens an index of a capacity in the lent memory: only the header is written.
 pub fn open(mem: &mut [u8], nodes: u64, entries: u64) -> Opened
-    ensures answer { λ r. ⌜ opened-number r ≡ open-memory (now (mem .entry)) (record { nodes = nodes; entries = entries }) .refusal ⌝ }
+    ensures answer { λ r. ⌜ r ≡ opened-as (open-memory (now (mem .entry)) (record { nodes = nodes; entries = entries }) .refusal) ⌝ }
     ensures memory { λ _. ⌜ now (mem .exit) ≡ open-memory (now (mem .entry)) (record { nodes = nodes; entries = entries }) .memory ⌝ }
 {
     if !is_capacity(nodes) {
@@ -414,7 +414,7 @@ pub fn record_open(
     data: &[u8],
 ) -> Recorded
     requires { ⌜ (header-at (now mem) ≡ header-of h) × (read-index (now mem) ≡ opened (header-of h .capacity) (log-in (now mem) (h .payload) 64)) ⌝ }
-    ensures answer { λ r. ⌜ recorded-number r ≡ record-open (now (mem .entry)) (header-of h .capacity) (log-in (now (mem .entry)) (h .payload) 64) kind (record { bytes = now («data» .entry); at = plain l }) .refusal ⌝ }
+    ensures answer { λ r. ⌜ r ≡ recorded-as (record-open (now (mem .entry)) (header-of h .capacity) (log-in (now (mem .entry)) (h .payload) 64) kind (record { bytes = now («data» .entry); at = plain l }) .refusal) ⌝ }
     ensures memory { λ _. ⌜ now (mem .exit) ≡ record-open (now (mem .entry)) (header-of h .capacity) (log-in (now (mem .entry)) (h .payload) 64) kind (record { bytes = now («data» .entry); at = plain l }) .memory ⌝ }
 {
     if (definitions::LAST_KIND as u64) < kind {

@@ -1,12 +1,12 @@
 -- What each way out of save and load says. Assumes nothing.
 use Prim.Native.Nat.{ℕ, _+_, _-_, _^_, _≤_, _<_}
 use native.Mathlib.Omega.{arith}
-use mathlib.Core.Path.{_≡_, sym, ap, _∙_, subst}
+use mathlib.Core.Path.{_≡_, refl, sym, ap, _∙_, subst}
 use mathlib.Core.Logic.{inr}
 use mathlib.Core.List.{List}
 use lib.ListN.{length, take, drop}
 use lib.Seq.{sets, length-sets, take-length}
-use borrow.Author.Tests.{lt-ltb, le-ltb}
+use borrow.Author.Tests.{lt-ltb, le-ltb, ne-eqb}
 use Rattle.words.proofs.Parts.{getD-sets-out}
 use Rattle.definitions.specs.Causes.{save-buffer-too-short}
 use Rattle.definitions.specs.Calls.{Capacity, needed}
@@ -31,6 +31,8 @@ use Rattle.finished_memory.specs.Room.{Room}
 use Rattle.finished_memory.proofs.Standing.{closed-is}
 use Rattle.finished_memory.proofs.Holds.{part-bytes, part-small}
 use Rattle.saving.specs.Saving.{Saving, not-saved, save-image, load-right}
+use Rattle.saving.specs.Answers.{loaded-as}
+use Rattle.saving.specs.declared.Loaded.the-variants as L
 
 -- ── an image that passes the test ──
 
@@ -55,6 +57,10 @@ module _ (s x buffer : List ℕ) (is : s ≡ x) where
       rw (le-ltb (length buffer) (length x) (subst (λ (y : List ℕ). length y ≤ length buffer) is h)) (λ i. record { refusal = 0; size = n i; buffer = b i })
 
 -- ── load ──
+
+-- a number that is not 0 is answered as a refusal
+pub refused-as : (n : ℕ) → (n ≡ 0 → ⊥) → L.Refused n ≡ loaded-as n
+refused-as n h = rw (ne-eqb n 0 h) refl
 
 -- what the check says decides
 pub by-check : (c : Capacity) (m s : List ℕ) (x : Layout) → x ≡ check-image s → load-right x c m s ≡ load-right (check-image s) c m s
@@ -91,17 +97,20 @@ module _ (c : Capacity) (m s : List ℕ) (n e : ℕ) where
     pub room : 64 + length s ≤ length m
     room = omega (arith, within, r .held)
 
-    pub closable : (x : List ℕ) → length x ≡ length m → Closable x head
-    closable x q = record { nodes = r .few-nodes; entries = r .few-entries; payload = within; held = omega (arith, r .held) }
+    able : (x : List ℕ) → length x ≡ length m → Closable x head
+    able x q = record { nodes = r .few-nodes; entries = r .few-entries; payload = within; held = omega (arith, r .held) }
 
-    pub loaded : (x after : List ℕ) → x ≡ sets m 64 (take (length s) (drop 0 s)) → after ≡ closed x head → _≡_ {A = Done} (record { refusal = 0; memory = after }) (load-right (right n e) c m s)
-    loaded x after p q =
+    pub closable : (made : Header) → made ≡ head → (x : List ℕ) → length x ≡ length m → Closable x made
+    closable made v x q = subst (Closable x) (sym v) (able x q)
+
+    pub loaded : (made : Header) → made ≡ head → (x after : List ℕ) → x ≡ sets m 64 (take (length s) (drop 0 s)) → after ≡ closed x made → _≡_ {A = Done} (record { refusal = 0; memory = after }) (load-right (right n e) c m s)
+    loaded made is-head x after p q =
         let u : List ℕ = sets m 64 s in
         let x-is : x ≡ u = p ∙ ap (sets m 64) (take-length s) in
         let stands : Holds u 64 (image (trie-in s)) = subst (Holds u 64) (sym (accepted s a l n e t .0)) (holds-sets s m 64 room) in
         let w : closed u (finished-header c (trie-in s)) ≡ finished-memory m c (trie-in s) =
         closed-is m u c (trie-in s) (length-sets m 64 s) stands (omega (arith, within, size)) (r .held) (λ j b. getD-sets-out s m 64 j (inr (omega (arith, within)))) in
-        let v : after ≡ finished-memory m c (trie-in s) = q ∙ ap (λ (y : List ℕ). closed y head) x-is ∙ ap (closed u) head-is ∙ w in
+        let v : after ≡ finished-memory m c (trie-in s) = q ∙ ap (closed x) is-head ∙ ap (λ (y : List ℕ). closed y head) x-is ∙ ap (closed u) head-is ∙ w in
         ap done v ∙ both-within h k
       where
         done : List ℕ → Done

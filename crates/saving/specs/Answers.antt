@@ -1,16 +1,19 @@
 -- What the answers of save and load mean. Assumes nothing.
 use Prim.Native.Nat.{ℕ}
-use mathlib.Core.List.{List}
+use mathlib.Core.Bool.{cond}
+use lib.Dec.{eqb}
 use Rattle.saving.specs.declared.Saved.{Saved}
 use Rattle.saving.specs.declared.Saved.the-variants as S
 use Rattle.saving.specs.declared.Loaded.{Loaded}
 use Rattle.saving.specs.declared.Loaded.the-variants as L
-use Rattle.saving.specs.Saving.{Saving}
 
--- a save's answer with the buffer that it leaves
-abbrev pub saved-by : Saved → List ℕ → Saving
-saved-by (S.Bytes n) buffer = record { refusal = 0; size = n; buffer = buffer }
-saved-by (S.Refused n) buffer = record { refusal = n; size = 0; buffer = buffer }
+-- what a save answers: how many bytes the image has, or the number of the refusal, which is 0 where there is none
+abbrev pub saved-as : ℕ → ℕ → Saved
+saved-as refusal size = cond (eqb refusal 0) (S.Bytes size) (S.Refused refusal)
+
+-- what a load answers for the number of its refusal
+abbrev pub loaded-as : ℕ → Loaded
+loaded-as n = cond (eqb n 0) L.Done (L.Refused n)
 
 -- the number of a refusal, 0 where the call was not refused
 abbrev pub loaded-number : Loaded → ℕ

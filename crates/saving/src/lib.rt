@@ -13,7 +13,7 @@ ghost use Rattle.index_memory.specs.Answers.{header-of};
 ghost use Rattle.inspecting.specs.Held.{ImageIn};
 ghost use Rattle.finished_memory.specs.Room.{Room};
 ghost use Rattle.saving.specs.Saving.{save-image, load-right};
-ghost use Rattle.saving.specs.Answers.{saved-by, loaded-number};
+ghost use Rattle.saving.specs.Answers.{saved-as, loaded-as};
 
 // How many bytes of the save buffer are the image, or a refusal.
 pub enum Saved {
@@ -29,7 +29,8 @@ pub enum Loaded {
 // Saves the image of a finished index: h is the header of its memory.
 pub fn save_finished(mem: &[u8], h: Header, out: &mut [u8]) -> Saved
     requires { ⌜ ImageIn (now mem) (header-of h) ⌝ }
-    ensures { λ r. ⌜ saved-by r (now (out .exit)) ≡ save-image (image (trie-in (image-part (now (mem .entry)) (header-of h)))) (now (out .entry)) ⌝ }
+    ensures answer { λ r. ⌜ r ≡ saved-as (save-image (image (trie-in (image-part (now (mem .entry)) (header-of h)))) (now (out .entry)) .refusal) (save-image (image (trie-in (image-part (now (mem .entry)) (header-of h)))) (now (out .entry)) .size) ⌝ }
+    ensures buffer { λ _. ⌜ now (out .exit) ≡ save-image (image (trie-in (image-part (now (mem .entry)) (header-of h)))) (now (out .entry)) .buffer ⌝ }
 {
     let s = &mem[HEADER_SIZE..HEADER_SIZE + h.payload];
     let n = s.len();
@@ -43,7 +44,7 @@ pub fn save_finished(mem: &[u8], h: Header, out: &mut [u8]) -> Saved
 // Loads an image that is right, with this tally, if the capacity in h has room for it.
 fn load_right(mem: &mut [u8], h: Header, t: Tally, s: &[u8]) -> Loaded
     requires { ⌜ Room (now mem) (header-of h .capacity) × (check-image (now s) ≡ right (t .nodes) (t .entries)) ⌝ }
-    ensures answer { λ r. ⌜ loaded-number r ≡ load-right (right (t .nodes) (t .entries)) (header-of h .capacity) (now (mem .entry)) (now (s .entry)) .refusal ⌝ }
+    ensures answer { λ r. ⌜ r ≡ loaded-as (load-right (right (t .nodes) (t .entries)) (header-of h .capacity) (now (mem .entry)) (now (s .entry)) .refusal) ⌝ }
     ensures memory { λ _. ⌜ now (mem .exit) ≡ load-right (right (t .nodes) (t .entries)) (header-of h .capacity) (now (mem .entry)) (now (s .entry)) .memory ⌝ }
 {
     if h.node_room < t.nodes {
@@ -54,24 +55,15 @@ fn load_right(mem: &mut [u8], h: Header, t: Tally, s: &[u8]) -> Loaded
     }
     let payload = s.len();
     words::copy(s, 0, mem, HEADER_SIZE, payload);
-    finished_memory::put_finished(
-        mem,
-        Header {
-            node_room: h.node_room,
-            entry_room: h.entry_room,
-            phase: 1,
-            nodes: t.nodes,
-            entries: t.entries,
-            payload,
-        },
-    );
+    let closed = index_memory::closed(h, t.nodes, t.entries, payload);
+    finished_memory::put_finished(mem, closed);
     Loaded::Done
 }
 
 // Loads an image into a memory that has room for the capacity in h: nothing of what it held is read.
 pub fn load_into(mem: &mut [u8], h: Header, s: &[u8]) -> Loaded
     requires { ⌜ Room (now mem) (header-of h .capacity) ⌝ }
-    ensures answer { λ r. ⌜ loaded-number r ≡ load-right (check-image (now (s .entry))) (header-of h .capacity) (now (mem .entry)) (now (s .entry)) .refusal ⌝ }
+    ensures answer { λ r. ⌜ r ≡ loaded-as (load-right (check-image (now (s .entry))) (header-of h .capacity) (now (mem .entry)) (now (s .entry)) .refusal) ⌝ }
     ensures memory { λ _. ⌜ now (mem .exit) ≡ load-right (check-image (now (s .entry))) (header-of h .capacity) (now (mem .entry)) (now (s .entry)) .memory ⌝ }
 {
     match index_rule::check(s) {

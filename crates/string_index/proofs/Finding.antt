@@ -1,7 +1,7 @@
 -- What a search finds: by the nodes and by the pieces, as its callers see it, and as numbers in a row buffer. Assumes nothing.
 use Prim.Native.Nat.{ℕ, _/_, _≤_, _<_}
 use native.Mathlib.Omega.{arith}
-use mathlib.Core.Path.{_≡_, refl, sym, _∙_, subst}
+use mathlib.Core.Path.{_≡_, refl, sym, ap, _∙_, subst}
 use mathlib.Core.Bool.{Bool, true, false, cond}
 use mathlib.Core.List.{List, []}
 use mathlib.Core.Option.{Option, none, some}
@@ -119,3 +119,9 @@ refused-by (finished c t) q scratch room h = refused-pieces (first-cause (room-c
 pub refused-none : (m q : List ℕ) (scratch room : ℕ) → (find-memory m q scratch room .refusal ≡ 0 → ⊥) → find-memory m q scratch room .rows ≡ []
 unfolding find-memory
 refused-none m q scratch room h = refused-by (read-index m) q scratch room h
+
+-- a search that is refused counts none
+pub none-counted : (m q : List ℕ) (scratch : ℕ) (buffer : List ℕ) → (search-memory m q scratch buffer .refusal ≡ 0 → ⊥) → search-memory m q scratch buffer .count ≡ 0
+none-counted m q scratch buffer h =
+    let w = search-is-find m q scratch buffer in
+    ap (λ (f : Found). f .count) w ∙ ap length (refused-none m q scratch (length buffer / 3) (λ e. h (ap (λ (f : Found). f .refusal) w ∙ e)))

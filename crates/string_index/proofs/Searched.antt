@@ -1,23 +1,19 @@
 -- What a search hands over is what `search-memory` says: from what was found, and the rows put over the first ones. Assumes nothing.
 use Prim.Native.Nat.{ℕ, _/_}
 use native.Mathlib.Omega.{arith}
-use mathlib.Core.Bool.{Bool, true, false, cond}
 use mathlib.Core.Path.{_≡_, sym, ap, _∙_}
 use mathlib.Core.List.{List, _++_}
-use lib.Dec.{eqb}
 use lib.ListN.{length, drop}
 use lib.Seq.{sets}
 use Rattle.definitions.specs.Location.{Location, locations-in}
-use Rattle.definitions.proofs.Views.{Eq, eq}
 use Rattle.row_buffer.specs.Numbers.{row-numbers}
 use Rattle.rows.specs.declared.Row.{Row}
 use Rattle.rows.specs.Rows.{rows-of, numbers-of}
 use Rattle.rows.proofs.Numbers.{length-numbers, numbers-put}
-use Rattle.string_index.specs.declared.Answer.the-variants.{Rows, Refused}
 use Rattle.string_index.specs.Find.{Finds, find-memory}
-use Rattle.string_index.specs.Finish.{search-memory}
-use Rattle.string_index.specs.Answers.{found-by}
-use Rattle.string_index.proofs.Finding.{handed-over, search-is-find, refused-none}
+use Rattle.string_index.specs.Finish.{Found, search-memory}
+use Rattle.string_index.specs.Answers.{answer-as}
+use Rattle.string_index.proofs.Finding.{handed-over, search-is-find}
 
 -- the rows after a search: those that stand in bytes s from index at on over the first ones
 abbrev pub rows-after : List ℕ → ℕ → ℕ → List Row → List Row
@@ -42,14 +38,9 @@ module _ {m q s : List ℕ} {scratch : ℕ} (rows : List Row) {refusal at count 
       ∙ ap (λ (room : ℕ). handed-over (find-memory m q scratch room) (numbers-of rows)) e
       ∙ (λ i. record { refusal = sym (found .refused) i; count = sym (found .counted) i; buffer = sym handed i })
 
-  -- where it is refused there are no rows
-  none : (refusal ≡ 0 → ⊥) → count ≡ 0
-  none h = found .counted ∙ ap length (refused-none m q scratch (length rows) (λ e. h (found .refused ∙ e)))
+  pub answered : answer-as refusal count ≡ answer-as (search-memory m q scratch (numbers-of rows) .refusal) (search-memory m q scratch (numbers-of rows) .count)
+  answered = ap (λ (f : Found). answer-as (f .refusal) (f .count)) (sym told)
 
-  by-test : (o : Bool) → Eq o refusal 0 → found-by (cond o (Rows count) (Refused refusal)) buffer ≡ record { refusal = refusal; count = count; buffer = buffer }
-  by-test true e = λ i. record { refusal = sym e i; count = count; buffer = buffer }
-  by-test false h = λ i. record { refusal = refusal; count = sym (none h) i; buffer = buffer }
-
-  pub searched : found-by (cond (eqb refusal 0) (Rows count) (Refused refusal)) (numbers-of (rows-after s count at rows)) ≡ search-memory m q scratch (numbers-of rows)
+  pub left : numbers-of (rows-after s count at rows) ≡ search-memory m q scratch (numbers-of rows) .buffer
   unfolding buffer
-  searched = by-test (eqb refusal 0) (eq refusal 0) ∙ sym told
+  left = ap (λ (f : Found). f .buffer) (sym told)

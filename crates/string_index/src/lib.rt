@@ -17,19 +17,19 @@ ghost use Rattle.trie.specs.Trie.{trie-pieces};
 ghost use Rattle.image.specs.Held.{trie-in};
 ghost use Rattle.index_memory.specs.Record.{record-memory};
 ghost use Rattle.index_memory.specs.Index.{image-part};
-ghost use Rattle.index_memory.specs.Answers.{header-of, recorded-number};
+ghost use Rattle.index_memory.specs.Answers.{header-of, recorded-as};
 ghost use Rattle.inspecting.specs.Held.{ImageIn};
 ghost use Rattle.rows.specs.Rows.{numbers-of};
 ghost use Rattle.saving.specs.Saving.{save-memory, load-memory};
-ghost use Rattle.saving.specs.Answers.{saved-by, loaded-number};
+ghost use Rattle.saving.specs.Answers.{saved-as, loaded-as};
 ghost use Rattle.searching.specs.Search.{Answers};
 ghost use Rattle.string_index.specs.Find.{find-pieces, Finds};
 ghost use Rattle.string_index.specs.Finish.{finish-memory, search-memory};
-ghost use Rattle.string_index.specs.Answers.{finished-number, answer-of, found-by};
+ghost use Rattle.string_index.specs.Answers.{finished-as, answer-as};
 
 // Records a block: the bytes of one of kind Memory go into an open index.
 pub fn record(mem: &mut [u8], kind: u64, l: SpacetimeLocation, data: &[u8]) -> Recorded
-    ensures answer { λ r. ⌜ recorded-number r ≡ record-memory (now (mem .entry)) kind (record { bytes = now («data» .entry); at = plain l }) .refusal ⌝ }
+    ensures answer { λ r. ⌜ r ≡ recorded-as (record-memory (now (mem .entry)) kind (record { bytes = now («data» .entry); at = plain l }) .refusal) ⌝ }
     ensures memory { λ _. ⌜ now (mem .exit) ≡ record-memory (now (mem .entry)) kind (record { bytes = now («data» .entry); at = plain l }) .memory ⌝ }
 {
     match inspecting::inspect(mem) {
@@ -47,7 +47,7 @@ pub enum Finished {
 
 // Finishes an index: its log becomes an image. Finishing again changes nothing.
 pub fn finish(mem: &mut [u8]) -> Finished
-    ensures answer { λ r. ⌜ finished-number r ≡ finish-memory (now (mem .entry)) .refusal ⌝ }
+    ensures answer { λ r. ⌜ r ≡ finished-as (finish-memory (now (mem .entry)) .refusal) ⌝ }
     ensures memory { λ _. ⌜ now (mem .exit) ≡ finish-memory (now (mem .entry)) .memory ⌝ }
 {
     match inspecting::inspect(mem) {
@@ -90,7 +90,7 @@ pub fn find(mem: &[u8], q: &[u8], scratch: &mut [u8], room: usize) -> Finding
 
 // What a search answers for what was found.
 fn answer_of(f: Finding) -> Answer
-    ensures { λ r. ⌜ r ≡ answer-of f ⌝ }
+    ensures { λ r. ⌜ r ≡ answer-as (f .refusal) (f .count) ⌝ }
 {
     if f.refusal == 0 {
         Answer::Rows(f.count)
@@ -101,7 +101,8 @@ fn answer_of(f: Finding) -> Answer
 
 // The rows of a query, handed over in the slice that is lent for them; rows after the last stay.
 pub fn search(mem: &[u8], q: &[u8], scratch: &mut [u8], rows: &mut [Row]) -> Answer
-    ensures { λ r. ⌜ found-by r (numbers-of (now (rows .exit))) ≡ search-memory (now (mem .entry)) (now (q .entry)) (length (now (scratch .entry))) (numbers-of (now (rows .entry))) ⌝ }
+    ensures answer { λ r. ⌜ r ≡ answer-as (search-memory (now (mem .entry)) (now (q .entry)) (length (now (scratch .entry))) (numbers-of (now (rows .entry))) .refusal) (search-memory (now (mem .entry)) (now (q .entry)) (length (now (scratch .entry))) (numbers-of (now (rows .entry))) .count) ⌝ }
+    ensures rows { λ _. ⌜ numbers-of (now (rows .exit)) ≡ search-memory (now (mem .entry)) (now (q .entry)) (length (now (scratch .entry))) (numbers-of (now (rows .entry))) .buffer ⌝ }
 {
     let f = find(mem, q, scratch, rows.len());
     rows::put_rows(rows, scratch, f.at, f.count);
@@ -110,7 +111,8 @@ pub fn search(mem: &[u8], q: &[u8], scratch: &mut [u8], rows: &mut [Row]) -> Ans
 
 // Saves the image of a finished index into the buffer.
 pub fn save(mem: &[u8], out: &mut [u8]) -> Saved
-    ensures { λ r. ⌜ saved-by r (now (out .exit)) ≡ save-memory (now (mem .entry)) (now (out .entry)) ⌝ }
+    ensures answer { λ r. ⌜ r ≡ saved-as (save-memory (now (mem .entry)) (now (out .entry)) .refusal) (save-memory (now (mem .entry)) (now (out .entry)) .size) ⌝ }
+    ensures buffer { λ _. ⌜ now (out .exit) ≡ save-memory (now (mem .entry)) (now (out .entry)) .buffer ⌝ }
 {
     match inspecting::inspect(mem) {
         Held::Broken => Saved::Refused(definitions::INDEX_RULE_BROKEN),
@@ -121,7 +123,7 @@ pub fn save(mem: &[u8], out: &mut [u8]) -> Saved
 
 // Loads an image in place of what the index holds; its capacity stays.
 pub fn load(mem: &mut [u8], image: &[u8]) -> Loaded
-    ensures answer { λ r. ⌜ loaded-number r ≡ load-memory (now (mem .entry)) (now (image .entry)) .refusal ⌝ }
+    ensures answer { λ r. ⌜ r ≡ loaded-as (load-memory (now (mem .entry)) (now (image .entry)) .refusal) ⌝ }
     ensures memory { λ _. ⌜ now (mem .exit) ≡ load-memory (now (mem .entry)) (now (image .entry)) .memory ⌝ }
 {
     match inspecting::inspect(mem) {

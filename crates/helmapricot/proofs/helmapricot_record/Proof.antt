@@ -4,6 +4,8 @@ use borrow.Author.Needs.{needs}
 use denote.Ref.{now}
 use Rattle.definitions.specs.Location.{Location}
 use Rattle.index_memory.specs.Record.{Done, record-memory}
+use Rattle.index_memory.specs.Answers.{recorded-number}
+use Rattle.helmapricot.proofs.Numbers.{recorded-back}
 use Rattle.helmapricot.proofs.helmapricot_record.Statement.{statement}
 use Rattle.helmapricot.proofs.helmapricot_record.Tie as tie
 
@@ -24,7 +26,7 @@ returns c =
     let a = c .before .before .before .before .before .before .before .before .args in
     let r = c .before .before .before .«record» in
     let e = ap (λ (l : Location). record-memory (now (a .mem)) (a .kind) (record { bytes = now (a .«data»); at = l })) (c .before .before .before .before .before .new .ensures) in
-    (c .recorded-number .ensures ∙ r .ensures .0 ∙ ap (λ (d : Done). d .refusal) e, r .ensures .1 ∙ ap (λ (d : Done). d .memory) e)
+    (c .recorded-number .ensures ∙ ap recorded-number (r .ensures .0) ∙ recorded-back _ ∙ ap (λ (d : Done). d .refusal) e, r .ensures .1 ∙ ap (λ (d : Done). d .memory) e)
 
 pub helmapricot-record-spec : {M : Type 1} → statement M
 helmapricot-record-spec =

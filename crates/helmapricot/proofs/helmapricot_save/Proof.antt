@@ -1,11 +1,10 @@
 -- `helmapricot_save` keeps the contract of the call that it exports. Assumes nothing.
-use mathlib.Core.Path.{_≡_, ap, subst}
+use mathlib.Core.Path.{sym, ap, _∙_}
 use borrow.Author.Needs.{needs}
 use denote.Ref.{now}
 use lib.ListN.{set}
-use Rattle.saving.specs.declared.Saved.{Saved}
-use Rattle.saving.specs.Saving.{Saving, save-memory}
-use Rattle.saving.specs.Answers.{saved-by}
+use Rattle.saving.proofs.Theorems.{none-saved}
+use Rattle.helmapricot.proofs.Numbers.{saved-number, saved-size, saved-back}
 use Rattle.helmapricot.proofs.helmapricot_save.Statement.{statement}
 use Rattle.helmapricot.proofs.helmapricot_save.Tie as tie
 
@@ -32,8 +31,9 @@ returns c =
     let c₅ = c .before .before .before .before .before in
     let a = c₅ .before .before .before .before .args in
     let r = c₅ .save in
-    let e = subst (λ (x : Saved). saved-by x (r .last .1 .0) ≡ save-memory (now (a .mem)) (now (a .out))) (c .before .n .given .1) (r .ensures) in
-    (ap (λ (f : Saving). f .refusal) e, (ap (λ (f : Saving). f .buffer) e, ap (λ (f : Saving). set (now (a .size)) 0 (f .size)) e))
+    let x = sym (c .before .n .given .1) ∙ r .ensures .0 in
+    let back = saved-back _ _ (none-saved (now (a .mem)) (now (a .out))) in
+    (ap saved-number x ∙ back .0, (r .ensures .1, ap (set (now (a .size)) 0) (ap saved-size x ∙ back .1)))
 
 same-length-2 : tie.Need-same-length-2
 same-length-2 c = search needs
@@ -43,8 +43,9 @@ returns-2 c =
     let c₅ = c .before .before .before .before .before in
     let a = c₅ .before .before .before .before .args in
     let r = c₅ .save in
-    let e = subst (λ (x : Saved). saved-by x (r .last .1 .0) ≡ save-memory (now (a .mem)) (now (a .out))) (c .before .n2 .given .1) (r .ensures) in
-    (ap (λ (f : Saving). f .refusal) e, (ap (λ (f : Saving). f .buffer) e, ap (λ (f : Saving). set (now (a .size)) 0 (f .size)) e))
+    let x = sym (c .before .n2 .given .1) ∙ r .ensures .0 in
+    let back = saved-back _ _ (none-saved (now (a .mem)) (now (a .out))) in
+    (ap saved-number x ∙ back .0, (r .ensures .1, ap (set (now (a .size)) 0) (ap saved-size x ∙ back .1)))
 
 pub helmapricot-save-spec : {M : Type 1} → statement M
 helmapricot-save-spec =

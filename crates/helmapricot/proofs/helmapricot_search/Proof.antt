@@ -45,7 +45,8 @@ use Rattle.rows.specs.Rows.{numbers-of}
 use Rattle.rows.proofs.Row as T
 use Rattle.string_index.specs.declared.Answer.{Answer}
 use Rattle.string_index.specs.Finish.{Found, search-memory}
-use Rattle.string_index.specs.Answers.{found-by}
+use Rattle.string_index.specs.Answers.{answer-as, found-by}
+use Rattle.string_index.proofs.Finding.{none-counted}
 use Rattle.string_index.proofs.Answer as E
 use Rattle.string_index.proofs.Answer.Laws as E′
 use Rattle.string_index.proofs.search as g
@@ -198,8 +199,8 @@ module _ {M : Type 1} (𝓤 : URA M) (H : Heap 𝓤) (A : Atoms 𝓤) (W : Given
         -- [its pre; _11; …; _0; …; count; its token]
         calls-at ! fm (Search 𝓤 H A mem run) known-search to-search (and-then ! (load ! (from ! (stop !)) (look ! 21 refl)) (and-then ! (load ! (from ! (stop !)) (look ! 19 refl)) (and-then ! (load ! (from ! (stop !)) (look ! 7 refl)) (and-then ! (load ! (from ! (stop !)) (look ! 3 refl)) (no-more !))))) (λ v.
         use1 W (later (some (λ (a : Answer). (Tokens ⊛ ‵ (ER .own a (v ∷ []))) ⊛ raw (ensured 𝓤 H A g.ended (g.clauses 𝓤 H A mem run) (κm, (κq, (κs, (κr, tt)))) search-arg tt a)))) (id⊢ 𝓤 _) $ await ! tt $ pick ! (λ a.
-        split ! $ move ! (1 ∷ []) $ use1 W (some (λ (ws : Unit {0} × (Unit {0} × (List ℕ × (List Row × Unit {0})))). ‵ (lasts g.ended (κm, (κq, (κs, (κr, tt)))) search-arg ws) ⊛ raw (fact 𝓤 (found-by a (numbers-of (ws .1 .1 .1 .0)) ≡ found)))) (id⊢ 𝓤 _) $ pick ! (λ ws.
-        split ! $ move ! (1 ∷ []) $ heard ! (found-by a (numbers-of (ws .1 .1 .1 .0)) ≡ found) (λ e.
+        split ! $ move ! (1 ∷ []) $ use1 W (some (λ (ws : Unit {0} × (Unit {0} × (List ℕ × (List Row × Unit {0})))). ‵ (lasts g.ended (κm, (κq, (κs, (κr, tt)))) search-arg ws) ⊛ (raw (fact 𝓤 (a ≡ answer-as (found .refusal) (found .count))) ⊛ raw (fact 𝓤 (numbers-of (ws .1 .1 .1 .0) ≡ found .buffer))))) (id⊢ 𝓤 _) $ pick ! (λ ws.
+        split ! $ move ! (1 ∷ []) $ split ! $ heard ! (a ≡ answer-as (found .refusal) (found .count)) (λ e. heard ! (numbers-of (ws .1 .1 .1 .0) ≡ found .buffer) (λ left.
         fsplit ! $ drop ! $ fsplit ! $ drop ! $ fsplit ! $ fsplit ! $ move ! (1 ∷ []) $ feqL ! (λ len. move ! (1 ∷ []) $ fsplit ! $ fsplit ! $ move ! (1 ∷ []) $ feqL ! (λ len′.
         -- [the last rows; …; the last bytes; the tokens and the answer; _11; …; _0; …; count; its token]
         move ! (3 ∷ []) $ split ! $ move ! (1 ∷ []) $ peeks ! ER (Is ER) (shows 𝓤 H A ER) a (v ∷ []) (λ is. drop ! $
@@ -217,7 +218,7 @@ module _ {M : Type 1} (𝓤 : URA M) (H : Heap 𝓤) (A : Atoms 𝓤) (W : Given
         returns ! (look ! 30 refl) $ forget ! 8 refl $ forget ! 10 refl $ forget ! 12 refl $ forget ! 14 refl $ forget ! 16 refl $ forget ! 18 refl $ forget ! 20 refl $ forget ! 22 refl $ forget ! 24 refl $ forget ! 26 refl $ forget ! 28 refl $ forget ! 30 refl $
         move ! (30 ∷ 31 ∷ []) $ free1 ! $ move ! (28 ∷ 29 ∷ []) $ free1 ! $ move ! (26 ∷ 27 ∷ []) $ free1 ! $ move ! (24 ∷ 25 ∷ []) $ free1 ! $ move ! (22 ∷ 23 ∷ []) $ free1 ! $ move ! (20 ∷ 21 ∷ []) $ free1 ! $
         move ! (18 ∷ 19 ∷ []) $ free1 ! $ move ! (16 ∷ 17 ∷ []) $ free1 ! $ move ! (14 ∷ 15 ∷ []) $ free1 ! $ move ! (12 ∷ 13 ∷ []) $ free1 ! $ move ! (10 ∷ 11 ∷ []) $ free1 ! $ move ! (8 ∷ 9 ∷ []) $ free1 ! $ free0 ! $
-        keep ! (0 ∷ 1 ∷ 2 ∷ 4 ∷ 5 ∷ 7 ∷ []) $ by ! (exits r u (ws .1 .1 .0) (ws .1 .1 .1 .0) (ws′ .0) (counted a e e′) len len′)))))))))))))))))))))))))
+        keep ! (0 ∷ 1 ∷ 2 ∷ 4 ∷ 5 ∷ 7 ∷ []) $ by ! (exits r u (ws .1 .1 .0) (ws .1 .1 .1 .0) (ws′ .0) (counted a (none-counted (z .now) (y .now) (length (x .now)) (numbers-of (w .now))) e left e′) len len′))))))))))))))))))))))))))
 
 module _ {M : Type 1} (𝓤 : URA M) (H : Heap 𝓤) (A : Atoms 𝓤) (W : Given 𝓤 H A) (mem : Memory → SProp 𝓤) (run : Routine → Fun 𝓤) where
   f-walks : (C : Calls 𝓤 H) (Λ : Loops 𝓤 H) → FmC 𝓤 H (W .laws) C → Triple 𝓤 (C #string-index·search) (Search 𝓤 H A mem run) → Triple 𝓤 (C #helmapricot·put-count) (PutCount 𝓤 H A mem run) → Walks 𝓤 H A f.ended stayed (WpFn 𝓤 H C Λ code.function) (f.clauses 𝓤 H A mem run)

@@ -1,11 +1,12 @@
 -- `index_memory::record_open` meets its contract: at each answer the tests that led there say what recording does. Assumes nothing.
+use mathlib.Core.Path.{ap, _∙_}
 use borrow.Author.Needs.{needs}
 use denote.Ref.{now}
 use Rattle.definitions.specs.Blocks.{Block}
 use Rattle.location.specs.Plain.{plain}
-use Rattle.index_memory.specs.Answers.{header-of}
+use Rattle.index_memory.specs.Answers.{header-of, recorded-as}
 use Rattle.index_memory.specs.Layout.{log-in}
-use Rattle.index_memory.proofs.Outcome.{kind-unknown, kind-other, tally-within, refused-by, fitting, taken-by}
+use Rattle.index_memory.proofs.Outcome.{refused-as, kind-unknown, kind-other, tally-within, refused-by, fitting, taken-by}
 use Rattle.index_memory.proofs.record_open.Statement.{statement}
 use Rattle.index_memory.proofs.record_open.Tie as tie
 
@@ -18,7 +19,8 @@ returns c =
     let m = now (a .mem) in
     let h = header-of (a .h) in
     let b : Block = record { bytes = now (a .«data»); at = plain (a .l) } in
-    kind-unknown m (h .capacity) (log-in m (h .payload) 64) (a .kind) b (c .if1 .taken)
+    let f = kind-unknown m (h .capacity) (log-in m (h .payload) 64) (a .kind) b (c .if1 .taken) in
+    (ap recorded-as (f .0), f .1)
 
 cast-if2 : tie.Need-cast-if2
 cast-if2 c = search needs
@@ -29,7 +31,8 @@ returns-2 c =
     let m = now (a .mem) in
     let h = header-of (a .h) in
     let b : Block = record { bytes = now (a .«data»); at = plain (a .l) } in
-    kind-other m (h .capacity) (log-in m (h .payload) 64) (a .kind) b (c .before .if1 .left) (c .if2 .taken)
+    let f = kind-other m (h .capacity) (log-in m (h .payload) 64) (a .kind) b (c .before .if1 .left) (c .if2 .taken) in
+    (ap recorded-as (f .0), f .1)
 
 block-refusal-requires : tie.Need-block-refusal-requires
 block-refusal-requires c κs =
@@ -46,7 +49,8 @@ returns-3 c =
     let h = header-of (a .h) in
     let b : Block = record { bytes = now (a .«data»); at = plain (a .l) } in
     let r = c .before .block-refusal in
-    refused-by m h (c₆ .pre .0) (c₆ .pre .1) (a .kind) b (r .result) (r .ensures) (c₃ .if1 .left) (c₂ .if2 .left) (c .if3 .taken)
+    let f = refused-by m h (c₆ .pre .0) (c₆ .pre .1) (a .kind) b (r .result) (r .ensures) (c₃ .if1 .left) (c₂ .if2 .left) (c .if3 .taken) in
+    (refused-as (r .result) (c .if3 .taken) ∙ ap recorded-as (f .0), f .1)
 
 append-requires : tie.Need-append-requires
 append-requires c κs =
@@ -76,7 +80,8 @@ returns-4 c =
     let b : Block = record { bytes = now (a .«data»); at = plain (a .l) } in
     let r = c₅ .block-refusal in
     let w = c₂ .append in
-    taken-by m h (c₁₀ .pre .0) (c₁₀ .pre .1) (a .kind) b (r .result) (r .ensures) (c₇ .if1 .left) (c₆ .if2 .left) (c₄ .if3 .left) (w .last .0) (w .ensures)
+    let f = taken-by m h (c₁₀ .pre .0) (c₁₀ .pre .1) (a .kind) b (r .result) (r .ensures) (c₇ .if1 .left) (c₆ .if2 .left) (c₄ .if3 .left) (w .last .0) (w .ensures) in
+    (ap recorded-as (f .0), f .1)
 
 pub record-open-spec : {M : Type 1} → statement M
 record-open-spec =

@@ -1,11 +1,14 @@
 -- `saving::load_into` meets its contract: the image's own refusal, or what its tally decides. Assumes nothing.
+use native.Mathlib.Omega.{arith}
 use mathlib.Core.Path.{sym, ap, _∙_}
 use borrow.Author.Needs.{needs}
 use denote.Ref.{now}
 use Rattle.image.specs.Answers.{layout-of}
 use Rattle.index_memory.specs.Answers.{header-of}
 use Rattle.index_memory.specs.Record.{Done}
-use Rattle.saving.proofs.Laws.{by-check}
+use Rattle.saving.specs.Answers.{loaded-as}
+use Rattle.saving.proofs.Laws.{refused-as, by-check}
+use Rattle.saving.proofs.Theorems.{image-refusal}
 use Rattle.saving.proofs.load_into.Statement.{statement}
 use Rattle.saving.proofs.load_into.Tie as tie
 
@@ -29,8 +32,11 @@ returns c =
     let c₁ = c .before in
     let c₃ = c₁ .before .before in
     let a = c₃ .before .before .before .args in
-    let e = by-check (header-of (a .h) .capacity) (now (a .mem)) (now (a .s)) _ (ap layout-of (sym (c₁ .n .given .1)) ∙ c₃ .check .ensures) in
-    (ap (λ (d : Done). d .refusal) e, ap (λ (d : Done). d .memory) e)
+    let n = c₁ .n .given .0 .0 in
+    let x = ap layout-of (sym (c₁ .n .given .1)) ∙ c₃ .check .ensures in
+    let e = by-check (header-of (a .h) .capacity) (now (a .mem)) (now (a .s)) _ x in
+    let k = image-refusal (now (a .s)) n (sym x) in
+    (refused-as n (λ z. omega (arith, k .0, z)) ∙ ap (λ (d : Done). loaded-as (d .refusal)) e, ap (λ (d : Done). d .memory) e)
 
 same-length : tie.Need-same-length
 same-length c = search needs
@@ -42,7 +48,7 @@ returns-2 c =
     let c₇ = c₅ .before .before in
     let a = c₇ .before .before .before .args in
     let e = by-check (header-of (a .h) .capacity) (now (a .mem)) (now (a .s)) _ (ap layout-of (sym (c₅ .t .given .1)) ∙ c₇ .check .ensures) in
-    (r .ensures .0 ∙ ap (λ (d : Done). d .refusal) e, r .ensures .1 ∙ ap (λ (d : Done). d .memory) e)
+    (r .ensures .0 ∙ ap (λ (d : Done). loaded-as (d .refusal)) e, r .ensures .1 ∙ ap (λ (d : Done). d .memory) e)
 
 pub load-into-spec : {M : Type 1} → statement M
 load-into-spec =

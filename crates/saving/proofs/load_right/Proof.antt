@@ -7,6 +7,7 @@ use borrow.Author.Needs.{needs}
 use denote.Ref.{now}
 use Rattle.index_memory.specs.Answers.{header-of}
 use Rattle.index_memory.specs.Record.{Done}
+use Rattle.saving.specs.Answers.{loaded-as}
 use Rattle.saving.proofs.Laws.{nodes-over, entries-over, room, closable, loaded}
 use Rattle.saving.proofs.load_right.Statement.{statement}
 use Rattle.saving.proofs.load_right.Tie as tie
@@ -15,14 +16,14 @@ returns : tie.Need-returns
 returns c =
     let a = c .before .before .before .before .before .args in
     let e = nodes-over (header-of (a .h) .capacity) (now (a .mem)) (now (a .s)) (a .t .nodes) (a .t .entries) (c .if1 .taken) in
-    (ap (λ (d : Done). d .refusal) e, ap (λ (d : Done). d .memory) e)
+    (ap (λ (d : Done). loaded-as (d .refusal)) e, ap (λ (d : Done). d .memory) e)
 
 returns-2 : tie.Need-returns-2
 returns-2 c =
     let c₃ = c .before .before .before in
     let a = c₃ .before .before .before .before .before .args in
     let e = entries-over (header-of (a .h) .capacity) (now (a .mem)) (now (a .s)) (a .t .nodes) (a .t .entries) (c₃ .if1 .left) (c .if2 .taken) in
-    (ap (λ (d : Done). d .refusal) e, ap (λ (d : Done). d .memory) e)
+    (ap (λ (d : Done). loaded-as (d .refusal)) e, ap (λ (d : Done). d .memory) e)
 
 copy-requires : tie.Need-copy-requires
 copy-requires c κs =
@@ -35,16 +36,20 @@ copy-requires c κs =
       room (header-of (a .h) .capacity) (now (a .mem)) (now (a .s)) (a .t .nodes) (a .t .entries) (start .pre .0) (λ j. omega (arith, c₇ .shared-slice-known .given j)) (omega arith) (start .pre .1) (c₄ .if1 .left) (c₁ .if2 .left),
     )
 
+closed-requires : tie.Need-closed-requires
+closed-requires c κs = search needs
+
 put-finished-requires : tie.Need-put-finished-requires
 put-finished-requires c κs =
-    let r = c .before .before .before .copy in
-    let c₅ = c .before .before .before .before .before in
-    let c₈ = c₅ .before .before .before in
-    let c₁₁ = c₈ .before .before .before in
-    let start = c₁₁ .before .before in
+    let k = c .before .closed in
+    let c₄ = c .before .before .before .before in
+    let c₆ = c₄ .before .before in
+    let c₉ = c₆ .before .before .before in
+    let c₁₂ = c₉ .before .before .before in
+    let start = c₁₂ .before .before in
     let a = start .args in
-    closable (header-of (a .h) .capacity) (now (a .mem)) (now (a .s)) (a .t .nodes) (a .t .entries) (start .pre .0) (λ j. omega (arith, c₁₁ .shared-slice-known .given j)) (omega arith) (start .pre .1) (c₈ .if1 .left) (c₅ .if2 .left) _
-    (ap length (r .ensures) ∙ simp length-sets)
+    closable (header-of (a .h) .capacity) (now (a .mem)) (now (a .s)) (a .t .nodes) (a .t .entries) (start .pre .0) (λ j. omega (arith, c₁₂ .shared-slice-known .given j)) (omega (arith, start .good .1 .1 .1 .0)) (start .pre .1) (c₉ .if1 .left) (c₆ .if2 .left)
+    (header-of (k .result)) (ap header-of (k .ensures)) _ (ap length (c₄ .copy .ensures) ∙ simp length-sets)
 
 same-length : tie.Need-same-length
 same-length c = search needs
@@ -52,18 +57,20 @@ same-length c = search needs
 returns-3 : tie.Need-returns-3
 returns-3 c =
     let w = c .before .before .put-finished in
-    let c₆ = c .before .before .before .before .before .before in
-    let c₈ = c₆ .before .before in
-    let c₁₁ = c₈ .before .before .before in
-    let c₁₄ = c₁₁ .before .before .before in
-    let start = c₁₄ .before .before in
+    let c₄ = c .before .before .before .before in
+    let k = c₄ .closed in
+    let c₇ = c₄ .before .before .before in
+    let c₉ = c₇ .before .before in
+    let c₁₂ = c₉ .before .before .before in
+    let c₁₅ = c₁₂ .before .before .before in
+    let start = c₁₅ .before .before in
     let a = start .args in
     let e =
-    loaded (header-of (a .h) .capacity) (now (a .mem)) (now (a .s)) (a .t .nodes) (a .t .entries) (start .pre .0) (λ j. omega (arith, c₁₄ .shared-slice-known .given j)) (omega arith) (start .pre .1) (c₁₁ .if1 .left) (c₈ .if2 .left)
-    (c₆ .copy .last .1 .1 .0) (w .last .0) (c₆ .copy .ensures) (w .ensures) in
-    (ap (λ (d : Done). d .refusal) e, ap (λ (d : Done). d .memory) e)
+    loaded (header-of (a .h) .capacity) (now (a .mem)) (now (a .s)) (a .t .nodes) (a .t .entries) (start .pre .0) (λ j. omega (arith, c₁₅ .shared-slice-known .given j)) (omega (arith, start .good .1 .1 .1 .0)) (start .pre .1) (c₁₂ .if1 .left) (c₉ .if2 .left)
+    (header-of (k .result)) (ap header-of (k .ensures)) (c₇ .copy .last .1 .1 .0) (w .last .0) (c₇ .copy .ensures) (w .ensures) in
+    (ap (λ (d : Done). loaded-as (d .refusal)) e, ap (λ (d : Done). d .memory) e)
 
 pub load-right-spec : {M : Type 1} → statement M
 load-right-spec =
     tie.close
-    (tie.spec returns returns-2 copy-requires put-finished-requires same-length returns-3)
+    (tie.spec returns returns-2 copy-requires closed-requires put-finished-requires same-length returns-3)

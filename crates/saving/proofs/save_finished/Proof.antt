@@ -1,8 +1,11 @@
 -- `saving::save_finished` meets its contract: the image that stands in the memory is that of the trie. Assumes nothing.
 use native.Mathlib.Omega.{arith}
+use mathlib.Core.Path.{ap}
 use borrow.Author.Needs.{needs}
 use denote.Ref.{now}
 use Rattle.index_memory.specs.Answers.{header-of}
+use Rattle.saving.specs.Saving.{Saving}
+use Rattle.saving.specs.Answers.{saved-as}
 use Rattle.saving.proofs.Laws.{cut-is, too-short, saved}
 use Rattle.saving.proofs.save_finished.Statement.{statement}
 use Rattle.saving.proofs.save_finished.Tie as tie
@@ -24,7 +27,8 @@ returns c =
     let c₄ = c .before .before .before .before in
     let start = c₄ .before in
     let a = start .args in
-    too-short _ _ (now (a .out)) (cut-is (now (a .mem)) (header-of (a .h)) (λ j. omega (arith, c₄ .shared-slice-known .given j)) (omega arith) (start .pre)) (c .if1 .taken)
+    let e = too-short _ _ (now (a .out)) (cut-is (now (a .mem)) (header-of (a .h)) (λ j. omega (arith, c₄ .shared-slice-known .given j)) (omega arith) (start .pre)) (c .if1 .taken) in
+    (ap (λ (f : Saving). saved-as (f .refusal) (f .size)) e, ap (λ (f : Saving). f .buffer) e)
 
 copy-requires : tie.Need-copy-requires
 copy-requires c κs = search needs
@@ -39,7 +43,8 @@ returns-2 c =
     let start = c₈ .before in
     let a = start .args in
     let r = c .before .before .copy in
-    saved _ _ (now (a .out)) (cut-is (now (a .mem)) (header-of (a .h)) (λ j. omega (arith, c₈ .shared-slice-known .given j)) (omega arith) (start .pre)) (c₄ .if1 .left) (r .last .1 .1 .0) (r .ensures)
+    let e = saved _ _ (now (a .out)) (cut-is (now (a .mem)) (header-of (a .h)) (λ j. omega (arith, c₈ .shared-slice-known .given j)) (omega arith) (start .pre)) (c₄ .if1 .left) (r .last .1 .1 .0) (r .ensures) in
+    (ap (λ (f : Saving). saved-as (f .refusal) (f .size)) e, ap (λ (f : Saving). f .buffer) e)
 
 pub save-finished-spec : {M : Type 1} → statement M
 save-finished-spec =

@@ -6,6 +6,7 @@ use Rattle.index_memory.specs.Record.{Done}
 use Rattle.inspecting.specs.Held.{Inspects}
 use Rattle.finished_memory.specs.Room.{capacity-of}
 use Rattle.finished_memory.proofs.Holds.{room-of}
+use Rattle.saving.specs.Answers.{loaded-as}
 use Rattle.saving.proofs.Theorems.{load-as}
 use Rattle.string_index.proofs.load.Statement.{statement}
 use Rattle.string_index.proofs.load.Tie as tie
@@ -47,7 +48,7 @@ returns c =
     let a = c₂ .before .before .before .before .args in
     let w = subst (Inspects (now (a .mem))) (c .enum-told .given .1) (c₂ .inspect .ensures) in
     let e = load-as (now (a .mem)) (now (a .image)) _ (w .holds) in
-    (ap (λ (d : Done). d .refusal) e, ap (λ (d : Done). d .memory) e)
+    (ap (λ (d : Done). loaded-as (d .refusal)) e, ap (λ (d : Done). d .memory) e)
 
 same-length-2 : tie.Need-same-length-2
 same-length-2 c = search needs
@@ -60,7 +61,7 @@ returns-2 c =
     let a = c₇ .before .before .before .before .args in
     let w = subst (Inspects (now (a .mem))) (c₅ .h .given .1) (c₇ .inspect .ensures) in
     let e = load-as (now (a .mem)) (now (a .image)) _ (w .holds) in
-    (r .ensures .0 ∙ ap (λ (d : Done). d .refusal) e, r .ensures .1 ∙ ap (λ (d : Done). d .memory) e)
+    (r .ensures .0 ∙ ap (λ (d : Done). loaded-as (d .refusal)) e, r .ensures .1 ∙ ap (λ (d : Done). d .memory) e)
 
 same-length-3 : tie.Need-same-length-3
 same-length-3 c = search needs
@@ -73,7 +74,7 @@ returns-3 c =
     let a = c₇ .before .before .before .before .args in
     let w = subst (Inspects (now (a .mem))) (c₅ .h2 .given .1) (c₇ .inspect .ensures) in
     let e = load-as (now (a .mem)) (now (a .image)) _ (w .holds) in
-    (r .ensures .0 ∙ ap (λ (d : Done). d .refusal) e, r .ensures .1 ∙ ap (λ (d : Done). d .memory) e)
+    (r .ensures .0 ∙ ap (λ (d : Done). loaded-as (d .refusal)) e, r .ensures .1 ∙ ap (λ (d : Done). d .memory) e)
 
 pub load-spec : {M : Type 1} → statement M
 load-spec =

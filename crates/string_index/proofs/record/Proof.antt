@@ -4,6 +4,7 @@ use borrow.Author.Needs.{needs}
 use denote.Ref.{now}
 use Rattle.location.specs.Plain.{plain}
 use Rattle.index_memory.specs.Record.{Done}
+use Rattle.index_memory.specs.Answers.{recorded-as}
 use Rattle.inspecting.specs.Held.{Inspects}
 use Rattle.string_index.proofs.Calling.{record-as}
 use Rattle.string_index.proofs.record.Statement.{statement}
@@ -37,7 +38,7 @@ returns c =
     let a = c₂ .before .before .before .before .args in
     let w = subst (Inspects (now (a .mem))) (c .enum-told .given .1) (c₂ .inspect .ensures) in
     let e = record-as (now (a .mem)) (a .kind) (record { bytes = now (a .«data»); at = plain (a .l) }) _ (w .holds) in
-    (ap (λ (d : Done). d .refusal) e, ap (λ (d : Done). d .memory) e)
+    (ap (λ (d : Done). recorded-as (d .refusal)) e, ap (λ (d : Done). d .memory) e)
 
 same-length-2 : tie.Need-same-length-2
 same-length-2 c = search needs
@@ -50,7 +51,7 @@ returns-2 c =
     let a = c₇ .before .before .before .before .args in
     let w = subst (Inspects (now (a .mem))) (c₅ .h .given .1) (c₇ .inspect .ensures) in
     let e = record-as (now (a .mem)) (a .kind) (record { bytes = now (a .«data»); at = plain (a .l) }) _ (w .holds) in
-    (r .ensures .0 ∙ ap (λ (d : Done). d .refusal) e, r .ensures .1 ∙ ap (λ (d : Done). d .memory) e)
+    (r .ensures .0 ∙ ap (λ (d : Done). recorded-as (d .refusal)) e, r .ensures .1 ∙ ap (λ (d : Done). d .memory) e)
 
 same-length-3 : tie.Need-same-length-3
 same-length-3 c = search needs
@@ -61,7 +62,7 @@ returns-3 c =
     let a = c₂ .before .before .before .before .args in
     let w = subst (Inspects (now (a .mem))) (c .enum-told2 .given .1) (c₂ .inspect .ensures) in
     let e = record-as (now (a .mem)) (a .kind) (record { bytes = now (a .«data»); at = plain (a .l) }) _ (w .holds) in
-    (ap (λ (d : Done). d .refusal) e, ap (λ (d : Done). d .memory) e)
+    (ap (λ (d : Done). recorded-as (d .refusal)) e, ap (λ (d : Done). d .memory) e)
 
 pub record-spec : {M : Type 1} → statement M
 record-spec =

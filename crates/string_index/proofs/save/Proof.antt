@@ -1,8 +1,10 @@
 -- `string_index::save` meets its contract: what the memory holds decides. Assumes nothing.
-use mathlib.Core.Path.{_∙_, subst}
+use mathlib.Core.Path.{ap, _∙_, subst}
 use borrow.Author.Needs.{needs}
 use denote.Ref.{now}
 use Rattle.inspecting.specs.Held.{Inspects}
+use Rattle.saving.specs.Saving.{Saving}
+use Rattle.saving.specs.Answers.{saved-as}
 use Rattle.saving.proofs.Theorems.{save-as}
 use Rattle.string_index.proofs.save.Statement.{statement}
 use Rattle.string_index.proofs.save.Tie as tie
@@ -32,14 +34,16 @@ returns c =
     let c₂ = c .before .before in
     let a = c₂ .before .before .before .args in
     let w = subst (Inspects (now (a .mem))) (c .enum-told .given .1) (c₂ .inspect .ensures) in
-    save-as (now (a .mem)) (now (a .out)) _ (w .holds)
+    let e = save-as (now (a .mem)) (now (a .out)) _ (w .holds) in
+    (ap (λ (f : Saving). saved-as (f .refusal) (f .size)) e, ap (λ (f : Saving). f .buffer) e)
 
 returns-2 : tie.Need-returns-2
 returns-2 c =
     let c₂ = c .before .before in
     let a = c₂ .before .before .before .args in
     let w = subst (Inspects (now (a .mem))) (c .enum-told2 .given .1) (c₂ .inspect .ensures) in
-    save-as (now (a .mem)) (now (a .out)) _ (w .holds)
+    let e = save-as (now (a .mem)) (now (a .out)) _ (w .holds) in
+    (ap (λ (f : Saving). saved-as (f .refusal) (f .size)) e, ap (λ (f : Saving). f .buffer) e)
 
 same-length : tie.Need-same-length
 same-length c = search needs
@@ -51,7 +55,8 @@ returns-3 c =
     let c₇ = c₅ .before .before in
     let a = c₇ .before .before .before .args in
     let w = subst (Inspects (now (a .mem))) (c₅ .h .given .1) (c₇ .inspect .ensures) in
-    r .ensures ∙ save-as (now (a .mem)) (now (a .out)) _ (w .holds)
+    let e = save-as (now (a .mem)) (now (a .out)) _ (w .holds) in
+    (r .ensures .0 ∙ ap (λ (f : Saving). saved-as (f .refusal) (f .size)) e, r .ensures .1 ∙ ap (λ (f : Saving). f .buffer) e)
 
 pub save-spec : {M : Type 1} → statement M
 save-spec =

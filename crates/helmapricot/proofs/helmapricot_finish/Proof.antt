@@ -1,0 +1,25 @@
+-- `helmapricot_finish` keeps the contract of the call that it exports. Assumes nothing.
+use mathlib.Core.Path.{_∙_, ap}
+use borrow.Author.Needs.{needs}
+use Rattle.string_index.specs.Answers.{finished-number}
+use Rattle.helmapricot.proofs.Numbers.{finished-back}
+use Rattle.helmapricot.proofs.helmapricot_finish.Statement.{statement}
+use Rattle.helmapricot.proofs.helmapricot_finish.Tie as tie
+
+finish-requires : tie.Need-finish-requires
+finish-requires c κs = search needs
+
+finished-number-requires : tie.Need-finished-number-requires
+finished-number-requires c κs = search needs
+
+same-length : tie.Need-same-length
+same-length c = search needs
+
+returns : tie.Need-returns
+returns c =
+    let r = c .before .before .before .finish in
+    (c .finished-number .ensures ∙ ap finished-number (r .ensures .0) ∙ finished-back _, r .ensures .1)
+
+pub helmapricot-finish-spec : {M : Type 1} → statement M
+helmapricot-finish-spec =
+    tie.close (tie.spec finish-requires finished-number-requires same-length returns)

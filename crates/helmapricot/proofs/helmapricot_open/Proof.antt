@@ -1,0 +1,25 @@
+-- `helmapricot_open` keeps the contract of the call that it exports. Assumes nothing.
+use mathlib.Core.Path.{_∙_, ap}
+use borrow.Author.Needs.{needs}
+use Rattle.index_memory.specs.Answers.{opened-number}
+use Rattle.helmapricot.proofs.Numbers.{opened-back}
+use Rattle.helmapricot.proofs.helmapricot_open.Statement.{statement}
+use Rattle.helmapricot.proofs.helmapricot_open.Tie as tie
+
+open-requires : tie.Need-open-requires
+open-requires c κs = search needs
+
+opened-number-requires : tie.Need-opened-number-requires
+opened-number-requires c κs = search needs
+
+same-length : tie.Need-same-length
+same-length c = search needs
+
+returns : tie.Need-returns
+returns c =
+    let r = c .before .before .before .«open» in
+    (c .opened-number .ensures ∙ ap opened-number (r .ensures .0) ∙ opened-back _, r .ensures .1)
+
+pub helmapricot-open-spec : {M : Type 1} → statement M
+helmapricot-open-spec =
+    tie.close (tie.spec open-requires opened-number-requires same-length returns)
