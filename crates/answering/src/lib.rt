@@ -46,6 +46,7 @@ pub fn refuse(out: &mut [u8], at: usize, n: u64) -> usize
     replies::put_refused(out, a, n)
 }
 
+// n, or the limit where n is larger.
 pub fn at_most(n: usize, limit: usize) -> usize
     ensures { λ r. ⌜ r ≡ min n limit ⌝ }
 {

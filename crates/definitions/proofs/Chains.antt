@@ -10,12 +10,12 @@ use mathlib.Core.Option.{some}
 use lib.ListN.{length, getD, drop}
 use lib.Dec.{eqb}
 use borrow.Author.Tests.{eq-eqb}
-use Rattle.definitions.specs.Location.{Location, common, overlap, normal, Sorted}
+use Rattle.definitions.specs.Location.{Location, common, overlap, normal, Sorted, Less}
 use Rattle.definitions.specs.Blocks.{Piece, tails}
 use Rattle.definitions.specs.Places.{Reach, misses, covers, onward, first-of, rest-of, reach, extend, by-piece, by-pieces, ends, places, table, Chain, last, link, T}
 use Rattle.definitions.specs.Rows.{combine-split-times, rows}
 use Rattle.definitions.proofs.Views.{Eq, eq, Overlaps, overlap-is, overlap-some}
-use Rattle.definitions.proofs.Order.{Less, normal-mem, mem-normal, sorted-normal, same-lists}
+use Rattle.definitions.proofs.Order.{normal-mem, mem-normal, sorted-normal, same-lists}
 use Rattle.definitions.proofs.Tails.{Tail, tails-mem, mem-tails}
 use Rattle.definitions.proofs.Joins.{Joined, joins-mem, mem-joins, ByPiece, by-pieces-mem, mem-by-pieces}
 

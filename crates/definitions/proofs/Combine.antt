@@ -7,7 +7,7 @@ use mathlib.Core.Logic.{_⊎_, inl, inr, _↔_}
 use mathlib.Core.List.{List, [], _∷_, _++_, List·Memᴰ as Mem, List·Memᴰ·head as here, List·Memᴰ·tail as later, List·Memᴰ·cases-cons as split, List·Memᴰ·not-nil as not-nil, Memᴰ·cast as cast}
 use Rattle.definitions.specs.Location.{Location, Lives, Sorted}
 use Rattle.definitions.specs.Rows.{goes-on, lengthened, combined, combine-split-times, Before}
-use Rattle.definitions.proofs.Order.{Less, location-path}
+use Rattle.definitions.proofs.Order.{location-path}
 use Rattle.definitions.proofs.Views.{GoesOn, goes, lt-or-le}
 
 -- ── a place at (a, t) ──

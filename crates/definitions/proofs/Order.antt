@@ -9,7 +9,7 @@ use mathlib.Core.List.{List, [], _∷_, _++_, List·Memᴰ as Mem, List·Memᴰ�
 use lib.ListN.{length, getD}
 use lib.Dec.{leb, eqb, isLe, isEq}
 use borrow.Author.Tests.{leb-true, leb-false, eqb-true, eqb-false}
-use Rattle.definitions.specs.Location.{Location, order, or-else, placed, insert, normal, Sorted}
+use Rattle.definitions.specs.Location.{Location, order, or-else, placed, insert, normal, Sorted, Less}
 
 -- ── what a comparison tells ──
 
@@ -31,11 +31,6 @@ tri a b = go (compare a b) refl
     go Ordering·lt e = lt-of e
     go Ordering·eq e = eqb-true a b (ap isEq e)
     go Ordering·gt e = leb-false a b (ap isLe e)
-
-pub record Less (l m : Location) : Type 0 where
-  pub by-address : l .address ≤ m .address
-  pub by-created : l .address ≡ m .address → l .created ≤ m .created
-  pub by-destroyed : l .address ≡ m .address → l .created ≡ m .created → l .destroyed < m .destroyed
 
 pub location-path : {l m : Location} → l .address ≡ m .address → l .created ≡ m .created → l .destroyed ≡ m .destroyed → l ≡ m
 location-path p q r = λ i. record { address = p i; created = q i; destroyed = r i }

@@ -4,11 +4,11 @@ use native.Mathlib.Omega.{arith}
 use mathlib.Core.Path.{_≡_, refl, sym, ap, _∙_, subst}
 use mathlib.Core.Logic.{_⊎_, inl, inr, _↔_}
 use mathlib.Core.List.{List, [], _∷_, List·Memᴰ as Mem, List·Memᴰ·head as here, List·Memᴰ·tail as later, List·Memᴰ·cases-cons as split, List·Memᴰ·not-nil as not-nil, Memᴰ·cast as cast}
-use Rattle.definitions.specs.Location.{Location, Lives, Sorted}
+use Rattle.definitions.specs.Location.{Location, Lives, Sorted, Less}
 use Rattle.definitions.specs.Blocks.{Piece}
 use Rattle.definitions.specs.Rows.{Before}
 use Rattle.definitions.specs.Runs.{Stands, LongestRun}
-use Rattle.definitions.proofs.Order.{Less, location-path}
+use Rattle.definitions.proofs.Order.{location-path}
 use Rattle.definitions.proofs.Views.{lt-or-le}
 use Rattle.definitions.proofs.Combine.{Here, At, Spread}
 

@@ -7,12 +7,12 @@ use mathlib.Core.Path.{_≡_, refl, sym, ap, _∙_, subst}
 use mathlib.Core.Logic.{_⊎_, inl, inr, _↔_}
 use mathlib.Core.List.{List, [], _∷_, List·Memᴰ as Mem, List·Memᴰ·head as here, List·Memᴰ·tail as later, List·Memᴰ·not-nil as not-nil, List·Memᴰ·eq-of-singleton as only-one}
 use lib.ListN.{length, getD, drop, length-drop}
-use Rattle.definitions.specs.Location.{Location, Lives, Sorted, normal}
+use Rattle.definitions.specs.Location.{Location, Lives, Sorted, normal, Less}
 use Rattle.definitions.specs.Blocks.{Block, Piece, pieces-of, tails}
 use Rattle.definitions.specs.Places.{ends, by-pieces, places}
 use Rattle.definitions.specs.Rows.{Before, combine-split-times, combined, rows}
 use Rattle.definitions.specs.Runs.{Holds, Stands, LongestRun, RowsAreRuns, Consistent, Alive, Query, SameRows, SameHeld}
-use Rattle.definitions.proofs.Order.{Less, less-asym, sorted-normal, same-lists, mem-getD}
+use Rattle.definitions.proofs.Order.{less-asym, sorted-normal, same-lists, mem-getD}
 use Rattle.definitions.proofs.Views.{lt-or-le}
 use Rattle.definitions.proofs.Combine.{Here, Near, Spread, combined-spread, combined-here, here-combined}
 use Rattle.definitions.proofs.Runs.{spread-sorted, before-less, row-is-run, run-is-row}

@@ -1,6 +1,7 @@
 -- Document 01, "Location": where something stands, from which tick on and until which; the order of locations; overlap.
 -- Assumes nothing.
 use Prim.Native.Nat.{ℕ, zero, suc, _+_, _≤_, _<_, min, max, compare, Ordering, Ordering·lt, Ordering·eq, Ordering·gt}
+use mathlib.Core.Path.{_≡_}
 use mathlib.Core.Bool.{Bool, true, false, _&&_, cond}
 use mathlib.Core.List.{List, [], _∷_, _++_, List·Memᴰ}
 use mathlib.Core.Option.{Option, none, some}
@@ -51,6 +52,12 @@ abbrev pub is-lt : Ordering → Bool
 is-lt Ordering·lt = true
 is-lt Ordering·eq = false
 is-lt Ordering·gt = false
+
+-- the first comes before the second, as facts on their numbers
+pub record Less (l m : Location) : Type 0 where
+  pub by-address : l .address ≤ m .address
+  pub by-created : l .address ≡ m .address → l .created ≤ m .created
+  pub by-destroyed : l .address ≡ m .address → l .created ≡ m .created → l .destroyed < m .destroyed
 
 -- every member stands in R to each one behind it
 abbrev pub Sorted : (Location → Location → Type 0) → List Location → Type 0

@@ -6,14 +6,12 @@ use mathlib.Core.Logic.{_⊎_, inl, inr}
 use mathlib.Core.List.{List, _++_}
 use lib.ListN.{length, getD, replicate, length-append, length-replicate}
 use lib.Seq.{sets, length-sets, ext-getD}
+use Rattle.words.specs.Holding.{Holds}
 use Rattle.words.proofs.Parts.{lt-or-ge, getD-sets-out, getD-sets}
+use Rattle.words.proofs.Holding.{holds-append, holds-get, holds-ext, holds-sets}
 use Rattle.definitions.specs.Calls.{Capacity, needed}
 use Rattle.trie.specs.Trie.{Trie}
 use Rattle.image.specs.Image.{image}
-use Rattle.image.proofs.Holding.{Holds}
-use Rattle.image.proofs.BytesRead.{holds-append}
-use Rattle.image.proofs.NodeSound.{holds-get}
-use Rattle.list_writer.proofs.Standing.{holds-ext, holds-sets}
 use Rattle.index_memory.specs.Layout.{Header, header-bytes}
 use Rattle.index_memory.proofs.HeaderBytes.{length-header}
 use Rattle.finished_memory.specs.Finished.{finished-header, finished-memory, closed}

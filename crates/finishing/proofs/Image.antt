@@ -18,10 +18,12 @@ use Rattle.index_memory.proofs.LogBytes.{length-log-in, is-log-sound}
 use Rattle.index_memory.proofs.HeaderFacts.{open-payload}
 use Rattle.index_memory.proofs.Holding.{OpenIs, open-room, open-bytes}
 use Rattle.tails.specs.Tails.{Tail, numbered, tail-record, tail-records}
-use Rattle.tails.proofs.High.{SoundPath, sound-bytes}
+use Rattle.tails.specs.Runs.{SoundPath}
+use Rattle.tails.specs.Weights.{weights}
+use Rattle.tails.proofs.High.{sound-bytes}
 use Rattle.tails.proofs.Keep.{SameTails}
 use Rattle.tails.proofs.Runs.{run-all}
-use Rattle.tails.proofs.Budget.{weights, sorted-weights, weights-charged}
+use Rattle.tails.proofs.Budget.{sorted-weights, weights-charged}
 use Rattle.tails.proofs.Finished.{SoundPieces, sound-entered, finished-node, sorted-tails}
 use Rattle.tail_records.specs.Tail.{tail-of-record, tails-of, tails-in, Held}
 use Rattle.tail_records.proofs.Tail.{tail-read}

@@ -1,21 +1,16 @@
 -- The bytes of a number, of a list that was read stand where they were read. Assumes nothing.
 use Prim.Native.Nat.{_%_, _*_, _+_, _/_, suc, zero, ℕ}
 use native.Mathlib.Omega.{arith}
-use mathlib.Core.List.{List, [], _++_, _∷_}
+use mathlib.Core.List.{List, _++_}
 use mathlib.Core.Path.{_≡_, ap, refl, sym}
 use lib.ListN.{getD, length, length-append}
 use Rattle.definitions.specs.Location.{locations-in, locations-bytes}
 use Rattle.words.proofs.Parts.{length-bytes64}
 use Rattle.words.specs.Words.{bytes64, bytesN, le64, leN}
-use Rattle.image.proofs.Holding.{Holds, holds-at}
+use Rattle.words.specs.Holding.{Holds}
+use Rattle.words.proofs.Holding.{holds-append}
 use Rattle.image.specs.Image.{list-bytes}
 use Rattle.image.specs.Savable.{AllBytes}
-
-pub holds-append : (s : List ℕ) (at n : ℕ) (xs ys : List ℕ) → length xs ≡ n → Holds s at xs → Holds s (at + n) ys → Holds s at (xs ++ ys)
-unfolding Holds
-holds-append s at n [] ys e h g = holds-at s (at + n) at ys (omega arith) g
-holds-append s at n (x ∷ xs) ys e h g =
-    (h .0, holds-append s (at + 1) (length xs) xs ys refl (h .1) (holds-at s (at + n) (at + 1 + length xs) ys (omega arith) g))
 
 -- the bytes of a number that was read stand there
 holds-num : (k : ℕ) (s : List ℕ) (at : ℕ) → AllBytes s → Holds s at (bytesN k (leN k s at))

@@ -1,46 +1,19 @@
--- Bytes that stand in a list from an index on, and reading numbers, lists and heads that stand so.
+-- Reading lists and heads that stand in a list of bytes.
 -- Assumes nothing.
-use Prim.Native.Nat.{_*_, _+_, _/_, _<_, _^_, _≤_, suc, zero, ℕ}
+use Prim.Native.Nat.{_*_, _+_, _<_, _^_, _≤_, ℕ}
 use native.Mathlib.Omega.{arith}
 use mathlib.Core.List.{List, [], _++_, _∷_}
-use mathlib.Core.Path.{_∙_, _≡_, refl, subst, sym}
+use mathlib.Core.Path.{_∙_, _≡_, refl}
 use lib.ListN.{getD, length, length-append}
-use Rattle.words.proofs.Laws.{top}
 use Rattle.words.proofs.Parts.{length-bytes64}
-use Rattle.words.specs.Words.{bytes64, bytesN, le64, leN}
+use Rattle.words.specs.Words.{bytes64}
+use Rattle.words.specs.Holding.{Holds}
+use Rattle.words.proofs.Holding.{holds-at, holds-left, holds-right, holds-le}
 use Rattle.definitions.specs.Location.{Location, location-bytes, locations-bytes}
 use Rattle.trie.specs.Trie.{Lists, entries-of}
 use Rattle.image.proofs.Heads.{head-lists, list-past, lists-ready}
 use Rattle.image.specs.Image.{list-bytes, lists-bytes, lists-size}
 use Rattle.image.specs.Reading.{head, past, read-head, read-list, read-lists}
-
--- the bytes xs stand in s from `at` on
-unfoldable pub Holds : List ℕ → ℕ → List ℕ → Type 0
-Holds s at [] = Unit
-Holds s at (x ∷ xs) = (getD s at 0 ≡ x) × Holds s (at + 1) xs
-
-pub holds-at : (s : List ℕ) (a b : ℕ) (xs : List ℕ) → a ≡ b → Holds s a xs → Holds s b xs
-holds-at s a b xs e h = subst (λ (n : ℕ). Holds s n xs) e h
-
-pub holds-left : (s : List ℕ) (at : ℕ) (xs ys : List ℕ) → Holds s at (xs ++ ys) → Holds s at xs
-unfolding Holds
-holds-left s at [] ys h = tt
-holds-left s at (x ∷ xs) ys h = (h .0, holds-left s (at + 1) xs ys (h .1))
-
-pub holds-right : (s : List ℕ) (at n : ℕ) (xs ys : List ℕ) → length xs ≡ n → Holds s at (xs ++ ys) → Holds s (at + n) ys
-unfolding Holds
-holds-right s at n [] ys e h = holds-at s at (at + n) ys (omega arith) h
-holds-right s at n (x ∷ xs) ys e h = holds-at s (at + 1 + length xs) (at + n) ys (omega arith) (holds-right s (at + 1) (length xs) xs ys refl (h .1))
-
--- the bytes of a number are read back
-holds-leN : (k : ℕ) (s : List ℕ) (at n : ℕ) → n < top k → Holds s at (bytesN k n) → leN k s at ≡ n
-unfolding Holds bytesN leN top
-holds-leN zero s at n b h = omega arith
-holds-leN (suc k) s at n b h = omega (arith, h .0, holds-leN k s (at + 1) (n / 256) (omega arith) (h .1))
-
-pub holds-le : (s : List ℕ) (at n : ℕ) → n < 2 ^ 64 → Holds s at (bytes64 n) → n ≡ le64 s at
-unfolding bytes64 le64 top
-holds-le s at n b h = sym (holds-leN 8 s at n b h)
 
 locs-length : (ls : List Location) → length (locations-bytes ls) ≡ 24 * length ls
 unfolding locations-bytes

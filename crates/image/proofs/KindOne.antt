@@ -7,9 +7,11 @@ use mathlib.Core.Path.{_∙_, _≡_, refl, subst, sym}
 use lib.ListN.{getD, length, length-append}
 use Rattle.words.proofs.Parts.{length-bytes64}
 use Rattle.words.specs.Words.{bytes64, le64}
+use Rattle.words.specs.Holding.{Holds}
+use Rattle.words.proofs.Holding.{holds-at, holds-le, holds-left, holds-right}
 use Rattle.trie.specs.Trie.{Lists, entries, entries-of, nodes}
 use Rattle.image.proofs.ByByte.{Bytes, One, all-entries, all-length, all-nodes, at-most, at-read, just, nobody, one-at}
-use Rattle.image.proofs.Holding.{Holds, holds-at, holds-head, holds-le, holds-left, holds-right}
+use Rattle.image.proofs.Holding.{holds-head}
 use Rattle.image.proofs.KindRule.{fits-one, kind-one, one}
 use Rattle.image.proofs.KindThree.{AllRead, Distinct}
 use Rattle.image.proofs.Nodes.{child-node, child-none, end-dense, node-done}

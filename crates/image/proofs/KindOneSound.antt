@@ -9,12 +9,13 @@ use lib.ListN.{getD, length}
 use borrow.Author.Tests.{eq-eqb, ne-eqb}
 use Rattle.words.proofs.Parts.{length-bytes64}
 use Rattle.words.specs.Words.{bytes64, le64}
+use Rattle.words.specs.Holding.{Holds}
+use Rattle.words.proofs.Holding.{holds-append, holds-at}
 use Rattle.trie.specs.Build.{grow}
 use Rattle.trie.specs.Trie.{Forest, Node, more}
 use Rattle.image.proofs.ByByte.{Bytes, Rising, at-absent, rising-absent, rising-less}
-use Rattle.image.proofs.BytesRead.{holds-append, holds-read}
+use Rattle.image.proofs.BytesRead.{holds-read}
 use Rattle.image.proofs.EndedWell.{Turned, by-gap, by-node, child-at, run-last, run-turn}
-use Rattle.image.proofs.Holding.{Holds, holds-at}
 use Rattle.image.proofs.KindThree.{Distinct, Missing}
 use Rattle.image.proofs.Nodes.{Bounded, node-bound}
 use Rattle.image.proofs.ReadBack.{Limits}

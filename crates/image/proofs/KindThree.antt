@@ -8,8 +8,10 @@ use lib.ListN.{getD, length, length-append}
 use borrow.Author.Tests.{le-ltb, lt-leb, ne-eqb}
 use Rattle.words.proofs.Parts.{length-bytes64}
 use Rattle.words.specs.Words.{bytes64, le64}
+use Rattle.words.specs.Holding.{Holds}
+use Rattle.words.proofs.Holding.{holds-at, holds-le, holds-left, holds-right}
 use Rattle.trie.specs.Trie.{Lists, entries, entries-of, nodes}
-use Rattle.image.proofs.Holding.{Holds, holds-at, holds-head, holds-le, holds-left, holds-right}
+use Rattle.image.proofs.Holding.{holds-head}
 use Rattle.image.proofs.KindRule.{fits-three, kind-three, one}
 use Rattle.image.proofs.Nodes.{child-node, end-sparse, node-done}
 use Rattle.image.proofs.Tables.{open-ready, slot-arrival}

@@ -6,11 +6,12 @@ use mathlib.Core.Path.{_≡_, refl, subst, sym}
 use lib.ListN.{getD}
 use Rattle.words.proofs.Parts.{length-bytes64}
 use Rattle.words.specs.Words.{bytes64, le64}
+use Rattle.words.specs.Holding.{Holds}
+use Rattle.words.proofs.Holding.{holds-append, holds-at}
 use Rattle.trie.specs.Build.{grow}
 use Rattle.trie.specs.Trie.{Node, more}
-use Rattle.image.proofs.BytesRead.{holds-append, holds-read}
+use Rattle.image.proofs.BytesRead.{holds-read}
 use Rattle.image.proofs.EndedWell.{Turned, by-gap, by-node, child-at, run-last, run-turn}
-use Rattle.image.proofs.Holding.{Holds, holds-at}
 use Rattle.image.proofs.KindRule.{one}
 use Rattle.image.proofs.KindThree.{TableAt}
 use Rattle.image.proofs.ReadBack.{Limits}

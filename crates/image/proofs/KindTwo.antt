@@ -10,9 +10,11 @@ use lib.ListN.{getD, length, length-append}
 use borrow.Author.Tests.{eq-eqb, eqb-false, eqb-true, ne-eqb}
 use Rattle.words.proofs.Parts.{length-bytes64}
 use Rattle.words.specs.Words.{bytes64, le64}
+use Rattle.words.specs.Holding.{Holds}
+use Rattle.words.proofs.Holding.{holds-at, holds-le, holds-left, holds-right}
 use Rattle.trie.specs.Trie.{Lists, entries, entries-of, nodes}
 use Rattle.image.proofs.ByByte.{Bytes, One, absent-at, all-entries, all-nodes, all-size, at-read, below-most, below-on, below-zero, just, nobody, one-at}
-use Rattle.image.proofs.Holding.{Holds, holds-at, holds-head, holds-le, holds-left, holds-right}
+use Rattle.image.proofs.Holding.{holds-head}
 use Rattle.image.proofs.KindRule.{fits-two, kind-two, one, three}
 use Rattle.image.proofs.KindThree.{AllRead, BytesAt, Distinct, fault-free, find-absent}
 use Rattle.image.proofs.Nodes.{child-node, child-skip, end-sparse, node-done}

@@ -9,13 +9,14 @@ use lib.ListN.{getD, length}
 use borrow.Author.Tests.{eqb-false, eqb-true, ltb-false, ltb-true}
 use Rattle.words.proofs.Parts.{length-bytes64}
 use Rattle.words.specs.Words.{bytes64, le64}
+use Rattle.words.specs.Holding.{Holds}
+use Rattle.words.proofs.Holding.{holds-append, holds-at}
 use Rattle.definitions.proofs.Views.{lt}
 use Rattle.trie.specs.Build.{grow}
 use Rattle.trie.specs.Trie.{Node}
 use Rattle.image.proofs.ByByte.{One, at-absent, below-on, just, nobody, one-at}
-use Rattle.image.proofs.BytesRead.{holds-append, holds-read}
+use Rattle.image.proofs.BytesRead.{holds-read}
 use Rattle.image.proofs.EndedWell.{Turned, by-gap, by-node, child-at, child-skipped, fault-apart, find-none, find-self, run-last, run-turn}
-use Rattle.image.proofs.Holding.{Holds, holds-at}
 use Rattle.image.proofs.KindRule.{one, three}
 use Rattle.image.proofs.KindThree.{BytesAt, Distinct, Missing}
 use Rattle.image.proofs.KindTwo.{OffsAt}

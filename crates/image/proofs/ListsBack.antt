@@ -6,9 +6,11 @@ use mathlib.Core.Path.{_≡_, refl}
 use lib.ListN.{length, length-append}
 use Rattle.words.proofs.Parts.{length-bytes64}
 use Rattle.words.specs.Words.{bytes64, le64}
+use Rattle.words.specs.Holding.{Holds}
+use Rattle.words.proofs.Holding.{holds-at, holds-le, holds-left, holds-right}
 use Rattle.definitions.specs.Location.{Location, locations-in, locations-bytes}
 use Rattle.trie.specs.Trie.{Lists, entries-of}
-use Rattle.image.proofs.Holding.{Holds, holds-at, holds-le, holds-left, holds-right, list-length}
+use Rattle.image.proofs.Holding.{list-length}
 use Rattle.image.proofs.KindRule.{one, two}
 use Rattle.image.specs.Held.{list-end, lists-in}
 use Rattle.image.specs.Image.{list-bytes, lists-bytes, lists-size}

@@ -6,12 +6,14 @@ use mathlib.Core.Path.{_∙_, _≡_, ap, refl, subst, sym}
 use lib.ListN.{getD, length}
 use Rattle.words.proofs.Parts.{length-bytes64}
 use Rattle.words.specs.Words.{bytes64, le64}
+use Rattle.words.specs.Holding.{Holds}
+use Rattle.words.proofs.Holding.{holds-append, holds-at}
 use Rattle.trie.specs.Build.{grow}
 use Rattle.trie.specs.Trie.{Forest, Lists, Node, leaf, more}
 use Rattle.image.proofs.ByByte.{Bytes, below-zero}
-use Rattle.image.proofs.BytesRead.{holds-append, holds-read}
+use Rattle.image.proofs.BytesRead.{holds-read}
 use Rattle.image.proofs.EndedWell.{Open, dense, fault-apart, head-inv, never, open-inv, sparse}
-use Rattle.image.proofs.Holding.{Holds, head-length, holds-at}
+use Rattle.image.proofs.Holding.{head-length}
 use Rattle.image.proofs.KindOne.{bytes-one, offsets-length, size-one}
 use Rattle.image.proofs.KindOneSound.{apart-rising, lower-nil, one-inv}
 use Rattle.image.proofs.KindRule.{Fits, fits-view, one, three, two}
@@ -200,9 +202,3 @@ child-sound s a zero x next k n e f = never (f ∙ zero-node s x)
 child-sound s a (suc d) x next k n e f =
     let W = whole-node s a d (child-tree s d) (λ y m i j l g. child-sound s a d y m i j l g) x next k n e f in
     tree-made s d x next (W .limits) (sound-node s d x next (lists-in s x) (forest-by (child-tree s d) (table-entries s x)) (W .holds) (W .ends) (W .limits) (W .up) (W .bytes) (W .apart))
-
-pub holds-get : (s : List ℕ) (at : ℕ) (xs : List ℕ) (i : ℕ) → Holds s at xs → i < length xs → getD xs i 0 ≡ getD s (at + i) 0
-unfolding Holds
-holds-get s at [] i h l = absurd (omega arith)
-holds-get s at (x ∷ xs) zero h l = let z : at + 0 ≡ at = omega arith in rw z (sym (h .0))
-holds-get s at (x ∷ xs) (suc i) h l = let z : at + suc i ≡ at + 1 + i = omega arith in rw z (holds-get s (at + 1) xs i (h .1) (omega arith))

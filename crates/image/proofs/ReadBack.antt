@@ -10,9 +10,10 @@ use lib.Seq.{append-snoc, getD-append-seam}
 use borrow.Author.Tests.{leb-false, leb-true}
 use Rattle.words.proofs.Parts.{length-bytes64}
 use Rattle.words.specs.Words.{bytes64}
+use Rattle.words.specs.Holding.{Holds}
 use Rattle.trie.specs.Trie.{Forest, Lists, entries-of, leaf, more}
 use Rattle.image.proofs.ByByte.{Bytes, Rising, at-read}
-use Rattle.image.proofs.Holding.{Holds, head-length}
+use Rattle.image.proofs.Holding.{head-length}
 use Rattle.image.proofs.KindOne.{back-one, offsets-length, slot-length}
 use Rattle.image.proofs.KindThree.{AllRead, Distinct, back-three, children-length, table-length}
 use Rattle.image.proofs.KindTwo.{back-two, offs-length}

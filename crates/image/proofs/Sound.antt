@@ -6,10 +6,12 @@ use mathlib.Core.Path.{_∙_, _≡_, ap, refl}
 use lib.ListN.{length}
 use Rattle.definitions.specs.Location.{locations-in}
 use Rattle.words.specs.Words.{le64}
+use Rattle.words.specs.Holding.{Holds}
+use Rattle.words.proofs.Holding.{holds-append, holds-at}
 use Rattle.trie.specs.Trie.{Forest, Node, more}
 use Rattle.image.proofs.ByByte.{Bytes}
-use Rattle.image.proofs.BytesRead.{count-locs, holds-append, list-read}
-use Rattle.image.proofs.Holding.{Holds, holds-at, list-length}
+use Rattle.image.proofs.BytesRead.{count-locs, list-read}
+use Rattle.image.proofs.Holding.{list-length}
 use Rattle.image.proofs.KindThree.{BytesAt}
 use Rattle.image.proofs.ReadBack.{Limits}
 use Rattle.image.specs.Held.{forest-by, list-end, lists-in, sparse-entries}

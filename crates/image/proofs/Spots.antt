@@ -9,9 +9,10 @@ use lib.ListN.{getD, length}
 use borrow.Author.Tests.{eq-eqb, eqb-false, eqb-true, ne-eqb}
 use Rattle.words.proofs.Parts.{length-bytes64}
 use Rattle.words.specs.Words.{bytes64, le64}
+use Rattle.words.specs.Holding.{Holds}
+use Rattle.words.proofs.Holding.{holds-at, holds-le, holds-left, holds-right}
 use Rattle.trie.specs.Trie.{Forest, leaf, more}
 use Rattle.image.proofs.ByByte.{Bytes, One, Rising, absent-last, at-absent, at-read, below-on, just, later-absent, nobody, one-at, rising-absent, rising-less}
-use Rattle.image.proofs.Holding.{Holds, holds-at, holds-le, holds-left, holds-right}
 use Rattle.image.proofs.KindThree.{AllRead, Distinct, Missing, TableAt}
 use Rattle.image.proofs.KindTwo.{OffsAt}
 use Rattle.image.proofs.Slots.{at-self, past-offsets, past-size, past-slots}

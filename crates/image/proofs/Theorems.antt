@@ -10,15 +10,16 @@ use lib.Seq.{ext-getD}
 use borrow.Author.Tests.{eq-eqb, eqb-false, eqb-true, ne-eqb}
 use Rattle.words.proofs.Parts.{length-bytes64}
 use Rattle.words.specs.Words.{bytes64, le64}
+use Rattle.words.specs.Holding.{Holds}
+use Rattle.words.proofs.Holding.{holds-append, holds-get}
 use Rattle.trie.specs.Build.{grow}
 use Rattle.trie.specs.Trie.{Lists, Node, Trie, empty, entries, entries-of, forest-entries, forest-nodes, leaf, nodes, root}
 use Rattle.image.proofs.ByByte.{Bytes, at-most}
-use Rattle.image.proofs.BytesRead.{holds-append, holds-read}
+use Rattle.image.proofs.BytesRead.{holds-read}
 use Rattle.image.proofs.EndedWell.{never}
-use Rattle.image.proofs.Holding.{Holds}
 use Rattle.image.proofs.KindRule.{Fits, fits-view, one, some-range, three, two}
 use Rattle.image.proofs.KindThree.{Distinct}
-use Rattle.image.proofs.NodeSound.{child-sound, holds-get}
+use Rattle.image.proofs.NodeSound.{child-sound}
 use Rattle.image.proofs.ReadBack.{Limits, all-read, holds-in, node-back, node-length}
 use Rattle.image.proofs.Roots.{image-right, root-node}
 use Rattle.image.proofs.Shapes.{count-entries, count-nodes, fitting, node-fits, shaped-of}

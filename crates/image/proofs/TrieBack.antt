@@ -10,9 +10,11 @@ use lib.ListN.{getD, length}
 use borrow.Author.Tests.{eq-eqb, leb-false, leb-true, ne-eqb}
 use Rattle.words.proofs.Parts.{length-bytes64}
 use Rattle.words.specs.Words.{bytes64, le64}
+use Rattle.words.specs.Holding.{Holds}
+use Rattle.words.proofs.Holding.{holds-at, holds-le, holds-left, holds-right}
 use Rattle.trie.specs.Trie.{Forest, Lists, leaf, more}
 use Rattle.image.proofs.ByByte.{Bytes, Rising, all-size, below-most, below-zero}
-use Rattle.image.proofs.Holding.{Holds, head-length, holds-at, holds-le, holds-left, holds-right}
+use Rattle.image.proofs.Holding.{head-length}
 use Rattle.image.proofs.KindOne.{bytes-one, offsets-length, size-one}
 use Rattle.image.proofs.KindThree.{AllRead, Distinct, bytes-three, size-three, table-holds, table-length}
 use Rattle.image.proofs.KindTwo.{bytes-two, offs-holds, offs-length, size-two}

@@ -1,5 +1,6 @@
 -- Document 01, "Causes and their numbers": an image is read in layout order, the first faulty field decides. Assumes nothing.
 use Prim.Native.Nat.{ℕ, zero, suc, _+_, _*_}
+use mathlib.Core.Path.{_≡_}
 use mathlib.Core.Bool.{Bool, true, false, cond}
 use mathlib.Core.List.{List}
 use lib.ListN.{length, getD}
@@ -197,3 +198,9 @@ to-the-end s (done next met nodes entries) = cond (eqb next (length s)) (right n
 
 unfoldable pub read-image : List ℕ → Layout
 read-image s = to-the-end s (read-root s)
+
+-- an image whose layout is right, with so many nodes and entries
+pub record RightImage (s : List ℕ) : Type 0 where
+  pub nodes : ℕ
+  pub entries : ℕ
+  pub read : read-image s ≡ right nodes entries

@@ -11,10 +11,12 @@ use lib.Dec.{eqb}
 use borrow.Author.Tests.{eq-eqb, ne-eqb}
 use Rattle.words.proofs.Parts.{length-bytes64}
 use Rattle.words.specs.Words.{bytes64, le64}
+use Rattle.words.specs.Holding.{Holds}
+use Rattle.words.proofs.Holding.{holds-at, holds-le, holds-left, holds-right}
 use Rattle.definitions.proofs.Views.{Eq, eq, lt-or-le}
 use Rattle.trie.specs.Trie.{Forest, leaf, more, Node}
 use Rattle.image.proofs.ByByte.{Bytes, all-size, at-read, below-most, below-zero}
-use Rattle.image.proofs.Holding.{Holds, head-length, holds-at, holds-le, holds-left, holds-right}
+use Rattle.image.proofs.Holding.{head-length}
 use Rattle.image.proofs.KindOne.{bytes-one, offsets-length, size-one, slot-length}
 use Rattle.image.proofs.KindThree.{AllRead, Distinct, bytes-three, size-three, table-holds, table-length}
 use Rattle.image.proofs.KindTwo.{bytes-two, offs-holds, offs-length, size-two}

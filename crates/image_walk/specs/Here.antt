@@ -4,9 +4,9 @@ use mathlib.Core.Path.{_≡_}
 use mathlib.Core.List.{List, [], _∷_}
 use mathlib.Core.Option.{Option, none, some}
 use lib.ListN.{length}
+use Rattle.words.specs.Holding.{Holds}
 use Rattle.trie.specs.Trie.{Forest, leaf, more, Node, root}
 use Rattle.trie.specs.Rule.{Apart}
-use Rattle.image.proofs.Holding.{Holds}
 use Rattle.image.specs.Image.{children-of, node-bytes, node-size}
 use Rattle.image.specs.Held.{Entry, trie-in}
 use Rattle.image.specs.Savable.{ListsFit, AllFit, InBytes, Short, Kept, AllKept}

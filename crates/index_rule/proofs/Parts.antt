@@ -8,9 +8,9 @@ use lib.ListN.{getD}
 use lib.Dec.{eqb}
 use borrow.Author.Tests.{ne-eqb}
 use Rattle.words.specs.Words.{le64}
+use Rattle.words.specs.Holding.{Holds}
 use Rattle.definitions.proofs.Views.{Eq, eq}
 use Rattle.trie.specs.Trie.{Forest, leaf, Node}
-use Rattle.image.proofs.Holding.{Holds}
 use Rattle.image.specs.Held.{Entry, table-entries}
 use Rattle.image.specs.Image.{children-of, node-bytes}
 use Rattle.image.specs.Kinds.{kind-of}

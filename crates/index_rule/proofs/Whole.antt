@@ -8,7 +8,7 @@ use lib.ListN.{length, getD}
 use borrow.Author.Tests.{eq-eqb}
 use Rattle.trie.specs.Test.{node-right, fronts-within, forest-right, siblings, index-rule}
 use Rattle.image.specs.Held.{trie-in}
-use Rattle.image.specs.Reading.{right, refused, read-image, read-root}
+use Rattle.image.specs.Reading.{right, refused, read-image, read-root, RightImage}
 use Rattle.image.specs.Savable.{AllBytes}
 use Rattle.image_walk.specs.Parts.{parts-at}
 use Rattle.image_walk.specs.Here.{RootHere}
@@ -16,7 +16,7 @@ use Rattle.image_walk.specs.declared.Node.{Node as Parts}
 use Rattle.image_walk.proofs.Root.{here-root}
 use Rattle.index_rule.specs.Parts.{PartsOf, HasParts, HasTable}
 use Rattle.index_rule.specs.Says.{SaysNode, RootFronts, children-right, ChildrenAsked, ChildrenSays}
-use Rattle.index_rule.specs.Check.{LayoutRight, and-rule, check-image}
+use Rattle.index_rule.specs.Check.{and-rule, check-image}
 use Rattle.index_rule.proofs.Parts.{parts-of}
 use Rattle.index_rule.proofs.Owed.{and-not, and-so}
 
@@ -27,14 +27,14 @@ unfolding read-image read-root
 read-nothing s z = rw (eq-eqb (length s) 0 z) refl
 
 -- an image has a first byte
-pub layout-some : (s : List ℕ) → LayoutRight s → 0 < length s
+pub layout-some : (s : List ℕ) → RightImage s → 0 < length s
 layout-some s h = go (length s) refl
   where
     clash : {n k e : ℕ} → refused n ≡ right k e → ⊥
     clash f = let z : _≡_ {A = ℕ} 0 1 = cc in omega arith
 
     go : (n : ℕ) → length s ≡ n → 0 < n
-    go zero q = absurd (clash (sym (read-nothing s q) ∙ h .is))
+    go zero q = absurd (clash (sym (read-nothing s q) ∙ h .read))
     go (suc n) q = omega arith
 
 -- 0 is that of an empty index, which meets the rule
@@ -43,8 +43,8 @@ unfolding trie-in
 rule-empty s z = rw (eq-eqb (getD s 0 0) 0 z) refl
 
 -- another is that of the root
-pub root-of : (s : List ℕ) → AllBytes s → length s < 2 ^ 64 → LayoutRight s → (getD s 0 0 ≡ 0 → ⊥) → RootHere s
-root-of s a l h z = here-root s a l (h .nodes) (h .entries) (h .is) z
+pub root-of : (s : List ℕ) → AllBytes s → length s < 2 ^ 64 → RightImage s → (getD s 0 0 ≡ 0 → ⊥) → RootHere s
+root-of s a l h z = here-root s a l (h .nodes) (h .entries) (h .read) z
 
 -- ── the root ──
 

@@ -1,17 +1,10 @@
 -- Document 01: an image is right if its layout is, and then the index rule on the trie that it holds; the rule's cause is 15. Assumes nothing.
 use Prim.Native.Nat.{ℕ}
-use mathlib.Core.Path.{_≡_}
 use mathlib.Core.Bool.{Bool, cond}
 use mathlib.Core.List.{List}
 use Rattle.trie.specs.Test.{index-rule}
 use Rattle.image.specs.Held.{trie-in}
 use Rattle.image.specs.Reading.{Layout, right, refused, read-image}
-
--- the layout of these bytes is right, with so many nodes and entries
-pub record LayoutRight (s : List ℕ) : Type 0 where
-  pub nodes : ℕ
-  pub entries : ℕ
-  pub is : read-image s ≡ right nodes entries
 
 -- what is said of a layout, where the rule holds or not
 abbrev pub and-rule : Bool → Layout → Layout

@@ -16,12 +16,13 @@ ghost use Rattle.trie.specs.Test.{index-rule};
 ghost use Rattle.location_lists.specs.Lists.{count-with};
 ghost use Rattle.image.specs.Held.{trie-in};
 ghost use Rattle.image.specs.Answers.{layout-of};
+ghost use Rattle.image.specs.Reading.{RightImage};
 ghost use Rattle.index_rule.specs.Parts.{HasTable, HasParts};
 ghost use Rattle.index_rule.specs.Fronts.{HasFronts, with-front};
 ghost use Rattle.index_rule.specs.Says.{with-two, ChildLists, SaysOwed, SaysLists, SaysSuffixes, SaysNode, RootFronts, NextFronts, ChildAsked, ChildSays, ChildrenAsked, ChildrenSays};
 ghost use Rattle.index_rule.specs.Runs.{LeafParts, LeafSays, LoneSays, SaysNone};
 ghost use Rattle.index_rule.specs.Singles.{SinglesSay};
-ghost use Rattle.index_rule.specs.Check.{LayoutRight, check-image};
+ghost use Rattle.index_rule.specs.Check.{check-image};
 
 // Whether a node other than the root that has no child has a prefix or a chunk, and the root has no prefix.
 fn is_owed(n: Node, depth: usize) -> bool
@@ -478,7 +479,7 @@ fn children_right(
 
 // Whether the finished index rule holds of an image whose layout is right.
 pub fn index_rule(s: &[u8]) -> bool
-    requires { ⌜ LayoutRight (now s) ⌝ }
+    requires { ⌜ RightImage (now s) ⌝ }
     ensures { λ r. ⌜ r ≡ index-rule (trie-in (now (s .entry))) ⌝ }
 {
     if s[0] == 0 {

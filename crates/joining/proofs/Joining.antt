@@ -6,9 +6,8 @@ use mathlib.Core.Bool.{Bool, true, false, cond}
 use mathlib.Core.Option.{none, some}
 use mathlib.Core.List.{List, [], _∷_, _++_, append-nil, List·Memᴰ as Mem, List·Memᴰ·head as here, List·Memᴰ·not-nil as not-nil, List·Memᴰ·eq-of-singleton as only-one, Memᴰ·append-left as append-left, Memᴰ·append-right as append-right}
 use borrow.Author.Tests.{eq-eqb, lt-ltb}
-use Rattle.definitions.specs.Location.{Location, Sorted, meets, common, overlap, location-at, locations-in}
+use Rattle.definitions.specs.Location.{Location, Sorted, meets, common, overlap, location-at, locations-in, Less}
 use Rattle.definitions.specs.Places.{joins}
-use Rattle.definitions.proofs.Order.{Less}
 use Rattle.definitions.proofs.Views.{overlap-is}
 use Rattle.trie.specs.Find.{joins-each}
 use Rattle.place_buffer.specs.declared.Places.{Places}

@@ -8,9 +8,8 @@ use lib.ListN.{getD}
 use lib.Dec.{eqb}
 use borrow.Author.Tests.{ne-eqb}
 use Rattle.words.proofs.Laws.{le64-lt}
-use Rattle.definitions.specs.Location.{Location, Sorted, meets, common, location-at, locations-in}
+use Rattle.definitions.specs.Location.{Location, Sorted, meets, common, location-at, locations-in, Less}
 use Rattle.definitions.specs.Places.{joins}
-use Rattle.definitions.proofs.Order.{Less}
 use Rattle.trie.specs.Find.{joins-each}
 use Rattle.place_buffer.specs.declared.Places.{Places}
 use Rattle.place_buffer.specs.Buffer.{Within, Valid, Taken}

@@ -8,8 +8,7 @@ use mathlib.Core.List.{List, [], _∷_, _++_, List·Memᴰ as Mem, List·Memᴰ�
 use lib.ListN.{length}
 use lib.Dec.{ltb}
 use Rattle.words.specs.Words.{le64}
-use Rattle.definitions.specs.Location.{Location, Sorted, location-at, locations-in}
-use Rattle.definitions.proofs.Order.{Less}
+use Rattle.definitions.specs.Location.{Location, Sorted, location-at, locations-in, Less}
 use Rattle.definitions.proofs.Views.{Lt, lt, lt-or-le}
 use Rattle.place_buffer.proofs.Scratch.{length-locations, locations-append}
 use Rattle.joining.specs.Below.{below-count, From}

@@ -7,8 +7,10 @@ use mathlib.Core.List.{List}
 use lib.ListN.{length, getD}
 use lib.Seq.{sets, length-sets}
 use Rattle.words.specs.Words.{setLe64, bytes64}
+use Rattle.words.specs.Holding.{Holds}
 use Rattle.words.proofs.Laws.{length-setLe64, getD-setLe64}
 use Rattle.words.proofs.Parts.{getD-sets-out, setLe64-sets, length-bytes64}
+use Rattle.words.proofs.Holding.{holds-append, holds-ext, holds-sets}
 use Rattle.sort.specs.Records.{records, recordsBytes, sorted, dropRepeats, dropAfter, Ordered}
 use Rattle.sort.proofs.Bytes.{Bytes, length-records}
 use Rattle.sort.proofs.Lists.{length-dropRepeats, sorted-fixed}
@@ -18,14 +20,12 @@ use Rattle.sort.proofs.Results.{length-sorted-bytes, length-dropRepeats-bytes, 
 use Rattle.definitions.specs.Location.{Location, normal, locations-in, locations-bytes}
 use Rattle.place_buffer.proofs.Triples.{triples, records-triples, triples-path, length-triples, normal-triples}
 use Rattle.image.specs.Image.{list-bytes}
-use Rattle.image.proofs.Holding.{Holds}
-use Rattle.image.proofs.BytesRead.{holds-append, locs-read}
+use Rattle.image.proofs.BytesRead.{locs-read}
 use Rattle.tails.specs.Tails.{Tail}
 use Rattle.tails.specs.Groups.{locations-of}
 use Rattle.list_writer.specs.Written.{Copied, Closed, ListWritten}
 use Rattle.list_writer.specs.declared.End.{End}
 use Rattle.list_writer.proofs.Copying.{length-locations-of}
-use Rattle.list_writer.proofs.Standing.{holds-ext, holds-sets}
 
 module _ (s s₁ s₂ s₃ : List ℕ) (at n k : ℕ) (b : Bytes s) (b₁ : Bytes s₁) (b₂ : Bytes s₂) (fits : at + 8 + 24 * n ≤ length s)
     (e₁ : s₁ ≡ sets s (at + 8) (recordsBytes (sorted (records 3 n s (at + 8)))))

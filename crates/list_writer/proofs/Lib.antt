@@ -1,4 +1,3 @@
--- `Standing` has bytes that stand in a list after writes, `Copying` and `Closing` the steps of a list. Assumes nothing.
-pub mod Standing
+-- `Copying` and `Closing` have the steps of a list. Assumes nothing.
 pub mod Copying
 pub mod Closing

@@ -4,9 +4,9 @@ use mathlib.Core.Path.{_≡_}
 use mathlib.Core.Logic.{_⊎_}
 use mathlib.Core.List.{List}
 use lib.ListN.{length, getD}
+use Rattle.words.specs.Holding.{Holds}
 use Rattle.definitions.specs.Location.{Location, normal, locations-in}
 use Rattle.image.specs.Image.{list-bytes}
-use Rattle.image.proofs.Holding.{Holds}
 use Rattle.list_writer.specs.declared.End.{End}
 
 -- s′ is s with the n locations ls behind the eight bytes at an index

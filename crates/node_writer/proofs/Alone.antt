@@ -8,15 +8,16 @@ use lib.ListN.{length, length-append}
 use lib.Dec.{eqb}
 use borrow.Author.Tests.{eq-eqb, ne-eqb}
 use Rattle.words.specs.Words.{bytes64}
+use Rattle.words.specs.Holding.{Holds}
 use Rattle.words.proofs.Parts.{length-bytes64}
+use Rattle.words.proofs.Holding.{holds-at, holds-append}
 use Rattle.trie.specs.Trie.{Lists, Forest, leaf, more, Node, entries-of, forest-nodes, forest-entries}
 use Rattle.tails.specs.Tails.{Tail}
 use Rattle.tails.specs.Groups.{ends-as, after-run, byte-at, below, groups, group-lists, group-node}
-use Rattle.tails.proofs.Budget.{weights, group-weights}
 use Rattle.image.specs.Kinds.{kind-of}
 use Rattle.image.specs.Image.{Child, as-child, children-of, lists-bytes, lists-size, children-bytes, children-size, table-by-arrival, table-bytes, table-size, node-bytes, node-size}
-use Rattle.image.proofs.Holding.{Holds, holds-at, head-length}
-use Rattle.image.proofs.BytesRead.{holds-append}
+use Rattle.image.proofs.Holding.{head-length}
+use Rattle.tails.specs.Weights.{weights, group-weights}
 use Rattle.list_writer.specs.declared.End.{End}
 use Rattle.node_writer.specs.Ones.{link-bytes, Stands}
 

@@ -9,13 +9,12 @@ use lib.ListN.{length, getD, take, drop, set}
 use lib.Seq.{sets, length-sets, take-suc, drop-cons, getD-set-same, getD-set-other}
 use borrow.Author.Tests.{eq-eqb}
 use Rattle.words.specs.Words.{bytes64}
+use Rattle.words.specs.Holding.{Holds}
 use Rattle.words.proofs.Laws.{Outside}
 use Rattle.words.proofs.Parts.{getD-sets-out, length-bytes64}
+use Rattle.words.proofs.Holding.{holds-left, holds-right, holds-append, holds-ext, holds-sets}
 use Rattle.image.specs.Image.{Child, with-byte, slot-size, slot-bytes, slot-offsets, slots-bytes, slots-size}
-use Rattle.image.proofs.Holding.{Holds, holds-left, holds-right}
-use Rattle.image.proofs.BytesRead.{holds-append}
 use Rattle.image.proofs.KindOne.{offsets-length}
-use Rattle.list_writer.proofs.Standing.{holds-ext, holds-sets}
 use Rattle.node_writer.specs.Kids.{no-child, sizes}
 use Rattle.node_writer.proofs.Sized.{Sized, sized-with, slot-length, slots-length}
 use Rattle.node_writer.proofs.Orders.{Climbs, climbs-less, climbs-none, past-with}

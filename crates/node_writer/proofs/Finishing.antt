@@ -9,23 +9,22 @@ use lib.ListN.{length, getD, take, drop, length-drop}
 use lib.Seq.{take-all}
 use lib.Dec.{eqb}
 use Rattle.words.specs.Words.{bytes64}
+use Rattle.words.specs.Holding.{Holds}
 use Rattle.words.proofs.Parts.{length-bytes64}
+use Rattle.words.proofs.Holding.{holds-at, holds-append, holds-ext}
 use Rattle.definitions.proofs.Views.{Eq, eq, lt-or-le}
 use Rattle.tails.specs.Groups.{Group, by-arrival, kept-groups}
-use Rattle.tails.proofs.Budget.{group-weights}
 use Rattle.image.specs.Kinds.{kind-of}
 use Rattle.image.specs.Image.{Child, nodes-in, entries-in, children-size, children-bytes, size-below, ascending, table-by-arrival, table-by-byte, slot-offsets, slots-bytes, slots-size, table-bytes, table-size}
-use Rattle.image.proofs.Holding.{Holds, holds-at}
-use Rattle.image.proofs.BytesRead.{holds-append}
 use Rattle.image.proofs.ByByte.{total-nodes, total-entries}
 use Rattle.image.proofs.KindOne.{offsets-length}
 use Rattle.image.proofs.KindThree.{table-length}
 use Rattle.image.proofs.KindRule.{kind-one, kind-two, kind-three}
+use Rattle.tails.specs.Weights.{group-weights}
 use Rattle.tail_records.specs.Found.{no-group}
 use Rattle.tail_records.specs.Ranks.{rank-of, with-rank, firsts}
 use Rattle.tail_records.proofs.Arrival.{length-by-arrival, arrival-rank, with-rank-inside, rank-with-rank, with-rank-place}
 use Rattle.list_writer.specs.declared.End.{End}
-use Rattle.list_writer.proofs.Standing.{holds-ext}
 use Rattle.node_writer.specs.declared.Table.{Table}
 use Rattle.node_writer.specs.Kids.{kid, kids, sizes, no-child}
 use Rattle.node_writer.specs.Turns.{Opened, groups-in}

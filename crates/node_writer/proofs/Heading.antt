@@ -6,17 +6,20 @@ use mathlib.Core.Bool.{Bool, true, false, cond}
 use mathlib.Core.List.{List, [], _∷_, _++_, List·Memᴰ as Mem}
 use lib.ListN.{length, getD, set, length-set, length-append}
 use lib.Seq.{getD-set-same, getD-set-other}
+use Rattle.words.specs.Holding.{Holds}
+use Rattle.words.proofs.Holding.{holds-at}
 use Rattle.definitions.specs.Location.{normal}
 use Rattle.trie.specs.Trie.{Lists, entries-of}
 use Rattle.tails.specs.Tails.{Tail}
 use Rattle.tails.specs.Groups.{ends-as, run, after-run, wholes, below, byte-at, locations-of, group-lists, groups}
 use Rattle.tails.proofs.High.{sound-bytes}
-use Rattle.tails.proofs.Keep.{keep, keep-mem, Kept, Pairs, pairs-keep}
-use Rattle.tails.proofs.Runs.{Run, longer, longer-is, below-here, bytes-upto}
-use Rattle.tails.proofs.Budget.{weights, group-weights, budget}
+use Rattle.tails.proofs.Keep.{keep, keep-mem, Kept, pairs-keep}
+use Rattle.tails.proofs.Runs.{longer, longer-is, below-here, bytes-upto}
+use Rattle.tails.proofs.Budget.{budget}
 use Rattle.image.specs.Kinds.{kind-of}
 use Rattle.image.specs.Image.{lists-bytes, lists-size}
-use Rattle.image.proofs.Holding.{Holds, holds-at}
+use Rattle.tails.specs.Runs.{Pairs, Run}
+use Rattle.tails.specs.Weights.{weights, group-weights}
 use Rattle.tail_records.specs.Tail.{tails-in, Held}
 use Rattle.tail_records.specs.Found.{Longer, Found}
 use Rattle.tail_records.proofs.Memory.{tails-split, tails-length, tails-ext, held-part}

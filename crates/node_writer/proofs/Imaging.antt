@@ -6,15 +6,15 @@ use mathlib.Core.Logic.{_⊎_, inl, inr}
 use mathlib.Core.List.{List, []}
 use lib.ListN.{length, getD, replicate, length-replicate}
 use lib.Seq.{sets, length-sets}
+use Rattle.words.specs.Holding.{Holds}
 use Rattle.words.proofs.Parts.{getD-sets-out}
+use Rattle.words.proofs.Holding.{holds-sets}
 use Rattle.trie.specs.Trie.{Trie, empty, root, nodes, entries, forest-nodes}
 use Rattle.tails.specs.Groups.{group-node}
 use Rattle.image.specs.Image.{image, children-of, node-bytes}
-use Rattle.image.proofs.Holding.{Holds}
 use Rattle.tail_records.specs.Tail.{tails-in}
 use Rattle.tail_records.proofs.Memory.{tails-none, tails-step}
 use Rattle.list_writer.specs.declared.End.{End}
-use Rattle.list_writer.proofs.Standing.{holds-sets}
 use Rattle.node_writer.specs.Nodes.{node-of, NodeAsked, NodeWritten}
 use Rattle.node_writer.specs.Images.{tails-trie, ImageAsked, ImageWritten}
 use Rattle.node_writer.proofs.Sized.{node-long, all-sized}

@@ -4,19 +4,19 @@ use native.Mathlib.Omega.{arith}
 use mathlib.Core.Path.{_≡_, ap, subst, _∙_}
 use mathlib.Core.List.{List, [], _++_}
 use lib.ListN.{length, getD}
+use Rattle.words.specs.Holding.{Holds}
+use Rattle.words.proofs.Holding.{holds-at, holds-append, holds-ext}
 use Rattle.definitions.specs.Location.{Location, normal}
 use Rattle.trie.specs.Trie.{Lists}
 use Rattle.tails.specs.Tails.{Tail}
 use Rattle.tails.specs.Groups.{locations-of, wholes}
 use Rattle.image.specs.Image.{list-bytes, lists-bytes, lists-size}
-use Rattle.image.proofs.Holding.{Holds, holds-at, list-length}
-use Rattle.image.proofs.BytesRead.{holds-append}
+use Rattle.image.proofs.Holding.{list-length}
 use Rattle.tail_records.specs.Tail.{tails-in}
 use Rattle.tail_records.proofs.Memory.{tails-none, tails-ext}
 use Rattle.list_writer.specs.declared.End.{End}
 use Rattle.list_writer.specs.Written.{ListWritten}
 use Rattle.list_writer.proofs.Copying.{length-locations-of}
-use Rattle.list_writer.proofs.Standing.{holds-ext}
 use Rattle.node_writer.specs.Heads.{cut-lists, ListsAsked, ListsWritten}
 
 -- the tails are not written by a list before the work area

@@ -5,27 +5,28 @@ use mathlib.Core.Path.{_≡_, refl, sym, ap, subst, _∙_}
 use mathlib.Core.Logic.{inl}
 use mathlib.Core.List.{List, [], _∷_, _++_, List·Memᴰ as Mem, List·Memᴰ·head as here}
 use lib.ListN.{length}
+use Rattle.words.specs.Holding.{Holds}
+use Rattle.words.proofs.Holding.{holds-append, holds-ext}
 use Rattle.trie.specs.Trie.{Lists, entries-of, forest-nodes, forest-entries}
-use Rattle.trie.proofs.BuildBytes.{Rising}
+use Rattle.trie.specs.Build.{Rising}
 use Rattle.tails.specs.Tails.{Tail}
-use Rattle.tails.specs.Groups.{Group, below, groups, kept-groups, group-lists, group-node}
+use Rattle.tails.specs.Groups.{Group, below, groups, kept-groups, group-lists, group-node, bytes-of}
 use Rattle.tails.proofs.High.{sound-bytes}
 use Rattle.tails.proofs.Keep.{keep-mem}
-use Rattle.tails.proofs.Runs.{Run, goes, goes-is, longer, below-here}
-use Rattle.tails.proofs.Groups.{bytes-of, mem-bytes, groups-rising, group-run, byte-goes}
-use Rattle.tails.proofs.Budget.{group-weights}
+use Rattle.tails.proofs.Runs.{goes, goes-is, longer, below-here}
+use Rattle.tails.proofs.Groups.{mem-bytes, groups-rising, group-run, byte-goes}
 use Rattle.image.specs.Kinds.{kind-of}
 use Rattle.image.specs.Image.{Child, children-of, nodes-in, entries-in, lists-bytes, lists-size, table-bytes, table-size, node-bytes, node-size}
-use Rattle.image.proofs.Holding.{Holds, head-length}
-use Rattle.image.proofs.BytesRead.{holds-append}
+use Rattle.image.proofs.Holding.{head-length}
 use Rattle.image.proofs.ByByte.{total-nodes}
 use Rattle.image.proofs.Shapes.{count-nodes, count-entries}
+use Rattle.tails.specs.Runs.{Run}
+use Rattle.tails.specs.Weights.{group-weights}
 use Rattle.tail_records.specs.Tail.{tails-in}
 use Rattle.tail_records.specs.Ranks.{Apart}
 use Rattle.tail_records.proofs.Memory.{tails-ext, held-ext, held-part}
 use Rattle.tail_records.proofs.Distinct.{groups-different, apart-part}
 use Rattle.list_writer.specs.declared.End.{End}
-use Rattle.list_writer.proofs.Standing.{holds-ext}
 use Rattle.node_writer.specs.declared.Head.{Head}
 use Rattle.node_writer.specs.Kids.{kids}
 use Rattle.node_writer.specs.Turns.{groups-in}

@@ -12,19 +12,20 @@ use lib.Seq.{sets, length-sets}
 use lib.Dec.{eqb}
 use borrow.Author.Tests.{eq-eqb}
 use Rattle.words.specs.Words.{bytes64, setLe64}
+use Rattle.words.specs.Holding.{Holds}
 use Rattle.words.proofs.Parts.{sets-append, getD-sets-out, length-bytes64, setLe64-sets}
+use Rattle.words.proofs.Holding.{holds-ext, holds-sets}
 use Rattle.trie.specs.Trie.{Lists, leaf, more, Node, entries-of, forest-nodes}
 use Rattle.tails.specs.Tails.{Tail}
 use Rattle.tails.specs.Groups.{ends-as, run, byte-at, below, groups, group-lists, group-node}
-use Rattle.tails.proofs.Runs.{Run}
-use Rattle.tails.proofs.Budget.{weights, group-weights}
 use Rattle.image.specs.Image.{lists-bytes, lists-size}
-use Rattle.image.proofs.Holding.{Holds, head-length}
+use Rattle.image.proofs.Holding.{head-length}
+use Rattle.tails.specs.Runs.{Run}
+use Rattle.tails.specs.Weights.{weights, group-weights}
 use Rattle.tail_records.specs.Tail.{record-in, tail-of-record, tail-in, tails-in, Held, ValidRecord}
 use Rattle.tail_records.proofs.Memory.{tails-none, tails-step, tails-mem, tails-ext, record-ext, held-ext}
 use Rattle.tail_records.proofs.Runs.{run-none, run-stops, run-goes}
 use Rattle.list_writer.specs.declared.End.{End}
-use Rattle.list_writer.proofs.Standing.{holds-ext, holds-sets}
 use Rattle.node_writer.specs.Heads.{HeadAsked, Front}
 use Rattle.node_writer.specs.Nodes.{node-of, NodeAsked, NodeWritten}
 use Rattle.node_writer.specs.Ones.{link-bytes, LinkWritten, LeafWritten, OneAsked, OneWritten}

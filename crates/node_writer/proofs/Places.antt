@@ -10,14 +10,14 @@ use lib.Seq.{take-suc}
 use lib.Dec.{eqb, leb}
 use borrow.Author.Tests.{eq-eqb, ne-eqb, le-leb, lt-leb}
 use Rattle.trie.specs.Trie.{Node, entries-of, forest-nodes, forest-entries}
-use Rattle.trie.proofs.BuildBytes.{Rising}
+use Rattle.trie.specs.Build.{Rising}
 use Rattle.tails.specs.Tails.{Tail}
-use Rattle.tails.specs.Groups.{Group, arrive, by-arrival, kept-groups}
-use Rattle.tails.proofs.Groups.{bytes-of, mem-bytes}
-use Rattle.tails.proofs.Budget.{weights, group-weights}
+use Rattle.tails.specs.Groups.{Group, arrive, by-arrival, kept-groups, bytes-of}
+use Rattle.tails.proofs.Groups.{mem-bytes}
 use Rattle.image.specs.Image.{Child, as-child, children-of, nodes-in, node-bytes, node-size}
 use Rattle.image.proofs.ByByte.{total}
 use Rattle.image.proofs.Shapes.{count-nodes, count-entries}
+use Rattle.tails.specs.Weights.{weights, group-weights}
 use Rattle.tail_records.specs.Found.{no-group}
 use Rattle.tail_records.specs.Ranks.{rank-of, firsts, Different}
 use Rattle.tail_records.proofs.Arrival.{length-by-arrival, arrival-rank, rank-place, rank-inside}

@@ -9,13 +9,12 @@ use mathlib.Core.List.{List, [], _∷_, _++_, append-nil}
 use lib.ListN.{length, getD, take, set}
 use lib.Seq.{sets, length-sets, take-suc, getD-set-same, getD-set-other}
 use Rattle.words.specs.Words.{bytes64}
+use Rattle.words.specs.Holding.{Holds}
 use Rattle.words.proofs.Laws.{Outside}
 use Rattle.words.proofs.Parts.{getD-sets-out, length-bytes64}
+use Rattle.words.proofs.Holding.{holds-at, holds-left, holds-right, holds-append, holds-ext, holds-sets}
 use Rattle.definitions.proofs.Views.{lt-or-le}
 use Rattle.image.specs.Image.{Child, children-bytes, children-size, size-below, table-by-arrival, table-by-byte}
-use Rattle.image.proofs.Holding.{Holds, holds-at, holds-left, holds-right}
-use Rattle.image.proofs.BytesRead.{holds-append}
-use Rattle.list_writer.proofs.Standing.{holds-ext, holds-sets}
 use Rattle.node_writer.specs.Kids.{no-child}
 use Rattle.node_writer.proofs.Sized.{Sized, sized-take, children-length}
 

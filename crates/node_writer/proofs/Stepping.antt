@@ -10,15 +10,15 @@ use lib.ListN.{length, getD, take, drop, set, length-set, length-take}
 use lib.Seq.{sets, length-sets, getD-set-other, take-suc}
 use lib.Dec.{eqb}
 use Rattle.words.specs.Words.{bytes64}
+use Rattle.words.specs.Holding.{Holds}
 use Rattle.words.proofs.Parts.{getD-sets-out, length-bytes64}
 use Rattle.definitions.proofs.Views.{Eq, eq}
 use Rattle.trie.specs.Trie.{Node, entries-of, forest-nodes, forest-entries}
 use Rattle.tails.specs.Groups.{Group, group-node}
-use Rattle.tails.proofs.Runs.{Run}
-use Rattle.tails.proofs.Budget.{weights}
 use Rattle.image.specs.Kinds.{kind-of}
 use Rattle.image.specs.Image.{Child, children-of, children-size, nodes-in, entries-in, slots-size, node-bytes, node-size}
-use Rattle.image.proofs.Holding.{Holds}
+use Rattle.tails.specs.Runs.{Run}
+use Rattle.tails.specs.Weights.{weights}
 use Rattle.tail_records.specs.Tail.{tails-in}
 use Rattle.tail_records.specs.Found.{no-group}
 use Rattle.tail_records.specs.Ranks.{Apart, rank-of, firsts}

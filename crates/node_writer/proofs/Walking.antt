@@ -9,18 +9,18 @@ use lib.ListN.{length, getD, take}
 use lib.Seq.{length-sets}
 use lib.Dec.{eqb}
 use Rattle.words.specs.Words.{bytes64}
+use Rattle.words.specs.Holding.{Holds}
 use Rattle.words.proofs.Parts.{getD-sets-out, length-bytes64}
+use Rattle.words.proofs.Holding.{holds-sets}
 use Rattle.definitions.proofs.Views.{Eq, eq, lt-or-le}
-use Rattle.trie.proofs.BuildBytes.{Rising}
+use Rattle.trie.specs.Build.{Rising}
 use Rattle.tails.specs.Tails.{Tail}
-use Rattle.tails.specs.Groups.{Group, groups}
-use Rattle.tails.proofs.Groups.{bytes-of}
-use Rattle.tails.proofs.Runs.{Run}
-use Rattle.tails.proofs.Budget.{group-weights}
+use Rattle.tails.specs.Groups.{Group, groups, bytes-of}
 use Rattle.image.specs.Kinds.{kind-of}
 use Rattle.image.specs.Image.{Child, nodes-in, entries-in}
-use Rattle.image.proofs.Holding.{Holds}
 use Rattle.image.proofs.KindRule.{kind-one, kind-two, kind-three}
+use Rattle.tails.specs.Runs.{Run}
+use Rattle.tails.specs.Weights.{group-weights}
 use Rattle.tail_records.specs.Tail.{tail-in, tails-in}
 use Rattle.tail_records.specs.Found.{no-group, Grouped}
 use Rattle.tail_records.specs.Ranks.{Different, Apart, with-rank, firsts}
@@ -28,7 +28,6 @@ use Rattle.tail_records.proofs.Memory.{tails-ext, tails-mem, held-ext}
 use Rattle.tail_records.proofs.Buffer.{grouped-buffer, grouped-memory}
 use Rattle.tail_records.proofs.Arrival.{with-rank-place}
 use Rattle.list_writer.specs.declared.End.{End}
-use Rattle.list_writer.proofs.Standing.{holds-sets}
 use Rattle.node_writer.specs.declared.Table.{Table}
 use Rattle.node_writer.specs.Kids.{kids, sizes}
 use Rattle.node_writer.specs.Turns.{Opened, groups-in, group-in, TurnAsked, Picked}

@@ -4,14 +4,14 @@ use mathlib.Core.Path.{_≡_}
 use mathlib.Core.Logic.{_⊎_}
 use mathlib.Core.List.{List, _∷_}
 use lib.ListN.{length, getD}
+use Rattle.words.specs.Holding.{Holds}
 use Rattle.definitions.specs.Location.{normal}
 use Rattle.trie.specs.Trie.{Lists, entries-of}
 use Rattle.tails.specs.Groups.{locations-of, wholes, below, group-lists, groups}
-use Rattle.tails.proofs.Runs.{Run}
-use Rattle.tails.proofs.Budget.{weights, group-weights}
 use Rattle.image.specs.Kinds.{kind-of}
 use Rattle.image.specs.Image.{lists-bytes, lists-size}
-use Rattle.image.proofs.Holding.{Holds}
+use Rattle.tails.specs.Runs.{Run}
+use Rattle.tails.specs.Weights.{weights, group-weights}
 use Rattle.tail_records.specs.Tail.{tails-in, Held}
 use Rattle.tail_records.specs.Found.{Grouped}
 use Rattle.list_writer.specs.declared.End.{End}

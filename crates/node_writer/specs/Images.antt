@@ -3,13 +3,13 @@ use Prim.Native.Nat.{ℕ, _+_, _*_, _≤_, _<_}
 use mathlib.Core.Path.{_≡_}
 use mathlib.Core.List.{List, [], _∷_}
 use lib.ListN.{length, getD}
+use Rattle.words.specs.Holding.{Holds}
 use Rattle.trie.specs.Trie.{Trie, empty, root, nodes, entries}
 use Rattle.tails.specs.Tails.{Tail}
 use Rattle.tails.specs.Groups.{group-node}
-use Rattle.tails.proofs.Runs.{Run}
-use Rattle.tails.proofs.Budget.{weights}
 use Rattle.image.specs.Image.{image}
-use Rattle.image.proofs.Holding.{Holds}
+use Rattle.tails.specs.Runs.{Run}
+use Rattle.tails.specs.Weights.{weights}
 use Rattle.tail_records.specs.Tail.{tails-in, Held}
 use Rattle.tail_records.specs.Ranks.{Apart}
 use Rattle.list_writer.specs.declared.End.{End}

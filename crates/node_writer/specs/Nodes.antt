@@ -3,16 +3,15 @@ use Prim.Native.Nat.{ℕ, suc, _+_, _-_, _*_, _≤_, _<_}
 use mathlib.Core.Path.{_≡_}
 use mathlib.Core.List.{List, List·Memᴰ}
 use lib.ListN.{length, getD}
+use Rattle.words.specs.Holding.{Holds}
 use Rattle.trie.specs.Trie.{Node, entries-of, forest-nodes, forest-entries}
-use Rattle.trie.proofs.BuildBytes.{Rising}
+use Rattle.trie.specs.Build.{Rising}
 use Rattle.tails.specs.Tails.{Tail}
-use Rattle.tails.specs.Groups.{Group, kept-groups, group-node}
-use Rattle.tails.proofs.Groups.{bytes-of}
-use Rattle.tails.proofs.Runs.{Run}
-use Rattle.tails.proofs.Budget.{weights, group-weights}
+use Rattle.tails.specs.Groups.{Group, kept-groups, group-node, bytes-of}
 use Rattle.image.specs.Kinds.{kind-of}
 use Rattle.image.specs.Image.{Child, children-of, nodes-in, entries-in, table-bytes, table-size, node-bytes, node-size}
-use Rattle.image.proofs.Holding.{Holds}
+use Rattle.tails.specs.Runs.{Run}
+use Rattle.tails.specs.Weights.{weights, group-weights}
 use Rattle.tail_records.specs.Tail.{tails-in, Held}
 use Rattle.tail_records.specs.Found.{Grouped}
 use Rattle.tail_records.specs.Ranks.{Different, Apart}

@@ -4,13 +4,13 @@ use mathlib.Core.Path.{_≡_}
 use mathlib.Core.List.{List, [], _∷_, _++_}
 use lib.ListN.{length, getD}
 use Rattle.words.specs.Words.{bytes64}
+use Rattle.words.specs.Holding.{Holds}
 use Rattle.trie.specs.Trie.{Node, entries-of, forest-nodes, forest-entries}
 use Rattle.tails.specs.Groups.{byte-at, group-lists}
-use Rattle.tails.proofs.Runs.{Run}
-use Rattle.tails.proofs.Budget.{weights}
 use Rattle.image.specs.Kinds.{kind-of}
 use Rattle.image.specs.Image.{children-of, lists-size, node-bytes, node-size}
-use Rattle.image.proofs.Holding.{Holds}
+use Rattle.tails.specs.Runs.{Run}
+use Rattle.tails.specs.Weights.{weights}
 use Rattle.tail_records.specs.Tail.{tail-in, tails-in, Held}
 use Rattle.list_writer.specs.declared.End.{End}
 use Rattle.node_writer.specs.Heads.{Front}

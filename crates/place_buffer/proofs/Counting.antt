@@ -8,8 +8,7 @@ use mathlib.Core.List.{List, [], _∷_, _++_, List·Memᴰ as Mem, List·Memᴰ�
 use lib.ListN.{length}
 use lib.Dec.{eqb}
 use borrow.Author.Tests.{eq-eqb, ne-eqb}
-use Rattle.definitions.specs.Location.{Location, Sorted, normal, location-at, locations-in}
-use Rattle.definitions.proofs.Order.{Less}
+use Rattle.definitions.specs.Location.{Location, Sorted, normal, location-at, locations-in, Less}
 use Rattle.definitions.proofs.Views.{lt-or-le}
 use Rattle.place_buffer.specs.Buffer.{Ascending, Within, There}
 use Rattle.place_buffer.proofs.Sets.{less-irrefl, normal-same, normal-ascending, normal-new}

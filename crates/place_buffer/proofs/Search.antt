@@ -10,8 +10,8 @@ use lib.Seq.{sets}
 use Rattle.sort.specs.Records.{recordAt, records, firstFrom, Ordered}
 use Rattle.sort.proofs.Order.{clash}
 use Rattle.sort.proofs.Lists.{ascending-ordered}
-use Rattle.definitions.specs.Location.{Location, order, is-lt, Sorted, location-at, location-bytes, locations-in}
-use Rattle.definitions.proofs.Order.{Less, Cmp, cmp, less-asym}
+use Rattle.definitions.specs.Location.{Location, order, is-lt, Sorted, location-at, location-bytes, locations-in, Less}
+use Rattle.definitions.proofs.Order.{Cmp, cmp, less-asym}
 use Rattle.location.specs.Fits.{Fits}
 use Rattle.location.proofs.Bytes.{location-written}
 use Rattle.place_buffer.specs.Buffer.{before-count}

@@ -5,8 +5,8 @@ use mathlib.Core.Path.{_≡_, refl, sym, subst}
 use mathlib.Core.Logic.{_⊎_, inl, inr}
 use mathlib.Core.List.{List, [], _∷_, List·Memᴰ as Mem, List·Memᴰ·head as here, List·Memᴰ·tail as later, List·Memᴰ·cases-cons as split, List·Memᴰ·not-nil as not-nil}
 use lib.ListN.{length}
-use Rattle.definitions.specs.Location.{Location, order, placed, insert, normal, Sorted}
-use Rattle.definitions.proofs.Order.{Less, Cmp, cmp, less-asym, mem-normal, normal-mem, sorted-normal, same-lists}
+use Rattle.definitions.specs.Location.{Location, order, placed, insert, normal, Sorted, Less}
+use Rattle.definitions.proofs.Order.{Cmp, cmp, less-asym, mem-normal, normal-mem, sorted-normal, same-lists}
 use Rattle.place_buffer.specs.Buffer.{Within}
 
 -- no place comes before itself

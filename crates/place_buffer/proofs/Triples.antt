@@ -8,8 +8,8 @@ use lib.ListN.{length}
 use Rattle.sort.specs.Records.{recordAt, records, lexLt, sorted, dropRepeats, Ascending}
 use Rattle.sort.proofs.Order.{clash, lex-less, lex-more, lex-same}
 use Rattle.sort.proofs.Lists.{sorted-mem, mem-sorted, sorted-ordered, dropRepeats-mem, mem-dropRepeats, dropRepeats-ascending, ascending-unique}
-use Rattle.definitions.specs.Location.{Location, or-else, order, is-lt, normal, Sorted, location-at, locations-in}
-use Rattle.definitions.proofs.Order.{Tri, tri, Less, Cmp, cmp, location-path, less-asym, mem-normal, normal-mem, sorted-normal}
+use Rattle.definitions.specs.Location.{Location, or-else, order, is-lt, normal, Sorted, location-at, locations-in, Less}
+use Rattle.definitions.proofs.Order.{Tri, tri, Cmp, cmp, location-path, less-asym, mem-normal, normal-mem, sorted-normal}
 use Rattle.place_buffer.proofs.Sets.{less-irrefl}
 
 -- the numbers of a location, as a record

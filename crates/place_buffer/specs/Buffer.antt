@@ -4,8 +4,7 @@ use mathlib.Core.Path.{_≡_}
 use mathlib.Core.Bool.{Bool, true, false, cond}
 use mathlib.Core.List.{List, [], _∷_, _++_, List·Memᴰ}
 use lib.ListN.{length, getD}
-use Rattle.definitions.specs.Location.{Location, order, is-lt, Sorted, normal, locations-in}
-use Rattle.definitions.proofs.Order.{Less}
+use Rattle.definitions.specs.Location.{Location, order, is-lt, Sorted, normal, locations-in, Less}
 use Rattle.place_buffer.specs.declared.Places.{Places}
 
 -- each place comes before each later one

@@ -10,9 +10,8 @@ ghost use Rattle.definitions.specs.Location.{normal, locations-in};
 ghost use Rattle.location.specs.Plain.{plain};
 ghost use Rattle.place_buffer.specs.Buffer.{Ascending, before-count, There, Tidied, Valid, Placed, Taken};
 
-// The places from number base to count - 1 are a set.
+// The places from number base to count - 1 are a set. full: a place had no room, and the set is refused.
 // tight: there is no room, and they ascend, so that a further place is only looked up.
-// full: a place had no room, and the set is refused.
 pub struct Places {
     pub base: usize,
     pub count: usize,

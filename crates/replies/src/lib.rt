@@ -47,6 +47,7 @@ fn put_count(out: &mut [u8], at: usize, word: &[u8], n: u64) -> usize
     put_text(out, b, b")\n")
 }
 
+// The line that says a block was taken.
 pub fn put_taken(out: &mut [u8], at: usize) -> usize
     requires { ⌜ at + 8 ≤ length (now out) ⌝ }
     ensures { λ r. ⌜ Written (now (out .entry)) at (reply-bytes taken) (now (out .exit)) r ⌝ }
@@ -54,6 +55,7 @@ pub fn put_taken(out: &mut [u8], at: usize) -> usize
     put_text(out, at, b"(taken)\n")
 }
 
+// The line that says the index is finished.
 pub fn put_finished(out: &mut [u8], at: usize) -> usize
     requires { ⌜ at + 11 ≤ length (now out) ⌝ }
     ensures { λ r. ⌜ Written (now (out .entry)) at (reply-bytes finished) (now (out .exit)) r ⌝ }
@@ -61,6 +63,7 @@ pub fn put_finished(out: &mut [u8], at: usize) -> usize
     put_text(out, at, b"(finished)\n")
 }
 
+// The line of one place: its address, and the ticks from which and until which it holds.
 pub fn put_place(out: &mut [u8], at: usize, address: u64, created: u64, destroyed: u64) -> usize
     requires { ⌜ at + 71 ≤ length (now out) ⌝ }
     ensures { λ r. ⌜ Written (now (out .entry)) at (reply-bytes (place (record { address = address; created = created; destroyed = destroyed }))) (now (out .exit)) r ⌝ }
@@ -72,6 +75,7 @@ pub fn put_place(out: &mut [u8], at: usize, address: u64, created: u64, destroye
     put_count(out, d, b" ", destroyed)
 }
 
+// The line behind the places, with their number.
 pub fn put_end(out: &mut [u8], at: usize, n: u64) -> usize
     requires { ⌜ at + 27 ≤ length (now out) ⌝ }
     ensures { λ r. ⌜ Written (now (out .entry)) at (reply-bytes (end n)) (now (out .exit)) r ⌝ }
@@ -79,6 +83,7 @@ pub fn put_end(out: &mut [u8], at: usize, n: u64) -> usize
     put_count(out, at, b"(end ", n)
 }
 
+// The line of a refusal, with the number of its cause.
 pub fn put_refused(out: &mut [u8], at: usize, n: u64) -> usize
     requires { ⌜ at + 31 ≤ length (now out) ⌝ }
     ensures { λ r. ⌜ Written (now (out .entry)) at (reply-bytes (refused n)) (now (out .exit)) r ⌝ }

@@ -7,7 +7,9 @@ use mathlib.Core.List.{List}
 use lib.ListN.{length, take, drop}
 use lib.Seq.{sets, length-sets, take-length}
 use borrow.Author.Tests.{lt-ltb, le-ltb, ne-eqb}
+use Rattle.words.specs.Holding.{Holds}
 use Rattle.words.proofs.Parts.{getD-sets-out}
+use Rattle.words.proofs.Holding.{holds-sets}
 use Rattle.definitions.specs.Causes.{save-buffer-too-short}
 use Rattle.definitions.specs.Calls.{Capacity, needed}
 use Rattle.trie.specs.Trie.{nodes, entries}
@@ -17,8 +19,6 @@ use Rattle.image.specs.Reading.{Layout, right}
 use Rattle.image.specs.Savable.{AllBytes, Savable}
 use Rattle.image.proofs.Sizes.{image-size}
 use Rattle.image.proofs.Theorems.{read-image-is}
-use Rattle.image.proofs.Holding.{Holds}
-use Rattle.list_writer.proofs.Standing.{holds-sets}
 use Rattle.index_rule.specs.Check.{check-image}
 use Rattle.index_rule.proofs.Theorems.{check-image-is}
 use Rattle.index_memory.specs.Layout.{Header}

@@ -19,10 +19,11 @@ use Rattle.image.specs.Savable.{AllBytes}
 use Rattle.image_walk.specs.Here.{NodeHere, RootHere}
 use Rattle.image_walk.proofs.Root.{here-root}
 use Rattle.row_buffer.proofs.Standing.{rows-fit, rows-stand, rows-kept}
+use Rattle.image.specs.Reading.{RightImage}
 use Rattle.searching.specs.declared.Finding.{Finding}
 use Rattle.searching.specs.Found.{root-of, rooted}
 use Rattle.searching.specs.Layout.{Sound, TableFound}
-use Rattle.searching.specs.Search.{RightImage, Rows-found, refused, no-rows, Answers, rows-answer, search-answer}
+use Rattle.searching.specs.Search.{Rows-found, refused, no-rows, Answers, rows-answer, search-answer}
 
 -- nothing is found, or a refusal says why
 pub none-answers : {o : Rows-found} {f : Finding} (s : List ℕ) (n : ℕ) → o ≡ refused n → f ≡ no-rows n → Answers o s f

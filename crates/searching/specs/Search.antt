@@ -10,14 +10,7 @@ use Rattle.definitions.specs.Places.{first-of, sizes}
 use Rattle.definitions.specs.Rows.{combine-split-times}
 use Rattle.trie.specs.Trie.{Trie}
 use Rattle.trie.specs.Find.{table-found}
-use Rattle.image.specs.Reading.{read-image, right}
 use Rattle.searching.specs.declared.Finding.{Finding}
-
--- an image whose layout is right
-pub record RightImage (img : List ℕ) : Type 0 where
-  pub nodes : ℕ
-  pub entries : ℕ
-  pub read : read-image img ≡ right nodes entries
 
 -- what a search finds where so many rows have room: the number of a refusal (0 for none), and the rows
 pub record Rows-found : Type 0 where

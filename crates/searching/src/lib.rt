@@ -7,18 +7,18 @@ ghost use mathlib.Core.Bool.{true};
 ghost use Prim.Native.Nat.{_+_, _-_, _*_, _/_, _≤_, _<_};
 ghost use lib.ListN.{length, getD, drop};
 ghost use lib.Dec.{eqb};
-ghost use Rattle.definitions.specs.Location.{Sorted, locations-in};
+ghost use Rattle.definitions.specs.Location.{Sorted, locations-in, Less};
 ghost use Rattle.definitions.specs.Places.{first-of};
 ghost use Rattle.definitions.specs.Rows.{combine-split-times};
-ghost use Rattle.definitions.proofs.Order.{Less};
 ghost use Rattle.trie.specs.Rule.{Rule};
 ghost use Rattle.trie.specs.Find.{joins-each, ends-found};
 ghost use Rattle.image.specs.Held.{trie-in};
 ghost use Rattle.collecting.specs.Collected.{Standing};
 ghost use Rattle.place_buffer.specs.Buffer.{Valid, Taken};
+ghost use Rattle.image.specs.Reading.{RightImage};
 ghost use Rattle.searching.specs.Found.{rooted, last-of, ended-lists, ending-lists, along-from};
 ghost use Rattle.searching.specs.Layout.{Sound, lists-of, Listed, EndsNothing, Ending, Reached, starting, LaidOut, EndFound, AllFound, Tabled, TableFound};
-ghost use Rattle.searching.specs.Search.{RightImage, no-rows, Answers, rows-answer, search-answer};
+ghost use Rattle.searching.specs.Search.{no-rows, Answers, rows-answer, search-answer};
 
 // What is found: the number of a refusal (0 for none), and count rows, which stand in scratch from byte at on.
 pub struct Finding {

@@ -7,7 +7,7 @@ use Rattle.definitions.specs.Blocks.{Block}
 use Rattle.trie.specs.Trie.{trie-pieces}
 use Rattle.trie.specs.Rule.{Rule}
 use Rattle.image.specs.Held.{trie-in}
-use Rattle.image.specs.Reading.{read-image, right}
+use Rattle.image.specs.Reading.{read-image, right, RightImage}
 use Rattle.image.specs.Savable.{AllBytes}
 use Rattle.index_rule.proofs.Theorems.{check-image-is}
 use Rattle.index_memory.specs.Layout.{Header}
@@ -16,7 +16,7 @@ use Rattle.index_memory.specs.Record.{record-by, record-memory}
 use Rattle.finished_memory.proofs.Holds.{part-bytes, part-small}
 use Rattle.inspecting.specs.Held.{RightImage as Tested, ImageIn}
 use Rattle.inspecting.proofs.Facts.{same-part}
-use Rattle.searching.specs.Search.{RightImage, Answers, search-answer}
+use Rattle.searching.specs.Search.{Answers, search-answer}
 use Rattle.searching.specs.declared.Finding.{Finding}
 use Rattle.string_index.specs.Find.{Rows-found, find-pieces}
 use Rattle.string_index.specs.Finish.{finish-by, finish-memory}

@@ -10,8 +10,7 @@ use Rattle.definitions.specs.Location.{Location, moved, normal}
 use Rattle.definitions.specs.Blocks.{Piece}
 use Rattle.definitions.proofs.Order.{normal-mem}
 use Rattle.trie.specs.Trie.{Lists, Forest, leaf, more, Node, Trie, empty, root}
-use Rattle.trie.specs.Build.{Entry, entered-all, in-prefixes, in-chunks, in-suffixes, gather, lists-of, behind, arrivals, kept-order, grow, build, trie-of}
-use Rattle.trie.proofs.BuildBytes.{Rising}
+use Rattle.trie.specs.Build.{Entry, entered-all, in-prefixes, in-chunks, in-suffixes, gather, lists-of, behind, arrivals, kept-order, grow, build, trie-of, Rising}
 use Rattle.trie.proofs.BuildPaths.{put, behind-mem}
 use Rattle.trie.proofs.BuildEntered.{as-piece, EnteredBy, entered-mem}
 use Rattle.trie.proofs.BuildRule.{SoundPiece, apart-build}

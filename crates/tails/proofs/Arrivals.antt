@@ -9,11 +9,11 @@ use lib.ListN.{length, drop}
 use lib.Dec.{eqb}
 use borrow.Author.Tests.{eq-eqb, ne-eqb}
 use Rattle.definitions.proofs.Views.{Eq, eq}
-use Rattle.trie.specs.Build.{arrived, next-byte, arrivals}
-use Rattle.trie.proofs.BuildBytes.{Rising}
+use Rattle.trie.specs.Build.{arrived, next-byte, arrivals, Rising}
 use Rattle.tails.specs.Tails.{Tail}
 use Rattle.tails.specs.Groups.{byte-at}
-use Rattle.tails.proofs.Keep.{keep, keep-mem, Pairs}
+use Rattle.tails.specs.Runs.{Pairs}
+use Rattle.tails.proofs.Keep.{keep, keep-mem}
 use Rattle.tails.proofs.Runs.{goes}
 use Rattle.tails.proofs.Entries.{entries-from, Long, Front, front}
 

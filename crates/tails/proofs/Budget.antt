@@ -14,21 +14,11 @@ use Rattle.definitions.proofs.Views.{Eq, eq}
 use Rattle.trie.specs.Build.{Entry, parts, entered, entered-all}
 use Rattle.tails.specs.Tails.{Tail, numbered, mark-of, tail-record, tail-records}
 use Rattle.tails.specs.Groups.{ends-as, run, after-run, wholes, byte-at, Group, into-group, groups, arrive, by-arrival, kept-groups, below}
+use Rattle.tails.specs.Runs.{Run}
+use Rattle.tails.specs.Weights.{weight, weights, group-weights}
 use Rattle.tails.proofs.Keep.{keep}
-use Rattle.tails.proofs.Runs.{Run, longer, parts-here, wholes-here, below-here}
+use Rattle.tails.proofs.Runs.{longer, parts-here, wholes-here, below-here}
 use Rattle.tails.proofs.Entries.{Long}
-
--- the entries of a tail in the node at depth d and all below it
-abbrev pub weight : ℕ → Tail → ℕ
-weight d t = cond (t .entry .whole) (1 + (length (t .entry .path) - d)) 1
-
-abbrev pub weights : ℕ → List Tail → ℕ
-weights d [] = 0
-weights d (t ∷ ts) = weight d t + weights d ts
-
-abbrev pub group-weights : ℕ → List Group → ℕ
-group-weights d [] = 0
-group-weights d (g ∷ gs) = weights d (g .tails) + group-weights d gs
 
 -- ── groups leave out no tail ──
 

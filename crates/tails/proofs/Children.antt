@@ -8,14 +8,15 @@ use mathlib.Core.List.{List, [], _∷_, List·Memᴰ as Mem, List·Memᴰ·head 
 use lib.ListN.{length}
 use lib.Dec.{leb}
 use Rattle.definitions.proofs.Views.{Le, le}
-use Rattle.trie.specs.Build.{Entry, arrivals, by-byte, ascending, kept-order}
-use Rattle.trie.proofs.BuildBytes.{Rising, ascending-mem, mem-ascending, rising-ascending}
+use Rattle.trie.specs.Build.{Entry, arrivals, by-byte, ascending, kept-order, Rising}
+use Rattle.trie.proofs.BuildBytes.{ascending-mem, mem-ascending, rising-ascending}
 use Rattle.trie.proofs.BuildPaths.{GoesOn, arrivals-mem, mem-arrivals, distinct-arrivals}
 use Rattle.tails.specs.Tails.{Tail}
-use Rattle.tails.specs.Groups.{byte-at, Group, groups, arrive, by-arrival, kept-groups, below}
-use Rattle.tails.proofs.Keep.{keep, keep-mem, SameTails, same-keep, Pairs}
-use Rattle.tails.proofs.Runs.{Run, goes, goes-is}
-use Rattle.tails.proofs.Groups.{bytes-of, mem-bytes, bytes-mem, GroupOf, groups-rising, group-of, byte-goes, goes-byte}
+use Rattle.tails.specs.Groups.{byte-at, Group, groups, arrive, by-arrival, kept-groups, below, bytes-of}
+use Rattle.tails.specs.Runs.{Pairs, Run}
+use Rattle.tails.proofs.Keep.{keep, keep-mem, SameTails, same-keep}
+use Rattle.tails.proofs.Runs.{goes, goes-is}
+use Rattle.tails.proofs.Groups.{mem-bytes, bytes-mem, GroupOf, groups-rising, group-of, byte-goes, goes-byte}
 use Rattle.tails.proofs.Entries.{entries-from, Long, behind-from}
 use Rattle.tails.proofs.Arrivals.{RisingBy, rising-by, rising-unique, Earlier, first-of, first-le, first-there, arrivals-by-first}
 

@@ -15,7 +15,8 @@ use Rattle.definitions.proofs.Order.{location-path}
 use Rattle.definitions.proofs.Views.{lt-or-le}
 use Rattle.trie.proofs.BuildPaths.{entry-path}
 use Rattle.tails.specs.Tails.{Tail, high, mark-of, tail-record}
-use Rattle.tails.proofs.High.{Agree, agree-next, high-agree, high-le, high-same, SoundPath, sound-bytes, bytes-drop}
+use Rattle.tails.specs.Runs.{Agree, SoundPath, Upto}
+use Rattle.tails.proofs.High.{agree-next, high-agree, high-le, high-same, sound-bytes, bytes-drop}
 
 -- ── two halves of a path ──
 
@@ -83,10 +84,6 @@ module _ {x y : ℕ} {xs ys : List ℕ} (h : Le (x ∷ xs) (y ∷ ys)) where
 
   rest-le : x ≡ y → Le xs ys
   rest-le e = record { le = sym (lex-same y x ys xs (omega arith) (omega arith)) ∙ h .le }
-
--- the record of the first is not after that of the second
-abbrev pub Upto : Tail → Tail → Type 0
-Upto t s = Le (tail-record t) (tail-record s)
 
 module _ (t s : Tail) (ht : SoundPath (t .entry .path)) (hs : SoundPath (s .entry .path)) (le : Upto t s) where
   -- where the paths agree below place d, the bytes there are in order

@@ -14,8 +14,9 @@ use Rattle.definitions.proofs.Views.{Eq, eq}
 use Rattle.trie.specs.Build.{Entry, in-prefixes, in-chunks, in-suffixes, gather, lists-of, behind-byte, behind}
 use Rattle.tails.specs.Tails.{Tail}
 use Rattle.tails.specs.Groups.{locations-of, ends-as, run, after-run, wholes, byte-at, below, group-lists}
+use Rattle.tails.specs.Runs.{Run}
 use Rattle.tails.proofs.Keep.{keep, SameTails, same-keep, wholes-keep}
-use Rattle.tails.proofs.Runs.{Run, longer, goes, parts-here, wholes-here, below-here}
+use Rattle.tails.proofs.Runs.{longer, goes, parts-here, wholes-here, below-here}
 
 -- the entries of tails, their paths from depth d on
 abbrev pub entries-from : ℕ → List Tail → List Entry

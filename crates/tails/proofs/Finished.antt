@@ -16,7 +16,7 @@ use Rattle.trie.specs.Build.{entered-all, trie-of}
 use Rattle.trie.proofs.BuildEntered.{as-piece, EnteredBy, entered-mem}
 use Rattle.tails.specs.Tails.{Tail, numbered, tail-record, tail-records}
 use Rattle.tails.specs.Groups.{group-node}
-use Rattle.tails.proofs.High.{SoundPath}
+use Rattle.tails.specs.Runs.{SoundPath}
 use Rattle.tails.proofs.Keep.{SameTails}
 use Rattle.tails.proofs.Grouped.{SoundEntries, grouped}
 

@@ -7,11 +7,11 @@ use Rattle.sort.specs.Records.{Ordered}
 use Rattle.trie.specs.Trie.{leaf, Node}
 use Rattle.trie.specs.Build.{Entry, behind, arrivals, kept-order, grow, build}
 use Rattle.tails.specs.Tails.{Tail, numbered, tail-records}
-use Rattle.tails.specs.Groups.{Group, groups, kept-groups, below, group-forest, group-node}
-use Rattle.tails.proofs.High.{SoundPath}
-use Rattle.tails.proofs.Keep.{keep, SameTails, same-keep, Pairs, pairs-keep}
-use Rattle.tails.proofs.Runs.{Run, run-all, goes}
-use Rattle.tails.proofs.Groups.{bytes-of, group-of, group-run}
+use Rattle.tails.specs.Groups.{Group, groups, kept-groups, below, group-forest, group-node, bytes-of}
+use Rattle.tails.specs.Runs.{SoundPath, Pairs, Run}
+use Rattle.tails.proofs.Keep.{keep, SameTails, same-keep, pairs-keep}
+use Rattle.tails.proofs.Runs.{run-all, goes}
+use Rattle.tails.proofs.Groups.{group-of, group-run}
 use Rattle.tails.proofs.Entries.{entries-from, Long, lists-same, behind-from}
 use Rattle.tails.proofs.Arrivals.{Earlier}
 use Rattle.tails.proofs.Children.{kept-groups-mem, kept-bytes}

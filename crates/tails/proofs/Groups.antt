@@ -8,15 +8,12 @@ use mathlib.Core.List.{List, [], _∷_, List·Memᴰ as Mem, List·Memᴰ·head 
 use lib.Dec.{eqb}
 use borrow.Author.Tests.{eqb-true, eq-eqb, ne-eqb}
 use Rattle.definitions.proofs.Views.{Eq, eq, lt-or-le}
-use Rattle.trie.proofs.BuildBytes.{Rising}
+use Rattle.trie.specs.Build.{Rising}
 use Rattle.tails.specs.Tails.{Tail}
-use Rattle.tails.specs.Groups.{byte-at, Group, into-group, groups, below}
-use Rattle.tails.proofs.Keep.{keep, keep-mem, mem-keep, Pairs, pairs-keep, keep-none, keep-keep}
-use Rattle.tails.proofs.Runs.{Run, longer, goes, goes-is, below-here, bytes-upto, run-goes}
-
-abbrev pub bytes-of : List Group → List ℕ
-bytes-of [] = []
-bytes-of (g ∷ gs) = g .byte ∷ bytes-of gs
+use Rattle.tails.specs.Groups.{byte-at, Group, into-group, groups, below, bytes-of}
+use Rattle.tails.specs.Runs.{Pairs, Run}
+use Rattle.tails.proofs.Keep.{keep, keep-mem, mem-keep, pairs-keep, keep-none, keep-keep}
+use Rattle.tails.proofs.Runs.{longer, goes, goes-is, below-here, bytes-upto, run-goes}
 
 pub mem-bytes : {g : Group} (gs : List Group) → Mem g gs → Mem (g .byte) (bytes-of gs)
 mem-bytes (h ∷ gs) (here e) = here (λ i. e i .byte)

@@ -5,7 +5,7 @@ use native.Mathlib.Nat.{not-suc-le-zero, add-mul, mul-assoc, suc-mul, mul-le-mul
 use native.Mathlib.Omega.{arith}
 use mathlib.Core.Path.{_≡_, refl, sym, ap, _∙_}
 use mathlib.Core.Logic.{_⊎_, inl, inr}
-use mathlib.Core.List.{List, [], _∷_, List·Memᴰ as Mem}
+use mathlib.Core.List.{List, [], _∷_}
 use lib.ListN.{length, getD, drop, List·getD-eq-default}
 use lib.Seq.{getD-drop}
 use Rattle.words.specs.Words.{bytesN, bytes64}
@@ -14,6 +14,7 @@ use Rattle.sort.proofs.Bytes.{Bytes}
 use Rattle.definitions.proofs.Order.{mem-getD}
 use Rattle.definitions.proofs.Views.{lt-or-le}
 use Rattle.tails.specs.Tails.{high}
+use Rattle.tails.specs.Runs.{Agree, SoundPath}
 
 -- ── the first byte and the rest ──
 
@@ -52,10 +53,6 @@ high-lt (suc n) bs h =
     omega (arith, high-cons n bs, high-lt n (drop 1 bs) (bytes-rest bs h), mul-le-mul-right (top n) b)
 
 -- ── two numbers ──
-
--- the same bytes below place n
-abbrev pub Agree : ℕ → List ℕ → List ℕ → Type 0
-Agree n xs ys = (k : ℕ) → k < n → getD xs k 0 ≡ getD ys k 0
 
 agree-rest : (n : ℕ) (xs ys : List ℕ) → Agree (suc n) xs ys → Agree n (drop 1 xs) (drop 1 ys)
 agree-rest n xs ys h k l = getD-rest xs k ∙ h (suc k) (omega arith) ∙ sym (getD-rest ys k)
@@ -165,11 +162,6 @@ unfolding top
 high-small bs h = high-lt 8 bs h
 
 -- ── the two numbers of a path ──
-
--- at most 16 bytes
-pub record SoundPath (path : List ℕ) : Type 0 where
-  pub short : length path ≤ 16
-  pub bytes : (b : ℕ) → Mem b path → b < 256
 
 pub sound-bytes : (path : List ℕ) → SoundPath path → Bytes path
 sound-bytes path s k = go (lt-or-le k (length path))

@@ -6,6 +6,7 @@ use mathlib.Core.List.{List, [], _∷_, List·Memᴰ as Mem, List·Memᴰ·head 
 use Rattle.sort.proofs.Order.{clash}
 use Rattle.tails.specs.Tails.{Tail}
 use Rattle.tails.specs.Groups.{run, after-run, wholes}
+use Rattle.tails.specs.Runs.{Pairs}
 
 abbrev pub keep : (Tail → Bool) → List Tail → List Tail
 keep f [] = []
@@ -51,11 +52,6 @@ same-keep f ts us s = record {
 }
 
 -- ── pairs ──
-
--- every tail stands in R to each one behind it
-abbrev pub Pairs : (Tail → Tail → Type 0) → List Tail → Type 0
-Pairs R [] = Unit {0}
-Pairs R (t ∷ ts) = ((s : Tail) → Mem s ts → R t s) × Pairs R ts
 
 pub pairs-keep : (R : Tail → Tail → Type 0) (f : Tail → Bool) (ts : List Tail) → Pairs R ts → Pairs R (keep f ts)
 pairs-keep R f [] p = tt

@@ -13,9 +13,10 @@ use Rattle.sort.specs.Records.{Le, Ordered}
 use Rattle.sort.proofs.Order.{clash}
 use Rattle.tails.specs.Tails.{Tail, mark-of, tail-record, tail-records}
 use Rattle.tails.specs.Groups.{ends-as, run, after-run, byte-at, below}
-use Rattle.tails.proofs.High.{Agree, agree-next, SoundPath}
-use Rattle.tails.proofs.Compare.{mark-le, Upto, byte-upto, ends-upto}
-use Rattle.tails.proofs.Keep.{keep, Kept, keep-mem, Pairs, pairs-keep, pairs-map, keep-ext, keep-keep, Falling, run-keep, after-keep}
+use Rattle.tails.specs.Runs.{Agree, SoundPath, Upto, Pairs, Run}
+use Rattle.tails.proofs.High.{agree-next}
+use Rattle.tails.proofs.Compare.{mark-le, byte-upto, ends-upto}
+use Rattle.tails.proofs.Keep.{keep, Kept, keep-mem, pairs-keep, pairs-map, keep-ext, keep-keep, Falling, run-keep, after-keep}
 
 -- ── order ──
 
@@ -42,12 +43,6 @@ pairs-ordered (t ∷ ts) p = ((λ r m. go r (record-mem ts m)), pairs-ordered ts
     go r k = subst (Le (tail-record t)) (sym (k .2)) (p .0 (k .0) (k .1))
 
 -- ── sorted tails that share their first d bytes ──
-
-pub record Run (d : ℕ) (ts : List Tail) : Type 0 where
-  pub ordered : Pairs Upto ts
-  pub sound : (t : Tail) → Mem t ts → SoundPath (t .entry .path)
-  pub long : (t : Tail) → Mem t ts → d ≤ length (t .entry .path)
-  pub agree : (t s : Tail) → Mem t ts → Mem s ts → Agree d (t .entry .path) (s .entry .path)
 
 -- all sorted tails share no bytes
 pub run-all : (ts : List Tail) → Ordered (tail-records ts) → ((t : Tail) → Mem t ts → SoundPath (t .entry .path)) → Run 0 ts

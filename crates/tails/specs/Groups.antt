@@ -46,6 +46,11 @@ pub record Group : Type 0 where
   pub first : ℕ
   pub tails : List Tail
 
+-- the byte of each group
+abbrev pub bytes-of : List Group → List ℕ
+bytes-of [] = []
+bytes-of (g ∷ gs) = g .byte ∷ bytes-of gs
+
 -- a tail put in front of groups: into the first, where that has its byte
 abbrev pub into-group : ℕ → Tail → List Group → List Group
 into-group d t [] = record { byte = byte-at d t; first = t .arrival; tails = t ∷ [] } ∷ []

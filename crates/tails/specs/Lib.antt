@@ -1,2 +1,4 @@
 pub mod Tails
 pub mod Groups
+pub mod Weights
+pub mod Runs

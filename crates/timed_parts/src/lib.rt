@@ -6,9 +6,9 @@ ghost use lib.ListN.{length};
 ghost use Rattle.trie.specs.Rule.{Rule};
 ghost use Rattle.image.specs.Answers.{layout-of};
 ghost use Rattle.image.specs.Held.{trie-in};
-ghost use Rattle.image.specs.Reading.{read-image};
+ghost use Rattle.image.specs.Reading.{read-image, RightImage};
 ghost use Rattle.index_rule.specs.Check.{check-image};
-ghost use Rattle.searching.specs.Search.{RightImage, search-answer};
+ghost use Rattle.searching.specs.Search.{search-answer};
 ghost use Rattle.timed_parts.specs.Parts.{refusal-of, row-count};
 
 fn number(l: Layout) -> u64

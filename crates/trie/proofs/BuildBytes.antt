@@ -8,17 +8,12 @@ use mathlib.Core.List.{List, [], _∷_, List·Memᴰ as Mem, List·Memᴰ·head 
 use lib.ListN.{length}
 use lib.Dec.{leb, eqb}
 use Rattle.definitions.proofs.Views.{Eq, eq, Le, le}
-use Rattle.trie.specs.Build.{arrived, by-byte, ascending, kept-order}
+use Rattle.trie.specs.Build.{arrived, by-byte, ascending, kept-order, Rising}
 
 -- no byte twice
 abbrev pub Distinct : List ℕ → Type 0
 Distinct [] = Unit {0}
 Distinct (b ∷ bs) = (Mem b bs → ⊥) × Distinct bs
-
--- each below all behind it
-abbrev pub Rising : List ℕ → Type 0
-Rising [] = Unit {0}
-Rising (b ∷ bs) = ((c : ℕ) → Mem c bs → b < c) × Rising bs
 
 -- ── by arrival ──
 

@@ -9,8 +9,8 @@ use lib.ListN.{length, drop}
 use Rattle.definitions.specs.Location.{Location}
 use Rattle.definitions.specs.Blocks.{Piece}
 use Rattle.trie.specs.Trie.{Forest, leaf, more, Node, Trie, empty, root}
-use Rattle.trie.specs.Build.{Entry, entered-all, behind, arrivals, grow, build, trie-of}
-use Rattle.trie.proofs.BuildBytes.{Rising, kept-rising}
+use Rattle.trie.specs.Build.{Entry, entered-all, behind, arrivals, grow, build, trie-of, Rising}
+use Rattle.trie.proofs.BuildBytes.{kept-rising}
 use Rattle.trie.proofs.BuildPaths.{put, behind-mem, GoesOn, distinct-arrivals, onward, onward-mem}
 use Rattle.trie.proofs.BuildEntered.{as-piece, EnteredBy, entered-mem}
 

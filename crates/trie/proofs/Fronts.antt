@@ -9,7 +9,6 @@ use mathlib.Core.Option.{Option, none, some}
 use lib.Dec.{eqb}
 use borrow.Author.Tests.{eq-eqb}
 use Rattle.definitions.specs.Location.{Location, moved, Sorted}
-use Rattle.definitions.proofs.Order.{Less}
 use Rattle.definitions.proofs.Views.{Eq, eq}
 use Rattle.trie.specs.Trie.{Lists, Forest, leaf, more, Node, child, child-of, walk, node-at, IsNode}
 use Rattle.trie.specs.Rule.{Absent, Apart}

@@ -11,9 +11,9 @@ use lib.ListN.{length, length-append}
 use lib.Seq.{append-snoc}
 use lib.Dec.{ltb, leb, eqb}
 use borrow.Author.Tests.{ltb-true, lt-ltb, leb-true, le-leb}
-use Rattle.definitions.specs.Location.{Location, moved, Sorted}
+use Rattle.definitions.specs.Location.{Location, moved, Sorted, Less}
 use Rattle.definitions.specs.Calls.{last-number}
-use Rattle.definitions.proofs.Order.{Less, location-path}
+use Rattle.definitions.proofs.Order.{location-path}
 use Rattle.definitions.proofs.Views.{Eq, eq}
 use Rattle.trie.specs.Trie.{Lists, Forest, leaf, more, Node, child, child-of, walk, node-at, IsNode, lists-or-none, lists-at}
 use Rattle.trie.specs.Rule.{Absent, Apart, Has, ListsSorted, Passes, NodeRule}

@@ -7,8 +7,8 @@ use mathlib.Core.Logic.{_⊎_, inl, inr, _↔_}
 use mathlib.Core.List.{List, [], _∷_, List·Memᴰ as Mem, List·Memᴰ·head as here, List·Memᴰ·tail as later, List·Memᴰ·cases-cons as split, List·Memᴰ·not-nil as not-nil, Memᴰ·cast as cast}
 use lib.Dec.{leb, isEq}
 use borrow.Author.Tests.{leb-true, le-leb}
-use Rattle.definitions.specs.Location.{Location, moved, order, is-lt, Sorted}
-use Rattle.definitions.proofs.Order.{Less, less-asym, less-trans, Cmp, cmp, location-path}
+use Rattle.definitions.specs.Location.{Location, moved, order, is-lt, Sorted, Less}
+use Rattle.definitions.proofs.Order.{less-asym, less-trans, Cmp, cmp, location-path}
 use Rattle.trie.specs.Test.{is-ascending, ascending-from, and-list, moved-back, begins, step-over, any-begins, step-over-all, is-nil, all-ended, is-union}
 
 -- ── a conjunction that holds ──

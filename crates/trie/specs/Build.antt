@@ -1,7 +1,7 @@
 -- The trie that a log of pieces makes: children by first arrival, lists sorted and without repeats. Assumes nothing.
-use Prim.Native.Nat.{ℕ, zero, suc, _+_}
+use Prim.Native.Nat.{ℕ, zero, suc, _+_, _<_}
 use mathlib.Core.Bool.{Bool, true, false, cond}
-use mathlib.Core.List.{List, [], _∷_, _++_}
+use mathlib.Core.List.{List, [], _∷_, _++_, List·Memᴰ}
 use lib.ListN.{length}
 use lib.Dec.{eqb, leb}
 use Rattle.definitions.specs.Location.{Location, moved, normal}
@@ -87,6 +87,11 @@ by-byte b (c ∷ cs) = cond (leb b c) (b ∷ c ∷ cs) (c ∷ by-byte b cs)
 abbrev pub ascending : List ℕ → List ℕ
 ascending [] = []
 ascending (b ∷ bs) = by-byte b (ascending bs)
+
+-- each below all behind it
+abbrev pub Rising : List ℕ → Type 0
+Rising [] = Unit {0}
+Rising (b ∷ bs) = ((c : ℕ) → List·Memᴰ c bs → b < c) × Rising bs
 
 -- an image keeps the arrival of at most 96 children; more are kept by byte
 abbrev pub kept-order : List ℕ → List ℕ

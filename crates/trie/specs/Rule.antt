@@ -4,9 +4,8 @@ use mathlib.Core.Path.{_≡_}
 use mathlib.Core.Logic.{_↔_}
 use mathlib.Core.List.{List, [], _∷_, _++_, List·Memᴰ}
 use lib.ListN.{length, drop}
-use Rattle.definitions.specs.Location.{Location, moved, order, Sorted}
+use Rattle.definitions.specs.Location.{Location, moved, order, Sorted, Less}
 use Rattle.definitions.specs.Calls.{last-number}
-use Rattle.definitions.proofs.Order.{Less}
 use Rattle.trie.specs.Trie.{Lists, Forest, leaf, more, Node, Trie, empty, root, IsNode, lists-at}
 
 -- sibling bytes differ: the byte is not among these siblings

@@ -20,7 +20,7 @@ index-rule-requires : tie.Need-index-rule-requires
 index-rule-requires c κs =
     let t = c .before .t .given in
     let q = ap layout-of (sym (t .1)) ∙ c .before .before .before .read-image .ensures in
-    record { nodes = _; entries = _; is = sym q }
+    record { nodes = _; entries = _; read = sym q }
 
 returns : tie.Need-returns
 returns c = check-refused (now (c .before .before .before .before .before .args .s)) _ (ap layout-of (sym (c .before .n .given .1)) ∙ c .before .before .before .read-image .ensures)

@@ -1,0 +1,67 @@
+-- Bytes that stand in a list: parts of them, numbers read where they stand, those just written, and those that a write elsewhere leaves.
+-- Assumes nothing.
+use Prim.Native.Nat.{ℕ, zero, suc, _+_, _/_, _^_, _≤_, _<_}
+use native.Mathlib.Omega.{arith}
+use mathlib.Core.Path.{_≡_, refl, sym, subst, _∙_}
+use mathlib.Core.Logic.{inl}
+use mathlib.Core.List.{List, [], _∷_, _++_}
+use lib.ListN.{length, getD, set, length-set}
+use lib.Seq.{sets, getD-set-same}
+use Rattle.words.specs.Words.{leN, bytesN, le64, bytes64}
+use Rattle.words.specs.Holding.{Holds}
+use Rattle.words.proofs.Laws.{top}
+use Rattle.words.proofs.Parts.{getD-sets-out}
+
+pub holds-at : (s : List ℕ) (a b : ℕ) (xs : List ℕ) → a ≡ b → Holds s a xs → Holds s b xs
+holds-at s a b xs e h = subst (λ (n : ℕ). Holds s n xs) e h
+
+pub holds-left : (s : List ℕ) (at : ℕ) (xs ys : List ℕ) → Holds s at (xs ++ ys) → Holds s at xs
+unfolding Holds
+holds-left s at [] ys h = tt
+holds-left s at (x ∷ xs) ys h = (h .0, holds-left s (at + 1) xs ys (h .1))
+
+pub holds-right : (s : List ℕ) (at n : ℕ) (xs ys : List ℕ) → length xs ≡ n → Holds s at (xs ++ ys) → Holds s (at + n) ys
+unfolding Holds
+holds-right s at n [] ys e h = holds-at s at (at + n) ys (omega arith) h
+holds-right s at n (x ∷ xs) ys e h = holds-at s (at + 1 + length xs) (at + n) ys (omega arith) (holds-right s (at + 1) (length xs) xs ys refl (h .1))
+
+-- the bytes of a number are read back
+holds-leN : (k : ℕ) (s : List ℕ) (at n : ℕ) → n < top k → Holds s at (bytesN k n) → leN k s at ≡ n
+unfolding Holds bytesN leN top
+holds-leN zero s at n b h = omega arith
+holds-leN (suc k) s at n b h = omega (arith, h .0, holds-leN k s (at + 1) (n / 256) (omega arith) (h .1))
+
+pub holds-le : (s : List ℕ) (at n : ℕ) → n < 2 ^ 64 → Holds s at (bytes64 n) → n ≡ le64 s at
+unfolding bytes64 le64 top
+holds-le s at n b h = sym (holds-leN 8 s at n b h)
+
+pub holds-append : (s : List ℕ) (at n : ℕ) (xs ys : List ℕ) → length xs ≡ n → Holds s at xs → Holds s (at + n) ys → Holds s at (xs ++ ys)
+unfolding Holds
+holds-append s at n [] ys e h g = holds-at s (at + n) at ys (omega arith) g
+holds-append s at n (x ∷ xs) ys e h g =
+    (h .0, holds-append s (at + 1) (length xs) xs ys refl (h .1) (holds-at s (at + n) (at + 1 + length xs) ys (omega arith) g))
+
+pub holds-get : (s : List ℕ) (at : ℕ) (xs : List ℕ) (i : ℕ) → Holds s at xs → i < length xs → getD xs i 0 ≡ getD s (at + i) 0
+unfolding Holds
+holds-get s at [] i h l = absurd (omega arith)
+holds-get s at (x ∷ xs) zero h l = let z : at + 0 ≡ at = omega arith in rw z (sym (h .0))
+holds-get s at (x ∷ xs) (suc i) h l = let z : at + suc i ≡ at + 1 + i = omega arith in rw z (holds-get s (at + 1) xs i (h .1) (omega arith))
+
+-- the same bytes there
+pub holds-ext : (s s′ : List ℕ) (at : ℕ) (xs : List ℕ) → ((k : ℕ) → at ≤ k → k < at + length xs → getD s′ k 0 ≡ getD s k 0) → Holds s at xs → Holds s′ at xs
+unfolding Holds
+holds-ext s s′ at [] f h = tt
+holds-ext s s′ at (x ∷ xs) f h =
+    (f at (omega arith) (omega arith) ∙ h .0, holds-ext s s′ (at + 1) xs (λ k a b. f k (omega arith) (omega arith)) (h .1))
+
+-- what was written stands there
+pub holds-sets : (ys s : List ℕ) (at : ℕ) → at + length ys ≤ length s → Holds (sets s at ys) at ys
+unfolding Holds
+holds-sets [] s at h = tt
+holds-sets (y ∷ ys) s at h =
+    let e : suc at ≡ at + 1 = omega arith in
+    let s₁ : List ℕ = set s at y in
+    let n : length s₁ ≡ length s = length-set s at y in (
+      getD-sets-out ys s₁ (suc at) at (inl (omega arith)) ∙ getD-set-same s at y 0 (omega arith),
+      holds-at (sets s₁ (suc at) ys) (suc at) (at + 1) ys e (holds-sets ys s₁ (suc at) (omega arith)),
+    )
