@@ -5,4 +5,5 @@ pub mod ReadFinished
 pub mod Theorem
 pub mod Finding
 pub mod Searched
+pub mod HandsOver
 pub mod Calling

@@ -60,99 +60,39 @@ collect-children-below t =
     (falls 2 collect-children-kinds.ps _<_ μ-collect-children t)
     collect-children.Pre
 
+abbrev collect-all-substrings-claims : ℕ → collect-all-substrings-lts.Claims
+collect-all-substrings-claims t = (node-at-reads.Asked, node-at-reads.Learnt, take-list-reads.Asked, take-list-reads.Learnt, collect-children-below t, collect-children.Post)
+
 collect-all-substrings-node-at-requires :
-    (t : ℕ) → collect-all-substrings-lts.Need-node-at-requires (
-      node-at-reads.Asked,
-      node-at-reads.Learnt,
-      take-list-reads.Asked,
-      take-list-reads.Learnt,
-      collect-children-below t,
-      collect-children.Post,
-    ) (collect-all-substrings-at t) collect-all-substrings.Post
+    (t : ℕ) → collect-all-substrings-lts.Need-node-at-requires (collect-all-substrings-claims t) (collect-all-substrings-at t) collect-all-substrings.Post
 collect-all-substrings-node-at-requires t c κs = standing-laid (c .before .before .pre .1 .0)
 
 collect-all-substrings-take-list-requires :
-    (t : ℕ) → collect-all-substrings-lts.Need-take-list-requires (
-      node-at-reads.Asked,
-      node-at-reads.Learnt,
-      take-list-reads.Asked,
-      take-list-reads.Learnt,
-      collect-children-below t,
-      collect-children.Post,
-    ) (collect-all-substrings-at t) collect-all-substrings.Post
+    (t : ℕ) → collect-all-substrings-lts.Need-take-list-requires (collect-all-substrings-claims t) (collect-all-substrings-at t) collect-all-substrings.Post
 collect-all-substrings-take-list-requires t c κs = (prefixes-within (c .before .node-at .ensures) (standing-laid (c .before .before .before .before .pre .1 .0)), c .before .before .before .before .pre .1 .1)
 
 collect-all-substrings-take-list-requires-2 :
-    (t : ℕ) → collect-all-substrings-lts.Need-take-list-requires-2 (
-      node-at-reads.Asked,
-      node-at-reads.Learnt,
-      take-list-reads.Asked,
-      take-list-reads.Learnt,
-      collect-children-below t,
-      collect-children.Post,
-    ) (collect-all-substrings-at t) collect-all-substrings.Post
+    (t : ℕ) → collect-all-substrings-lts.Need-take-list-requires-2 (collect-all-substrings-claims t) (collect-all-substrings-at t) collect-all-substrings.Post
 collect-all-substrings-take-list-requires-2 t c κs = (chunks-within (c .before .before .before .before .before .node-at .ensures) (standing-laid (c .before .before .before .before .before .before .before .before .pre .1 .0)), c .before .before .before .take-list .ensures .valid)
 
-collect-all-substrings-same-length : (t : ℕ) → collect-all-substrings-lts.Need-same-length (
-  node-at-reads.Asked,
-  node-at-reads.Learnt,
-  take-list-reads.Asked,
-  take-list-reads.Learnt,
-  collect-children-below t,
-  collect-children.Post,
-) (collect-all-substrings-at t) collect-all-substrings.Post
+collect-all-substrings-same-length : (t : ℕ) → collect-all-substrings-lts.Need-same-length (collect-all-substrings-claims t) (collect-all-substrings-at t) collect-all-substrings.Post
 collect-all-substrings-same-length t c = search needs
 
-collect-all-substrings-returns : (t : ℕ) → collect-all-substrings-lts.Need-returns (
-  node-at-reads.Asked,
-  node-at-reads.Learnt,
-  take-list-reads.Asked,
-  take-list-reads.Learnt,
-  collect-children-below t,
-  collect-children.Post,
-) (collect-all-substrings-at t) collect-all-substrings.Post
+collect-all-substrings-returns : (t : ℕ) → collect-all-substrings-lts.Need-returns (collect-all-substrings-claims t) (collect-all-substrings-at t) collect-all-substrings.Post
 collect-all-substrings-returns t c = collected-leaf (c .before .before .before .before .before .before .before .before .before .node-at .ensures) (c .before .before .before .take-list2 .ensures) (c .if1 .taken) (c .before .before .before .before .before .before .before .take-list .ensures)
 
 collect-all-substrings-sub-collect-children :
-    (t : ℕ) → collect-all-substrings-lts.Need-sub-collect-children (
-      node-at-reads.Asked,
-      node-at-reads.Learnt,
-      take-list-reads.Asked,
-      take-list-reads.Learnt,
-      collect-children-below t,
-      collect-children.Post,
-    ) (collect-all-substrings-at t) collect-all-substrings.Post
+    (t : ℕ) → collect-all-substrings-lts.Need-sub-collect-children (collect-all-substrings-claims t) (collect-all-substrings-at t) collect-all-substrings.Post
 collect-all-substrings-sub-collect-children t c = search needs
 
 collect-all-substrings-collect-children-requires :
-    (t : ℕ) → collect-all-substrings-lts.Need-collect-children-requires (
-      node-at-reads.Asked,
-      node-at-reads.Learnt,
-      take-list-reads.Asked,
-      take-list-reads.Learnt,
-      collect-children-below t,
-      collect-children.Post,
-    ) (collect-all-substrings-at t) collect-all-substrings.Post
+    (t : ℕ) → collect-all-substrings-lts.Need-collect-children-requires (collect-all-substrings-claims t) (collect-all-substrings-at t) collect-all-substrings.Post
 collect-all-substrings-collect-children-requires t c κs = (omega arith, (siblings-of (c .before .before .before .before .before .before .before .before .before .before .node-at .ensures) (c .before .before .before .before .before .before .before .before .before .before .before .before .before .pre .1 .0) (c .before .if1 .left), c .before .before .before .before .take-list2 .ensures .valid))
 
-collect-all-substrings-same-length-2 : (t : ℕ) → collect-all-substrings-lts.Need-same-length-2 (
-  node-at-reads.Asked,
-  node-at-reads.Learnt,
-  take-list-reads.Asked,
-  take-list-reads.Learnt,
-  collect-children-below t,
-  collect-children.Post,
-) (collect-all-substrings-at t) collect-all-substrings.Post
+collect-all-substrings-same-length-2 : (t : ℕ) → collect-all-substrings-lts.Need-same-length-2 (collect-all-substrings-claims t) (collect-all-substrings-at t) collect-all-substrings.Post
 collect-all-substrings-same-length-2 t c = search needs
 
-collect-all-substrings-returns-2 : (t : ℕ) → collect-all-substrings-lts.Need-returns-2 (
-  node-at-reads.Asked,
-  node-at-reads.Learnt,
-  take-list-reads.Asked,
-  take-list-reads.Learnt,
-  collect-children-below t,
-  collect-children.Post,
-) (collect-all-substrings-at t) collect-all-substrings.Post
+collect-all-substrings-returns-2 : (t : ℕ) → collect-all-substrings-lts.Need-returns-2 (collect-all-substrings-claims t) (collect-all-substrings-at t) collect-all-substrings.Post
 collect-all-substrings-returns-2 t c =
     collected-below (c .before .before .before .before .before .before .before .before .before .before .before .before .before .node-at .ensures) (c .before .before .before .before .before .before .before .take-list2 .ensures) (c .before .before .before .before .if1 .left) (c .before .before .before .before .before .before .before .before .before .before .before .take-list .ensures)
     (c .before .before .collect-children .ensures)
@@ -163,85 +103,38 @@ collect-children-Inv-loop img table children left scratch₀ r₀ i₀ scratch r
 abbrev collect-children-μ-loop : collect-children-lts.MeasureT-loop
 collect-children-μ-loop img table children left scratch₀ r₀ i₀ scratch r i = children - i
 
-collect-children-loop-holds : (t : ℕ) → collect-children-lts.Need-loop-holds (
-  slot-in-reads.Asked,
-  slot-in-reads.Learnt,
-  collect-all-substrings-below t,
-  collect-all-substrings.Post,
-) (collect-children-at t) collect-children.Post collect-children-Inv-loop collect-children-μ-loop
+abbrev collect-children-claims : ℕ → collect-children-lts.Claims
+collect-children-claims t = (slot-in-reads.Asked, slot-in-reads.Learnt, collect-all-substrings-below t, collect-all-substrings.Post)
+
+collect-children-loop-holds : (t : ℕ) → collect-children-lts.Need-loop-holds (collect-children-claims t) (collect-children-at t) collect-children.Post collect-children-Inv-loop collect-children-μ-loop
 collect-children-loop-holds t c = passing-none _ _ _ (c .before .before .pre .1 .1)
 
-collect-children-same-length : (t : ℕ) → collect-children-lts.Need-same-length (
-  slot-in-reads.Asked,
-  slot-in-reads.Learnt,
-  collect-all-substrings-below t,
-  collect-all-substrings.Post,
-) (collect-children-at t) collect-children.Post collect-children-Inv-loop collect-children-μ-loop
+collect-children-same-length : (t : ℕ) → collect-children-lts.Need-same-length (collect-children-claims t) (collect-children-at t) collect-children.Post collect-children-Inv-loop collect-children-μ-loop
 collect-children-same-length t c = passing-taken (c .before .before .loop .inv) (c .before .before .before .before .before .pre .1 .0) .same-length
 
-collect-children-returns : (t : ℕ) → collect-children-lts.Need-returns (
-  slot-in-reads.Asked,
-  slot-in-reads.Learnt,
-  collect-all-substrings-below t,
-  collect-all-substrings.Post,
-) (collect-children-at t) collect-children.Post collect-children-Inv-loop collect-children-μ-loop
+collect-children-returns : (t : ℕ) → collect-children-lts.Need-returns (collect-children-claims t) (collect-children-at t) collect-children.Post collect-children-Inv-loop collect-children-μ-loop
 collect-children-returns t c = passing-refused (c .before .before .loop .inv) (c .if1 .taken)
 
-collect-children-add-i : (t : ℕ) → collect-children-lts.Need-add-i (
-  slot-in-reads.Asked,
-  slot-in-reads.Learnt,
-  collect-all-substrings-below t,
-  collect-all-substrings.Post,
-) (collect-children-at t) collect-children.Post collect-children-Inv-loop collect-children-μ-loop
+collect-children-add-i : (t : ℕ) → collect-children-lts.Need-add-i (collect-children-claims t) (collect-children-at t) collect-children.Post collect-children-Inv-loop collect-children-μ-loop
 collect-children-add-i t c = search needs
 
-collect-children-slot-in-requires : (t : ℕ) → collect-children-lts.Need-slot-in-requires (
-  slot-in-reads.Asked,
-  slot-in-reads.Learnt,
-  collect-all-substrings-below t,
-  collect-all-substrings.Post,
-) (collect-children-at t) collect-children.Post collect-children-Inv-loop collect-children-μ-loop
+collect-children-slot-in-requires : (t : ℕ) → collect-children-lts.Need-slot-in-requires (collect-children-claims t) (collect-children-at t) collect-children.Post collect-children-Inv-loop collect-children-μ-loop
 collect-children-slot-in-requires t c κs = (c .before .before .before .before .before .pre .1 .0 .bounds, omega arith)
 
-collect-children-enum-told : (t : ℕ) → collect-children-lts.Need-enum-told (
-  slot-in-reads.Asked,
-  slot-in-reads.Learnt,
-  collect-all-substrings-below t,
-  collect-all-substrings.Post,
-) (collect-children-at t) collect-children.Post collect-children-Inv-loop collect-children-μ-loop
+collect-children-enum-told : (t : ℕ) → collect-children-lts.Need-enum-told (collect-children-claims t) (collect-children-at t) collect-children.Post collect-children-Inv-loop collect-children-μ-loop
 collect-children-enum-told t c = search needs
 
-collect-children-loop-less : (t : ℕ) → collect-children-lts.Need-loop-less (
-  slot-in-reads.Asked,
-  slot-in-reads.Learnt,
-  collect-all-substrings-below t,
-  collect-all-substrings.Post,
-) (collect-children-at t) collect-children.Post collect-children-Inv-loop collect-children-μ-loop
+collect-children-loop-less : (t : ℕ) → collect-children-lts.Need-loop-less (collect-children-claims t) (collect-children-at t) collect-children.Post collect-children-Inv-loop collect-children-μ-loop
 collect-children-loop-less t c = omega arith
 
-collect-children-loop-again : (t : ℕ) → collect-children-lts.Need-loop-again (
-  slot-in-reads.Asked,
-  slot-in-reads.Learnt,
-  collect-all-substrings-below t,
-  collect-all-substrings.Post,
-) (collect-children-at t) collect-children.Post collect-children-Inv-loop collect-children-μ-loop
+collect-children-loop-again : (t : ℕ) → collect-children-lts.Need-loop-again (collect-children-claims t) (collect-children-at t) collect-children.Post collect-children-Inv-loop collect-children-μ-loop
 collect-children-loop-again t c = passing-empty (c .before .before .before .before .before .loop .inv) (omega arith) (ap entry-of-answer (sym (c .enum-told .given .1)) ∙ c .before .before .slot-in .ensures)
 
-collect-children-enum-known-at : (t : ℕ) → collect-children-lts.Need-enum-known-at (
-  slot-in-reads.Asked,
-  slot-in-reads.Learnt,
-  collect-all-substrings-below t,
-  collect-all-substrings.Post,
-) (collect-children-at t) collect-children.Post collect-children-Inv-loop collect-children-μ-loop
+collect-children-enum-known-at : (t : ℕ) → collect-children-lts.Need-enum-known-at (collect-children-claims t) (collect-children-at t) collect-children.Post collect-children-Inv-loop collect-children-μ-loop
 collect-children-enum-known-at t c = search needs
 
 collect-children-collect-all-substrings-requires :
-    (t : ℕ) → collect-children-lts.Need-collect-all-substrings-requires (
-      slot-in-reads.Asked,
-      slot-in-reads.Learnt,
-      collect-all-substrings-below t,
-      collect-all-substrings.Post,
-    )
+    (t : ℕ) → collect-children-lts.Need-collect-all-substrings-requires (collect-children-claims t)
     (collect-children-at t)
     collect-children.Post
     collect-children-Inv-loop
@@ -250,50 +143,23 @@ collect-children-collect-all-substrings-requires t c κs =
     let e = ap entry-of-answer (sym (c .before .before .at .given .1)) ∙ c .before .before .before .before .slot-in .ensures in
     (omega arith, (passing-stands (c .before .before .before .before .before .before .before .loop .inv) (omega arith) e (c .before .before .before .before .before .before .before .before .before .before .pre .1 .0), passing-taken (c .before .before .before .before .before .before .before .loop .inv) (c .before .before .before .before .before .before .before .before .before .before .pre .1 .0) .valid))
 
-collect-children-loop-less-2 : (t : ℕ) → collect-children-lts.Need-loop-less-2 (
-  slot-in-reads.Asked,
-  slot-in-reads.Learnt,
-  collect-all-substrings-below t,
-  collect-all-substrings.Post,
-) (collect-children-at t) collect-children.Post collect-children-Inv-loop collect-children-μ-loop
+collect-children-loop-less-2 : (t : ℕ) → collect-children-lts.Need-loop-less-2 (collect-children-claims t) (collect-children-at t) collect-children.Post collect-children-Inv-loop collect-children-μ-loop
 collect-children-loop-less-2 t c = omega arith
 
-collect-children-loop-again-2 : (t : ℕ) → collect-children-lts.Need-loop-again-2 (
-  slot-in-reads.Asked,
-  slot-in-reads.Learnt,
-  collect-all-substrings-below t,
-  collect-all-substrings.Post,
-) (collect-children-at t) collect-children.Post collect-children-Inv-loop collect-children-μ-loop
+collect-children-loop-again-2 : (t : ℕ) → collect-children-lts.Need-loop-again-2 (collect-children-claims t) (collect-children-at t) collect-children.Post collect-children-Inv-loop collect-children-μ-loop
 collect-children-loop-again-2 t c =
     let e = ap entry-of-answer (sym (c .before .before .before .before .before .at .given .1)) ∙ c .before .before .before .before .before .before .before .slot-in .ensures in
     passing-child (c .before .before .before .before .before .before .before .before .before .before .loop .inv) (omega arith) e (c .before .before .collect-all-substrings .ensures)
 
-collect-children-same-length-2 : (t : ℕ) → collect-children-lts.Need-same-length-2 (
-  slot-in-reads.Asked,
-  slot-in-reads.Learnt,
-  collect-all-substrings-below t,
-  collect-all-substrings.Post,
-) (collect-children-at t) collect-children.Post collect-children-Inv-loop collect-children-μ-loop
+collect-children-same-length-2 : (t : ℕ) → collect-children-lts.Need-same-length-2 (collect-children-claims t) (collect-children-at t) collect-children.Post collect-children-Inv-loop collect-children-μ-loop
 collect-children-same-length-2 t c = passing-taken (c .before .loop .inv) (c .before .before .before .before .pre .1 .0) .same-length
 
-collect-children-returns-2 : (t : ℕ) → collect-children-lts.Need-returns-2 (
-  slot-in-reads.Asked,
-  slot-in-reads.Learnt,
-  collect-all-substrings-below t,
-  collect-all-substrings.Post,
-) (collect-children-at t) collect-children.Post collect-children-Inv-loop collect-children-μ-loop
+collect-children-returns-2 : (t : ℕ) → collect-children-lts.Need-returns-2 (collect-children-claims t) (collect-children-at t) collect-children.Post collect-children-Inv-loop collect-children-μ-loop
 collect-children-returns-2 t c = passing-done (c .before .loop .inv) (c .loop-test .left)
 
 pub +collect-all-substrings+collect-children-spec : {M : Type 1} → statement M
 +collect-all-substrings+collect-children-spec =
-    close μ-collect-all-substrings μ-collect-children (λ t. collect-all-substrings-lts.spec (
-      node-at-reads.Asked,
-      node-at-reads.Learnt,
-      take-list-reads.Asked,
-      take-list-reads.Learnt,
-      collect-children-below t,
-      collect-children.Post,
-    )
+    close μ-collect-all-substrings μ-collect-children (λ t. collect-all-substrings-lts.spec (collect-all-substrings-claims t)
     (collect-all-substrings-at t)
     collect-all-substrings.Post
     (collect-all-substrings-node-at-requires t)
@@ -305,12 +171,7 @@ pub +collect-all-substrings+collect-children-spec : {M : Type 1} → statement M
     (collect-all-substrings-collect-children-requires t)
     (collect-all-substrings-same-length-2 t)
     (collect-all-substrings-returns-2 t))
-    λ t. collect-children-lts.spec (
-      slot-in-reads.Asked,
-      slot-in-reads.Learnt,
-      collect-all-substrings-below t,
-      collect-all-substrings.Post,
-    )
+    λ t. collect-children-lts.spec (collect-children-claims t)
     (collect-children-at t)
     collect-children.Post
     collect-children-Inv-loop

@@ -50,223 +50,61 @@ abbrev read-table-below : ℕ → In 1 read-table-kinds.ps
 read-table-below t =
     and 1 read-table-kinds.ps (falls 1 read-table-kinds.ps _<_ μ-read-table t) read-table.Pre
 
-read-node-thin-run-requires : (t : ℕ) → read-node-lts.Need-thin-run-requires (
-  thin-run-reads.Asked,
-  thin-run-reads.Learnt,
-  refuse-reads.Asked,
-  refuse-reads.Learnt,
-  read-head-reads.Asked,
-  read-head-reads.Learnt,
-  open-table-reads.Asked,
-  open-table-reads.Learnt,
-  read-table-below t,
-  read-table.Post,
-) (read-node-at t) read-node.Post
+abbrev read-node-claims : ℕ → read-node-lts.Claims
+read-node-claims t = (thin-run-reads.Asked, thin-run-reads.Learnt, refuse-reads.Asked, refuse-reads.Learnt, read-head-reads.Asked, read-head-reads.Learnt, open-table-reads.Asked, open-table-reads.Learnt, read-table-below t, read-table.Post)
+
+read-node-thin-run-requires : (t : ℕ) → read-node-lts.Need-thin-run-requires (read-node-claims t) (read-node-at t) read-node.Post
 read-node-thin-run-requires t c κs = search needs
 
-read-node-sub-levels : (t : ℕ) → read-node-lts.Need-sub-levels (
-  thin-run-reads.Asked,
-  thin-run-reads.Learnt,
-  refuse-reads.Asked,
-  refuse-reads.Learnt,
-  read-head-reads.Asked,
-  read-head-reads.Learnt,
-  open-table-reads.Asked,
-  open-table-reads.Learnt,
-  read-table-below t,
-  read-table.Post,
-) (read-node-at t) read-node.Post
+read-node-sub-levels : (t : ℕ) → read-node-lts.Need-sub-levels (read-node-claims t) (read-node-at t) read-node.Post
 read-node-sub-levels t c = search needs
 
-read-node-refuse-requires : (t : ℕ) → read-node-lts.Need-refuse-requires (
-  thin-run-reads.Asked,
-  thin-run-reads.Learnt,
-  refuse-reads.Asked,
-  refuse-reads.Learnt,
-  read-head-reads.Asked,
-  read-head-reads.Learnt,
-  open-table-reads.Asked,
-  open-table-reads.Learnt,
-  read-table-below t,
-  read-table.Post,
-) (read-node-at t) read-node.Post
+read-node-refuse-requires : (t : ℕ) → read-node-lts.Need-refuse-requires (read-node-claims t) (read-node-at t) read-node.Post
 read-node-refuse-requires t c κs = search needs
 
-read-node-returns : (t : ℕ) → read-node-lts.Need-returns (
-  thin-run-reads.Asked,
-  thin-run-reads.Learnt,
-  refuse-reads.Asked,
-  refuse-reads.Learnt,
-  read-head-reads.Asked,
-  read-head-reads.Learnt,
-  open-table-reads.Asked,
-  open-table-reads.Learnt,
-  read-table-below t,
-  read-table.Post,
-) (read-node-at t) read-node.Post
+read-node-returns : (t : ℕ) → read-node-lts.Need-returns (read-node-claims t) (read-node-at t) read-node.Post
 read-node-returns t c = step-with _ 15 (c .refuse .ensures) (omega arith) ∙ c .before .before .thin-run .ensures .refused 15 (node-zero _ _ _ (c .before .if1 .taken))
 
-read-node-mul-read-head : (t : ℕ) → read-node-lts.Need-mul-read-head (
-  thin-run-reads.Asked,
-  thin-run-reads.Learnt,
-  refuse-reads.Asked,
-  refuse-reads.Learnt,
-  read-head-reads.Asked,
-  read-head-reads.Learnt,
-  open-table-reads.Asked,
-  open-table-reads.Learnt,
-  read-table-below t,
-  read-table.Post,
-) (read-node-at t) read-node.Post
+read-node-mul-read-head : (t : ℕ) → read-node-lts.Need-mul-read-head (read-node-claims t) (read-node-at t) read-node.Post
 read-node-mul-read-head t c = search needs
 
-read-node-add-read-head : (t : ℕ) → read-node-lts.Need-add-read-head (
-  thin-run-reads.Asked,
-  thin-run-reads.Learnt,
-  refuse-reads.Asked,
-  refuse-reads.Learnt,
-  read-head-reads.Asked,
-  read-head-reads.Learnt,
-  open-table-reads.Asked,
-  open-table-reads.Learnt,
-  read-table-below t,
-  read-table.Post,
-) (read-node-at t) read-node.Post
+read-node-add-read-head : (t : ℕ) → read-node-lts.Need-add-read-head (read-node-claims t) (read-node-at t) read-node.Post
 read-node-add-read-head t c = search needs
 
-read-node-read-head-requires : (t : ℕ) → read-node-lts.Need-read-head-requires (
-  thin-run-reads.Asked,
-  thin-run-reads.Learnt,
-  refuse-reads.Asked,
-  refuse-reads.Learnt,
-  read-head-reads.Asked,
-  read-head-reads.Learnt,
-  open-table-reads.Asked,
-  open-table-reads.Learnt,
-  read-table-below t,
-  read-table.Post,
-) (read-node-at t) read-node.Post
+read-node-read-head-requires : (t : ℕ) → read-node-lts.Need-read-head-requires (read-node-claims t) (read-node-at t) read-node.Post
 read-node-read-head-requires t c κs = c .before .thin-run .ensures .within
 
-read-node-refuse-requires-2 : (t : ℕ) → read-node-lts.Need-refuse-requires-2 (
-  thin-run-reads.Asked,
-  thin-run-reads.Learnt,
-  refuse-reads.Asked,
-  refuse-reads.Learnt,
-  read-head-reads.Asked,
-  read-head-reads.Learnt,
-  open-table-reads.Asked,
-  open-table-reads.Learnt,
-  read-table-below t,
-  read-table.Post,
-) (read-node-at t) read-node.Post
+read-node-refuse-requires-2 : (t : ℕ) → read-node-lts.Need-refuse-requires-2 (read-node-claims t) (read-node-at t) read-node.Post
 read-node-refuse-requires-2 t c κs = search needs
 
-read-node-returns-2 : (t : ℕ) → read-node-lts.Need-returns-2 (
-  thin-run-reads.Asked,
-  thin-run-reads.Learnt,
-  refuse-reads.Asked,
-  refuse-reads.Learnt,
-  read-head-reads.Asked,
-  read-head-reads.Learnt,
-  open-table-reads.Asked,
-  open-table-reads.Learnt,
-  read-table-below t,
-  read-table.Post,
-) (read-node-at t) read-node.Post
+read-node-returns-2 : (t : ℕ) → read-node-lts.Need-returns-2 (read-node-claims t) (read-node-at t) read-node.Post
 read-node-returns-2 t c =
     step-with _ _ (c .refuse2 .ensures) (c .before .if2 .taken) ∙
     c .before .before .before .before .before .thin-run .ensures .refused _
     (node-head _ _ _ (c .before .before .before .before .if1 .left) _ (sym (head-refused _ (c .before .if2 .taken)) ∙ c .before .before .before .read-head .ensures))
 
-read-node-open-table-requires : (t : ℕ) → read-node-lts.Need-open-table-requires (
-  thin-run-reads.Asked,
-  thin-run-reads.Learnt,
-  refuse-reads.Asked,
-  refuse-reads.Learnt,
-  read-head-reads.Asked,
-  read-head-reads.Learnt,
-  open-table-reads.Asked,
-  open-table-reads.Learnt,
-  read-table-below t,
-  read-table.Post,
-) (read-node-at t) read-node.Post
+read-node-open-table-requires : (t : ℕ) → read-node-lts.Need-open-table-requires (read-node-claims t) (read-node-at t) read-node.Post
 read-node-open-table-requires t c κs =
     let h = head-inv _ _ _ _ _ (sym (head-right _ (c .if2 .left)) ∙ c .before .before .read-head .ensures) in
     (h .4, omega (arith, h .1), h .2)
 
-read-node-refuse-requires-3 : (t : ℕ) → read-node-lts.Need-refuse-requires-3 (
-  thin-run-reads.Asked,
-  thin-run-reads.Learnt,
-  refuse-reads.Asked,
-  refuse-reads.Learnt,
-  read-head-reads.Asked,
-  read-head-reads.Learnt,
-  open-table-reads.Asked,
-  open-table-reads.Learnt,
-  read-table-below t,
-  read-table.Post,
-) (read-node-at t) read-node.Post
+read-node-refuse-requires-3 : (t : ℕ) → read-node-lts.Need-refuse-requires-3 (read-node-claims t) (read-node-at t) read-node.Post
 read-node-refuse-requires-3 t c κs = search needs
 
-read-node-returns-3 : (t : ℕ) → read-node-lts.Need-returns-3 (
-  thin-run-reads.Asked,
-  thin-run-reads.Learnt,
-  refuse-reads.Asked,
-  refuse-reads.Learnt,
-  read-head-reads.Asked,
-  read-head-reads.Learnt,
-  open-table-reads.Asked,
-  open-table-reads.Learnt,
-  read-table-below t,
-  read-table.Post,
-) (read-node-at t) read-node.Post
+read-node-returns-3 : (t : ℕ) → read-node-lts.Need-returns-3 (read-node-claims t) (read-node-at t) read-node.Post
 read-node-returns-3 t c =
     step-with _ _ (c .refuse3 .ensures) (c .before .if3 .taken) ∙
     c .before .before .before .before .before .before .before .before .thin-run .ensures .refused _
     (node-open _ _ _ (c .before .before .before .before .before .before .before .if1 .left) _ _ _ _ (sym (head-right _ (c .before .before .before .before .if2 .left)) ∙ c .before .before .before .before .before .before .read-head .ensures)
     (sym (table-refused _ (c .before .if3 .taken)) ∙ c .before .before .before .open-table .ensures))
 
-read-node-sub-read-table : (t : ℕ) → read-node-lts.Need-sub-read-table (
-  thin-run-reads.Asked,
-  thin-run-reads.Learnt,
-  refuse-reads.Asked,
-  refuse-reads.Learnt,
-  read-head-reads.Asked,
-  read-head-reads.Learnt,
-  open-table-reads.Asked,
-  open-table-reads.Learnt,
-  read-table-below t,
-  read-table.Post,
-) (read-node-at t) read-node.Post
+read-node-sub-read-table : (t : ℕ) → read-node-lts.Need-sub-read-table (read-node-claims t) (read-node-at t) read-node.Post
 read-node-sub-read-table t c = search needs
 
-read-node-read-table-requires : (t : ℕ) → read-node-lts.Need-read-table-requires (
-  thin-run-reads.Asked,
-  thin-run-reads.Learnt,
-  refuse-reads.Asked,
-  refuse-reads.Learnt,
-  read-head-reads.Asked,
-  read-head-reads.Learnt,
-  open-table-reads.Asked,
-  open-table-reads.Learnt,
-  read-table-below t,
-  read-table.Post,
-) (read-node-at t) read-node.Post
+read-node-read-table-requires : (t : ℕ) → read-node-lts.Need-read-table-requires (read-node-claims t) (read-node-at t) read-node.Post
 read-node-read-table-requires t c κs = (omega arith, open-within _ _ _ _ (sym (table-right _ (c .if3 .left)) ∙ c .before .before .open-table .ensures) .0)
 
-read-node-returns-4 : (t : ℕ) → read-node-lts.Need-returns-4 (
-  thin-run-reads.Asked,
-  thin-run-reads.Learnt,
-  refuse-reads.Asked,
-  refuse-reads.Learnt,
-  read-head-reads.Asked,
-  read-head-reads.Learnt,
-  open-table-reads.Asked,
-  open-table-reads.Learnt,
-  read-table-below t,
-  read-table.Post,
-) (read-node-at t) read-node.Post
+read-node-returns-4 : (t : ℕ) → read-node-lts.Need-returns-4 (read-node-claims t) (read-node-at t) read-node.Post
 read-node-returns-4 t c =
     step-refused _ (c .if4 .taken) ∙
     c .before .before .before .before .before .before .before .before .before .before .thin-run .ensures .refused _
@@ -274,72 +112,28 @@ read-node-returns-4 t c =
     (sym (table-right _ (c .before .before .before .if3 .left)) ∙ c .before .before .before .before .before .open-table .ensures)
     (sym (step-refused _ (c .if4 .taken)) ∙ c .before .before .read-table .ensures))
 
-read-node-add-t11 : (t : ℕ) → read-node-lts.Need-add-t11 (
-  thin-run-reads.Asked,
-  thin-run-reads.Learnt,
-  refuse-reads.Asked,
-  refuse-reads.Learnt,
-  read-head-reads.Asked,
-  read-head-reads.Learnt,
-  open-table-reads.Asked,
-  open-table-reads.Learnt,
-  read-table-below t,
-  read-table.Post,
-) (read-node-at t) read-node.Post
+read-node-add-t11 : (t : ℕ) → read-node-lts.Need-add-t11 (read-node-claims t) (read-node-at t) read-node.Post
 read-node-add-t11 t c =
     let h = head-bound _ _ _ _ _ (sym (head-right _ (c .before .before .before .before .before .before .before .if2 .left)) ∙ c .before .before .before .before .before .before .before .before .before .read-head .ensures) in
     let o = open-within _ _ _ _ (sym (table-right _ (c .before .before .before .before .if3 .left)) ∙ c .before .before .before .before .before .before .open-table .ensures) in
     let u = table-sum _ _ _ _ _ _ _ (o .0 .start) (sym (step-right _ (c .before .if4 .left)) ∙ c .before .before .before .read-table .ensures) in
     omega arith
 
-read-node-add-t10 : (t : ℕ) → read-node-lts.Need-add-t10 (
-  thin-run-reads.Asked,
-  thin-run-reads.Learnt,
-  refuse-reads.Asked,
-  refuse-reads.Learnt,
-  read-head-reads.Asked,
-  read-head-reads.Learnt,
-  open-table-reads.Asked,
-  open-table-reads.Learnt,
-  read-table-below t,
-  read-table.Post,
-) (read-node-at t) read-node.Post
+read-node-add-t10 : (t : ℕ) → read-node-lts.Need-add-t10 (read-node-claims t) (read-node-at t) read-node.Post
 read-node-add-t10 t c =
     let h = head-bound _ _ _ _ _ (sym (head-right _ (c .before .before .before .before .before .before .before .if2 .left)) ∙ c .before .before .before .before .before .before .before .before .before .read-head .ensures) in
     let o = open-within _ _ _ _ (sym (table-right _ (c .before .before .before .before .if3 .left)) ∙ c .before .before .before .before .before .before .open-table .ensures) in
     let u = table-sum _ _ _ _ _ _ _ (o .0 .start) (sym (step-right _ (c .before .if4 .left)) ∙ c .before .before .before .read-table .ensures) in
     omega arith
 
-read-node-add-t12 : (t : ℕ) → read-node-lts.Need-add-t12 (
-  thin-run-reads.Asked,
-  thin-run-reads.Learnt,
-  refuse-reads.Asked,
-  refuse-reads.Learnt,
-  read-head-reads.Asked,
-  read-head-reads.Learnt,
-  open-table-reads.Asked,
-  open-table-reads.Learnt,
-  read-table-below t,
-  read-table.Post,
-) (read-node-at t) read-node.Post
+read-node-add-t12 : (t : ℕ) → read-node-lts.Need-add-t12 (read-node-claims t) (read-node-at t) read-node.Post
 read-node-add-t12 t c =
     let h = head-bound _ _ _ _ _ (sym (head-right _ (c .before .before .before .before .before .before .before .before .before .if2 .left)) ∙ c .before .before .before .before .before .before .before .before .before .before .before .read-head .ensures) in
     let o = open-within _ _ _ _ (sym (table-right _ (c .before .before .before .before .before .before .if3 .left)) ∙ c .before .before .before .before .before .before .before .before .open-table .ensures) in
     let u = table-sum _ _ _ _ _ _ _ (o .0 .start) (sym (step-right _ (c .before .before .before .if4 .left)) ∙ c .before .before .before .before .before .read-table .ensures) in
     omega arith
 
-read-node-returns-5 : (t : ℕ) → read-node-lts.Need-returns-5 (
-  thin-run-reads.Asked,
-  thin-run-reads.Learnt,
-  refuse-reads.Asked,
-  refuse-reads.Learnt,
-  read-head-reads.Asked,
-  read-head-reads.Learnt,
-  open-table-reads.Asked,
-  open-table-reads.Learnt,
-  read-table-below t,
-  read-table.Post,
-) (read-node-at t) read-node.Post
+read-node-returns-5 : (t : ℕ) → read-node-lts.Need-returns-5 (read-node-claims t) (read-node-at t) read-node.Post
 read-node-returns-5 t c =
     step-right _ refl ∙
     c .before .before .before .before .before .before .before .before .before .before .before .before .before .thin-run .ensures .right _ _ _
@@ -355,102 +149,28 @@ read-table-Inv-loop s c left at₀ met₀ nodes₀ entries₀ i₀ at met nodes 
 abbrev read-table-μ-loop : read-table-lts.MeasureT-loop
 read-table-μ-loop s c left at₀ met₀ nodes₀ entries₀ i₀ at met nodes entries i = c .turns - i
 
-read-table-loop-holds : (t : ℕ) → read-table-lts.Need-loop-holds (
-  next-turn-reads.Asked,
-  next-turn-reads.Learnt,
-  turn-at-reads.Asked,
-  turn-at-reads.Learnt,
-  refuse-reads.Asked,
-  refuse-reads.Learnt,
-  read-node-below t,
-  read-node.Post,
-  all-met-reads.Asked,
-  all-met-reads.Learnt,
-) (read-table-at t) read-table.Post read-table-Inv-loop read-table-μ-loop
+abbrev read-table-claims : ℕ → read-table-lts.Claims
+read-table-claims t = (next-turn-reads.Asked, next-turn-reads.Learnt, turn-at-reads.Asked, turn-at-reads.Learnt, refuse-reads.Asked, refuse-reads.Learnt, read-node-below t, read-node.Post, all-met-reads.Asked, all-met-reads.Learnt)
+
+read-table-loop-holds : (t : ℕ) → read-table-lts.Need-loop-holds (read-table-claims t) (read-table-at t) read-table.Post read-table-Inv-loop read-table-μ-loop
 read-table-loop-holds t c = (omega arith, omega arith, omega arith, run-start _ _ (table-in (c .before .args .c)))
 
-read-table-next-turn-requires : (t : ℕ) → read-table-lts.Need-next-turn-requires (
-  next-turn-reads.Asked,
-  next-turn-reads.Learnt,
-  turn-at-reads.Asked,
-  turn-at-reads.Learnt,
-  refuse-reads.Asked,
-  refuse-reads.Learnt,
-  read-node-below t,
-  read-node.Post,
-  all-met-reads.Asked,
-  all-met-reads.Learnt,
-) (read-table-at t) read-table.Post read-table-Inv-loop read-table-μ-loop
+read-table-next-turn-requires : (t : ℕ) → read-table-lts.Need-next-turn-requires (read-table-claims t) (read-table-at t) read-table.Post read-table-Inv-loop read-table-μ-loop
 read-table-next-turn-requires t c κs = search needs
 
-read-table-add-i : (t : ℕ) → read-table-lts.Need-add-i (
-  next-turn-reads.Asked,
-  next-turn-reads.Learnt,
-  turn-at-reads.Asked,
-  turn-at-reads.Learnt,
-  refuse-reads.Asked,
-  refuse-reads.Learnt,
-  read-node-below t,
-  read-node.Post,
-  all-met-reads.Asked,
-  all-met-reads.Learnt,
-) (read-table-at t) read-table.Post read-table-Inv-loop read-table-μ-loop
+read-table-add-i : (t : ℕ) → read-table-lts.Need-add-i (read-table-claims t) (read-table-at t) read-table.Post read-table-Inv-loop read-table-μ-loop
 read-table-add-i t c = omega (arith, c .next-turn .ensures .last)
 
-read-table-turn-at-requires : (t : ℕ) → read-table-lts.Need-turn-at-requires (
-  next-turn-reads.Asked,
-  next-turn-reads.Learnt,
-  turn-at-reads.Asked,
-  turn-at-reads.Learnt,
-  refuse-reads.Asked,
-  refuse-reads.Learnt,
-  read-node-below t,
-  read-node.Post,
-  all-met-reads.Asked,
-  all-met-reads.Learnt,
-) (read-table-at t) read-table.Post read-table-Inv-loop read-table-μ-loop
+read-table-turn-at-requires : (t : ℕ) → read-table-lts.Need-turn-at-requires (read-table-claims t) (read-table-at t) read-table.Post read-table-Inv-loop read-table-μ-loop
 read-table-turn-at-requires t c κs = (c .before .before .before .before .before .pre .1, c .next-turn .ensures .last)
 
-read-table-enum-told : (t : ℕ) → read-table-lts.Need-enum-told (
-  next-turn-reads.Asked,
-  next-turn-reads.Learnt,
-  turn-at-reads.Asked,
-  turn-at-reads.Learnt,
-  refuse-reads.Asked,
-  refuse-reads.Learnt,
-  read-node-below t,
-  read-node.Post,
-  all-met-reads.Asked,
-  all-met-reads.Learnt,
-) (read-table-at t) read-table.Post read-table-Inv-loop read-table-μ-loop
+read-table-enum-told : (t : ℕ) → read-table-lts.Need-enum-told (read-table-claims t) (read-table-at t) read-table.Post read-table-Inv-loop read-table-μ-loop
 read-table-enum-told t c = search needs
 
-read-table-loop-less : (t : ℕ) → read-table-lts.Need-loop-less (
-  next-turn-reads.Asked,
-  next-turn-reads.Learnt,
-  turn-at-reads.Asked,
-  turn-at-reads.Learnt,
-  refuse-reads.Asked,
-  refuse-reads.Learnt,
-  read-node-below t,
-  read-node.Post,
-  all-met-reads.Asked,
-  all-met-reads.Learnt,
-) (read-table-at t) read-table.Post read-table-Inv-loop read-table-μ-loop
+read-table-loop-less : (t : ℕ) → read-table-lts.Need-loop-less (read-table-claims t) (read-table-at t) read-table.Post read-table-Inv-loop read-table-μ-loop
 read-table-loop-less t c = omega (arith, c .before .before .before .next-turn .ensures .from, c .before .before .before .next-turn .ensures .last)
 
-read-table-loop-again : (t : ℕ) → read-table-lts.Need-loop-again (
-  next-turn-reads.Asked,
-  next-turn-reads.Learnt,
-  turn-at-reads.Asked,
-  turn-at-reads.Learnt,
-  refuse-reads.Asked,
-  refuse-reads.Learnt,
-  read-node-below t,
-  read-node.Post,
-  all-met-reads.Asked,
-  all-met-reads.Learnt,
-) (read-table-at t) read-table.Post read-table-Inv-loop read-table-μ-loop
+read-table-loop-again : (t : ℕ) → read-table-lts.Need-loop-again (read-table-claims t) (read-table-at t) read-table.Post read-table-Inv-loop read-table-μ-loop
 read-table-loop-again t c = (
   omega (arith, c .before .before .before .next-turn .ensures .last),
   omega arith,
@@ -459,62 +179,18 @@ read-table-loop-again t c = (
       run-to _ _ (table-in (c .before .before .before .before .before .before .before .before .args .c)) _ _ _ _ _ _ (c .before .before .before .next-turn .ensures) ∙ c .before .before .before .before .before .before .loop .inv .3,
 )
 
-read-table-enum-told-2 : (t : ℕ) → read-table-lts.Need-enum-told-2 (
-  next-turn-reads.Asked,
-  next-turn-reads.Learnt,
-  turn-at-reads.Asked,
-  turn-at-reads.Learnt,
-  refuse-reads.Asked,
-  refuse-reads.Learnt,
-  read-node-below t,
-  read-node.Post,
-  all-met-reads.Asked,
-  all-met-reads.Learnt,
-) (read-table-at t) read-table.Post read-table-Inv-loop read-table-μ-loop
+read-table-enum-told-2 : (t : ℕ) → read-table-lts.Need-enum-told-2 (read-table-claims t) (read-table-at t) read-table.Post read-table-Inv-loop read-table-μ-loop
 read-table-enum-told-2 t c = search needs
 
-read-table-add-at : (t : ℕ) → read-table-lts.Need-add-at (
-  next-turn-reads.Asked,
-  next-turn-reads.Learnt,
-  turn-at-reads.Asked,
-  turn-at-reads.Learnt,
-  refuse-reads.Asked,
-  refuse-reads.Learnt,
-  read-node-below t,
-  read-node.Post,
-  all-met-reads.Asked,
-  all-met-reads.Learnt,
-) (read-table-at t) read-table.Post read-table-Inv-loop read-table-μ-loop
+read-table-add-at : (t : ℕ) → read-table-lts.Need-add-at (read-table-claims t) (read-table-at t) read-table.Post read-table-Inv-loop read-table-μ-loop
 read-table-add-at t c =
     let h = turn-there _ (table-in (c .before .before .before .before .before .before .before .before .args .c)) _ _ gap (sym (ap turn-of (sym (c .enum-told2 .given .1)) ∙ c .before .before .turn-at .ensures)) tt in
     omega arith
 
-read-table-loop-less-2 : (t : ℕ) → read-table-lts.Need-loop-less-2 (
-  next-turn-reads.Asked,
-  next-turn-reads.Learnt,
-  turn-at-reads.Asked,
-  turn-at-reads.Learnt,
-  refuse-reads.Asked,
-  refuse-reads.Learnt,
-  read-node-below t,
-  read-node.Post,
-  all-met-reads.Asked,
-  all-met-reads.Learnt,
-) (read-table-at t) read-table.Post read-table-Inv-loop read-table-μ-loop
+read-table-loop-less-2 : (t : ℕ) → read-table-lts.Need-loop-less-2 (read-table-claims t) (read-table-at t) read-table.Post read-table-Inv-loop read-table-μ-loop
 read-table-loop-less-2 t c = omega (arith, c .before .before .before .next-turn .ensures .from, c .before .before .before .next-turn .ensures .last)
 
-read-table-loop-again-2 : (t : ℕ) → read-table-lts.Need-loop-again-2 (
-  next-turn-reads.Asked,
-  next-turn-reads.Learnt,
-  turn-at-reads.Asked,
-  turn-at-reads.Learnt,
-  refuse-reads.Asked,
-  refuse-reads.Learnt,
-  read-node-below t,
-  read-node.Post,
-  all-met-reads.Asked,
-  all-met-reads.Learnt,
-) (read-table-at t) read-table.Post read-table-Inv-loop read-table-μ-loop
+read-table-loop-again-2 : (t : ℕ) → read-table-lts.Need-loop-again-2 (read-table-claims t) (read-table-at t) read-table.Post read-table-Inv-loop read-table-μ-loop
 read-table-loop-again-2 t c =
     let h = turn-there _ (table-in (c .before .before .before .before .before .before .before .before .args .c)) _ _ gap (sym (ap turn-of (sym (c .enum-told2 .given .1)) ∙ c .before .before .turn-at .ensures)) tt in (
       omega (arith, c .before .before .before .next-turn .ensures .last),
@@ -524,193 +200,61 @@ read-table-loop-again-2 t c =
           run-to _ _ (table-in (c .before .before .before .before .before .before .before .before .args .c)) _ _ _ _ _ _ (c .before .before .before .next-turn .ensures) ∙ c .before .before .before .before .before .before .loop .inv .3,
     )
 
-read-table-enum-known-n : (t : ℕ) → read-table-lts.Need-enum-known-n (
-  next-turn-reads.Asked,
-  next-turn-reads.Learnt,
-  turn-at-reads.Asked,
-  turn-at-reads.Learnt,
-  refuse-reads.Asked,
-  refuse-reads.Learnt,
-  read-node-below t,
-  read-node.Post,
-  all-met-reads.Asked,
-  all-met-reads.Learnt,
-) (read-table-at t) read-table.Post read-table-Inv-loop read-table-μ-loop
+read-table-enum-known-n : (t : ℕ) → read-table-lts.Need-enum-known-n (read-table-claims t) (read-table-at t) read-table.Post read-table-Inv-loop read-table-μ-loop
 read-table-enum-known-n t c = search needs
 
-read-table-refuse-requires : (t : ℕ) → read-table-lts.Need-refuse-requires (
-  next-turn-reads.Asked,
-  next-turn-reads.Learnt,
-  turn-at-reads.Asked,
-  turn-at-reads.Learnt,
-  refuse-reads.Asked,
-  refuse-reads.Learnt,
-  read-node-below t,
-  read-node.Post,
-  all-met-reads.Asked,
-  all-met-reads.Learnt,
-) (read-table-at t) read-table.Post read-table-Inv-loop read-table-μ-loop
+read-table-refuse-requires : (t : ℕ) → read-table-lts.Need-refuse-requires (read-table-claims t) (read-table-at t) read-table.Post read-table-Inv-loop read-table-μ-loop
 read-table-refuse-requires t c κs = search needs
 
-read-table-returns : (t : ℕ) → read-table-lts.Need-returns (
-  next-turn-reads.Asked,
-  next-turn-reads.Learnt,
-  turn-at-reads.Asked,
-  turn-at-reads.Learnt,
-  refuse-reads.Asked,
-  refuse-reads.Learnt,
-  read-node-below t,
-  read-node.Post,
-  all-met-reads.Asked,
-  all-met-reads.Learnt,
-) (read-table-at t) read-table.Post read-table-Inv-loop read-table-μ-loop
+read-table-returns : (t : ℕ) → read-table-lts.Need-returns (read-table-claims t) (read-table-at t) read-table.Post read-table-Inv-loop read-table-μ-loop
 read-table-returns t c =
     let w = ap turn-of (sym (c .before .before .n .given .1)) ∙ c .before .before .before .before .turn-at .ensures in
     step-with _ _ (c .refuse .ensures) (turn-wrong _ (table-in (c .before .before .before .before .before .before .before .before .before .before .args .c)) _ _ _ w) ∙
     run-refused _ _ (table-in (c .before .before .before .before .before .before .before .before .before .before .args .c)) _ _ _ _ _ _ _ (c .before .before .before .before .before .next-turn .ensures .last) (child-by _ _ (table-in (c .before .before .before .before .before .before .before .before .before .before .args .c)) _ _ (wrong _) w) ∙
     run-to _ _ (table-in (c .before .before .before .before .before .before .before .before .before .before .args .c)) _ _ _ _ _ _ (c .before .before .before .before .before .next-turn .ensures) ∙ c .before .before .before .before .before .before .before .before .loop .inv .3
 
-read-table-enum-told-3 : (t : ℕ) → read-table-lts.Need-enum-told-3 (
-  next-turn-reads.Asked,
-  next-turn-reads.Learnt,
-  turn-at-reads.Asked,
-  turn-at-reads.Learnt,
-  refuse-reads.Asked,
-  refuse-reads.Learnt,
-  read-node-below t,
-  read-node.Post,
-  all-met-reads.Asked,
-  all-met-reads.Learnt,
-) (read-table-at t) read-table.Post read-table-Inv-loop read-table-μ-loop
+read-table-enum-told-3 : (t : ℕ) → read-table-lts.Need-enum-told-3 (read-table-claims t) (read-table-at t) read-table.Post read-table-Inv-loop read-table-μ-loop
 read-table-enum-told-3 t c = search needs
 
-read-table-add-read-node : (t : ℕ) → read-table-lts.Need-add-read-node (
-  next-turn-reads.Asked,
-  next-turn-reads.Learnt,
-  turn-at-reads.Asked,
-  turn-at-reads.Learnt,
-  refuse-reads.Asked,
-  refuse-reads.Learnt,
-  read-node-below t,
-  read-node.Post,
-  all-met-reads.Asked,
-  all-met-reads.Learnt,
-) (read-table-at t) read-table.Post read-table-Inv-loop read-table-μ-loop
+read-table-add-read-node : (t : ℕ) → read-table-lts.Need-add-read-node (read-table-claims t) (read-table-at t) read-table.Post read-table-Inv-loop read-table-μ-loop
 read-table-add-read-node t c =
     let h = turn-there _ (table-in (c .before .before .before .before .before .before .before .before .args .c)) _ _ child (sym (ap turn-of (sym (c .enum-told3 .given .1)) ∙ c .before .before .turn-at .ensures)) tt in
     omega arith
 
-read-table-read-node-requires : (t : ℕ) → read-table-lts.Need-read-node-requires (
-  next-turn-reads.Asked,
-  next-turn-reads.Learnt,
-  turn-at-reads.Asked,
-  turn-at-reads.Learnt,
-  refuse-reads.Asked,
-  refuse-reads.Learnt,
-  read-node-below t,
-  read-node.Post,
-  all-met-reads.Asked,
-  all-met-reads.Learnt,
-) (read-table-at t) read-table.Post read-table-Inv-loop read-table-μ-loop
+read-table-read-node-requires : (t : ℕ) → read-table-lts.Need-read-node-requires (read-table-claims t) (read-table-at t) read-table.Post read-table-Inv-loop read-table-μ-loop
 read-table-read-node-requires t c κs =
     let h = turn-there _ (table-in (c .before .before .before .before .before .before .before .before .args .c)) _ _ child (sym (ap turn-of (sym (c .enum-told3 .given .1)) ∙ c .before .before .turn-at .ensures)) tt in
     (omega arith, omega arith)
 
-read-table-returns-2 : (t : ℕ) → read-table-lts.Need-returns-2 (
-  next-turn-reads.Asked,
-  next-turn-reads.Learnt,
-  turn-at-reads.Asked,
-  turn-at-reads.Learnt,
-  refuse-reads.Asked,
-  refuse-reads.Learnt,
-  read-node-below t,
-  read-node.Post,
-  all-met-reads.Asked,
-  all-met-reads.Learnt,
-) (read-table-at t) read-table.Post read-table-Inv-loop read-table-μ-loop
+read-table-returns-2 : (t : ℕ) → read-table-lts.Need-returns-2 (read-table-claims t) (read-table-at t) read-table.Post read-table-Inv-loop read-table-μ-loop
 read-table-returns-2 t c =
     step-refused _ (c .if2 .taken) ∙
     run-refused _ _ (table-in (c .before .before .before .before .before .before .before .before .before .before .before .args .c)) _ _ _ _ _ _ _ (c .before .before .before .before .before .before .next-turn .ensures .last)
     (sym (step-refused _ (c .if2 .taken)) ∙ c .before .before .read-node .ensures ∙ child-by _ _ (table-in (c .before .before .before .before .before .before .before .before .before .before .before .args .c)) _ _ child (ap turn-of (sym (c .before .before .before .enum-told3 .given .1)) ∙ c .before .before .before .before .before .turn-at .ensures)) ∙
     run-to _ _ (table-in (c .before .before .before .before .before .before .before .before .before .before .before .args .c)) _ _ _ _ _ _ (c .before .before .before .before .before .before .next-turn .ensures) ∙ c .before .before .before .before .before .before .before .before .before .loop .inv .3
 
-read-table-add-met : (t : ℕ) → read-table-lts.Need-add-met (
-  next-turn-reads.Asked,
-  next-turn-reads.Learnt,
-  turn-at-reads.Asked,
-  turn-at-reads.Learnt,
-  refuse-reads.Asked,
-  refuse-reads.Learnt,
-  read-node-below t,
-  read-node.Post,
-  all-met-reads.Asked,
-  all-met-reads.Learnt,
-) (read-table-at t) read-table.Post read-table-Inv-loop read-table-μ-loop
+read-table-add-met : (t : ℕ) → read-table-lts.Need-add-met (read-table-claims t) (read-table-at t) read-table.Post read-table-Inv-loop read-table-μ-loop
 read-table-add-met t c =
     let u = child-sum _ _ (table-in (c .before .before .before .before .before .before .before .before .before .before .before .args .c)) _ _ _ _ _ _ (c .before .before .before .before .before .before .before .before .before .loop .inv .1)
     (sym (step-right _ (c .if2 .left)) ∙ c .before .before .read-node .ensures ∙ child-by _ _ (table-in (c .before .before .before .before .before .before .before .before .before .before .before .args .c)) _ _ child (ap turn-of (sym (c .before .before .before .enum-told3 .given .1)) ∙ c .before .before .before .before .before .turn-at .ensures)) in
     omega arith
 
-read-table-add-nodes : (t : ℕ) → read-table-lts.Need-add-nodes (
-  next-turn-reads.Asked,
-  next-turn-reads.Learnt,
-  turn-at-reads.Asked,
-  turn-at-reads.Learnt,
-  refuse-reads.Asked,
-  refuse-reads.Learnt,
-  read-node-below t,
-  read-node.Post,
-  all-met-reads.Asked,
-  all-met-reads.Learnt,
-) (read-table-at t) read-table.Post read-table-Inv-loop read-table-μ-loop
+read-table-add-nodes : (t : ℕ) → read-table-lts.Need-add-nodes (read-table-claims t) (read-table-at t) read-table.Post read-table-Inv-loop read-table-μ-loop
 read-table-add-nodes t c =
     let u = child-sum _ _ (table-in (c .before .before .before .before .before .before .before .before .before .before .before .before .args .c)) _ _ _ _ _ _ (c .before .before .before .before .before .before .before .before .before .before .loop .inv .1)
     (sym (step-right _ (c .before .if2 .left)) ∙ c .before .before .before .read-node .ensures ∙ child-by _ _ (table-in (c .before .before .before .before .before .before .before .before .before .before .before .before .args .c)) _ _ child (ap turn-of (sym (c .before .before .before .before .enum-told3 .given .1)) ∙ c .before .before .before .before .before .before .turn-at .ensures)) in
     omega arith
 
-read-table-add-entries : (t : ℕ) → read-table-lts.Need-add-entries (
-  next-turn-reads.Asked,
-  next-turn-reads.Learnt,
-  turn-at-reads.Asked,
-  turn-at-reads.Learnt,
-  refuse-reads.Asked,
-  refuse-reads.Learnt,
-  read-node-below t,
-  read-node.Post,
-  all-met-reads.Asked,
-  all-met-reads.Learnt,
-) (read-table-at t) read-table.Post read-table-Inv-loop read-table-μ-loop
+read-table-add-entries : (t : ℕ) → read-table-lts.Need-add-entries (read-table-claims t) (read-table-at t) read-table.Post read-table-Inv-loop read-table-μ-loop
 read-table-add-entries t c =
     let u = child-sum _ _ (table-in (c .before .before .before .before .before .before .before .before .before .before .before .before .before .args .c)) _ _ _ _ _ _ (c .before .before .before .before .before .before .before .before .before .before .before .loop .inv .1)
     (sym (step-right _ (c .before .before .if2 .left)) ∙ c .before .before .before .before .read-node .ensures ∙ child-by _ _ (table-in (c .before .before .before .before .before .before .before .before .before .before .before .before .before .args .c)) _ _ child (ap turn-of (sym (c .before .before .before .before .before .enum-told3 .given .1)) ∙ c .before .before .before .before .before .before .before .turn-at .ensures)) in
     omega arith
 
-read-table-loop-less-3 : (t : ℕ) → read-table-lts.Need-loop-less-3 (
-  next-turn-reads.Asked,
-  next-turn-reads.Learnt,
-  turn-at-reads.Asked,
-  turn-at-reads.Learnt,
-  refuse-reads.Asked,
-  refuse-reads.Learnt,
-  read-node-below t,
-  read-node.Post,
-  all-met-reads.Asked,
-  all-met-reads.Learnt,
-) (read-table-at t) read-table.Post read-table-Inv-loop read-table-μ-loop
+read-table-loop-less-3 : (t : ℕ) → read-table-lts.Need-loop-less-3 (read-table-claims t) (read-table-at t) read-table.Post read-table-Inv-loop read-table-μ-loop
 read-table-loop-less-3 t c = omega (arith, c .before .before .before .before .before .before .before .before .next-turn .ensures .from, c .before .before .before .before .before .before .before .before .next-turn .ensures .last)
 
-read-table-loop-again-3 : (t : ℕ) → read-table-lts.Need-loop-again-3 (
-  next-turn-reads.Asked,
-  next-turn-reads.Learnt,
-  turn-at-reads.Asked,
-  turn-at-reads.Learnt,
-  refuse-reads.Asked,
-  refuse-reads.Learnt,
-  read-node-below t,
-  read-node.Post,
-  all-met-reads.Asked,
-  all-met-reads.Learnt,
-) (read-table-at t) read-table.Post read-table-Inv-loop read-table-μ-loop
+read-table-loop-again-3 : (t : ℕ) → read-table-lts.Need-loop-again-3 (read-table-claims t) (read-table-at t) read-table.Post read-table-Inv-loop read-table-μ-loop
 read-table-loop-again-3 t c =
     let u = child-sum _ _ (table-in (c .before .before .before .before .before .before .before .before .before .before .before .before .before .args .c)) _ _ _ _ _ _ (c .before .before .before .before .before .before .before .before .before .before .before .loop .inv .1)
     (sym (step-right _ (c .before .before .if2 .left)) ∙ c .before .before .before .before .read-node .ensures ∙ child-by _ _ (table-in (c .before .before .before .before .before .before .before .before .before .before .before .before .before .args .c)) _ _ child (ap turn-of (sym (c .before .before .before .before .before .enum-told3 .given .1)) ∙ c .before .before .before .before .before .before .before .turn-at .ensures)) in (
@@ -722,47 +266,14 @@ read-table-loop-again-3 t c =
           run-to _ _ (table-in (c .before .before .before .before .before .before .before .before .before .before .before .before .before .args .c)) _ _ _ _ _ _ (c .before .before .before .before .before .before .before .before .next-turn .ensures) ∙ c .before .before .before .before .before .before .before .before .before .before .before .loop .inv .3,
     )
 
-read-table-all-met-requires : (t : ℕ) → read-table-lts.Need-all-met-requires (
-  next-turn-reads.Asked,
-  next-turn-reads.Learnt,
-  turn-at-reads.Asked,
-  turn-at-reads.Learnt,
-  refuse-reads.Asked,
-  refuse-reads.Learnt,
-  read-node-below t,
-  read-node.Post,
-  all-met-reads.Asked,
-  all-met-reads.Learnt,
-) (read-table-at t) read-table.Post read-table-Inv-loop read-table-μ-loop
+read-table-all-met-requires : (t : ℕ) → read-table-lts.Need-all-met-requires (read-table-claims t) (read-table-at t) read-table.Post read-table-Inv-loop read-table-μ-loop
 read-table-all-met-requires t c κs = search needs
 
-read-table-returns-3 : (t : ℕ) → read-table-lts.Need-returns-3 (
-  next-turn-reads.Asked,
-  next-turn-reads.Learnt,
-  turn-at-reads.Asked,
-  turn-at-reads.Learnt,
-  refuse-reads.Asked,
-  refuse-reads.Learnt,
-  read-node-below t,
-  read-node.Post,
-  all-met-reads.Asked,
-  all-met-reads.Learnt,
-) (read-table-at t) read-table.Post read-table-Inv-loop read-table-μ-loop
+read-table-returns-3 : (t : ℕ) → read-table-lts.Need-returns-3 (read-table-claims t) (read-table-at t) read-table.Post read-table-Inv-loop read-table-μ-loop
 read-table-returns-3 t c = c .all-met .ensures ∙ run-end _ _ (table-in (c .before .before .before .before .before .args .c)) _ _ _ _ _ _ (c .before .if1 .left) ∙ c .before .before .before .loop .inv .3
 
 pub +read-node+read-table-spec : {M : Type 1} → statement M
-+read-node+read-table-spec = close μ-read-node μ-read-table (λ t. read-node-lts.spec (
-  thin-run-reads.Asked,
-  thin-run-reads.Learnt,
-  refuse-reads.Asked,
-  refuse-reads.Learnt,
-  read-head-reads.Asked,
-  read-head-reads.Learnt,
-  open-table-reads.Asked,
-  open-table-reads.Learnt,
-  read-table-below t,
-  read-table.Post,
-)
++read-node+read-table-spec = close μ-read-node μ-read-table (λ t. read-node-lts.spec (read-node-claims t)
     (read-node-at t)
     read-node.Post
     (read-node-thin-run-requires t)
@@ -784,18 +295,7 @@ pub +read-node+read-table-spec : {M : Type 1} → statement M
     (read-node-add-t10 t)
     (read-node-add-t12 t)
     (read-node-returns-5 t))
-    λ t. read-table-lts.spec (
-      next-turn-reads.Asked,
-      next-turn-reads.Learnt,
-      turn-at-reads.Asked,
-      turn-at-reads.Learnt,
-      refuse-reads.Asked,
-      refuse-reads.Learnt,
-      read-node-below t,
-      read-node.Post,
-      all-met-reads.Asked,
-      all-met-reads.Learnt,
-    )
+    λ t. read-table-lts.spec (read-table-claims t)
     (read-table-at t)
     read-table.Post
     read-table-Inv-loop
