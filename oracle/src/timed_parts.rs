@@ -3,7 +3,7 @@
 extern "C" {
     fn helmapricot_check(image: *const u8, len: usize) -> u64;
     fn helmapricot_layout(image: *const u8, len: usize) -> u64;
-    fn helmapricot_search_image(image: *const u8, len: usize, q: *const u8, q_len: usize, scratch: *mut u8, scratch_len: usize, room: usize) -> u64;
+    fn helmapricot_search_image(image: *const u8, len: usize, queries: *const u8, queries_len: usize, size: usize, scratch: *mut u8, scratch_len: usize, room: usize, count: *mut u64) -> u64;
 }
 
 pub fn check(image: &[u8]) -> u64 {
@@ -14,7 +14,9 @@ pub fn layout(image: &[u8]) -> u64 {
     unsafe { helmapricot_layout(image.as_ptr(), image.len()) }
 }
 
-/// The search without the test of the image, which must have passed it: how many rows stand in scratch, or the largest number where refused.
-pub fn search_image(image: &[u8], q: &[u8], scratch: &mut [u8], room: usize) -> u64 {
-    unsafe { helmapricot_search_image(image.as_ptr(), image.len(), q.as_ptr(), q.len(), scratch.as_mut_ptr(), scratch.len(), room) }
+/// One test of the image, then a search for each of the queries of so many bytes: how many rows the last one has, or its refusal.
+pub fn search_image(image: &[u8], queries: &[u8], size: usize, scratch: &mut [u8], room: usize) -> Result<u64, u64> {
+    let mut count = 0;
+    let refusal = unsafe { helmapricot_search_image(image.as_ptr(), image.len(), queries.as_ptr(), queries.len(), size, scratch.as_mut_ptr(), scratch.len(), room, &mut count) };
+    if refusal == 0 { Ok(count) } else { Err(refusal) }
 }

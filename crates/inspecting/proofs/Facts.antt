@@ -123,7 +123,7 @@ module _ (m : List ℕ) where
     pub held-finished : (h .phase ≡ 0 → ⊥) → (r : Bool) → SaysImage m (header-of h) r → r ≡ true → Inspects m (Finished h)
     held-finished z r q t = record {
       holds = index-by-image m (header-of h) (sym e) z ∙ q .is ∙ ap (λ (o : Bool). cond o (finished (header-of h .capacity) (trie-in (image-part m (header-of h)))) broken) t;
-      told = record { tested = q .tested t; within = image-room m (header-of h) (sym e) (phase-one z) };
+      told = record { header = heading-is m (header-of h) (sym e) .1; tested = q .tested t; within = image-room m (header-of h) (sym e) (phase-one z) };
     }
 
     pub held-image-broken : (h .phase ≡ 0 → ⊥) → (r : Bool) → SaysImage m (header-of h) r → r ≡ false → Inspects m Broken

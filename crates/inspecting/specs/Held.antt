@@ -31,12 +31,13 @@ held-in m Broken = broken
 held-in m (Open h) = opened (header-of h .capacity) (log-in m (h .payload) header-size)
 held-in m (Finished h) = finished (header-of h .capacity) (trie-in (image-part m (header-of h)))
 
--- the image of a finished index passed the test, and lies within the memory
+-- the header is that of the memory, and the image behind it passed the test and lies within the memory
 pub record ImageIn (m : List ℕ) (h : Header) : Type 0 where
+  pub header : header-at m ≡ h
   pub tested : RightImage (image-part m h)
   pub within : header-size + h .payload ≤ length m
 
--- the header is that of the memory
+-- the header is that of the memory, in both cases
 abbrev pub Told : List ℕ → Held → Type 0
 Told m Broken = Unit {0}
 Told m (Open h) = header-at m ≡ header-of h

@@ -1,15 +1,16 @@
-// Parts of the calls that the benchmark times by themselves: the layout, the test of an image, the search without it.
+// Parts of the calls that the benchmark times by themselves: the layout, the test of an image, the search behind one test.
 use image::Layout;
+use searching::Finding;
 ghost use mathlib.Core.Path.{_≡_};
-ghost use Prim.Native.Nat.{_≤_};
+ghost use Prim.Native.Nat.{_≤_, min};
 ghost use lib.ListN.{length};
 ghost use Rattle.trie.specs.Rule.{Rule};
 ghost use Rattle.image.specs.Answers.{layout-of};
 ghost use Rattle.image.specs.Held.{trie-in};
 ghost use Rattle.image.specs.Reading.{read-image, RightImage};
 ghost use Rattle.index_rule.specs.Check.{check-image};
-ghost use Rattle.searching.specs.Search.{search-answer};
-ghost use Rattle.timed_parts.specs.Parts.{refusal-of, row-count};
+ghost use Rattle.searching.specs.Search.{Answers, search-answer};
+ghost use Rattle.timed_parts.specs.Parts.{refusal-of, query-size, last-query, last-of, query-search, counted, image-search, image-counted};
 
 fn number(l: Layout) -> u64
     ensures { λ r. ⌜ r ≡ refusal-of (layout-of l) ⌝ }
@@ -36,20 +37,81 @@ pub extern "C" fn helmapricot_layout(img: &[u8]) -> u64
     number(image::read_image(img))
 }
 
-// The search of an image that passed the test: how many rows stand in scratch, or the largest number where it is refused.
+// How many bytes each query has; all are one query where they can't have so many.
+fn query_size(queries: &[u8], size: usize) -> usize
+    ensures { λ r. ⌜ r ≡ query-size (now (queries .entry)) size ⌝ }
+{
+    if size == 0 {
+        return queries.len();
+    }
+    if queries.len() < size {
+        return queries.len();
+    }
+    size
+}
+
+// Searches for each of the queries, size bytes each, and answers for the last.
+fn search_each(
+    img: &[u8],
+    queries: &[u8],
+    size: usize,
+    scratch: &mut [u8],
+    room: usize,
+) -> Finding
+    requires { ⌜ RightImage (now img) × Rule (trie-in (now img)) × (size ≤ 256) × (min 1 (length (now queries)) ≤ size) × (size ≤ length (now queries)) ⌝ }
+    ensures { λ r. ⌜ Answers (search-answer (trie-in (now (img .entry))) (last-query (now (queries .entry)) size) (length (now (scratch .entry))) room) (now (scratch .exit)) r ⌝ }
+{
+    let last = queries.len() - size;
+    let mut at = 0;
+    while at < last {
+        let end = at + size;
+        searching::search_image(img, &queries[at..end], scratch, room);
+        at = end;
+    }
+    searching::search_image(img, &queries[last..], scratch, room)
+}
+
+// The same for an image that passed the test: the number of the refusal, 0 where there is none, and how many rows there are.
+fn search_right(
+    img: &[u8],
+    queries: &[u8],
+    size: usize,
+    scratch: &mut [u8],
+    room: usize,
+    count: &mut [u64; 1],
+) -> u64
+    requires { ⌜ RightImage (now img) × Rule (trie-in (now img)) ⌝ }
+    ensures answer { λ r. ⌜ r ≡ query-search (trie-in (now (img .entry))) (last-of (now (queries .entry)) size) (length (now (scratch .entry))) room .refusal ⌝ }
+    ensures count { λ _. ⌜ now (count .exit) ≡ counted (query-search (trie-in (now (img .entry))) (last-of (now (queries .entry)) size) (length (now (scratch .entry))) room) (now (count .entry)) ⌝ }
+{
+    let n = query_size(queries, size);
+    if definitions::QUERY_LIMIT < n {
+        return definitions::QUERY_TOO_LONG;
+    }
+    let found = search_each(img, queries, n, scratch, room);
+    if found.refusal != 0 {
+        return found.refusal;
+    }
+    count[0] = found.count as u64;
+    0
+}
+
+// Tests an image once and searches it for each of the queries, size bytes each: so the search can be timed apart from the
+// test. The answer is that of the last search.
 #[no_mangle]
 pub extern "C" fn helmapricot_search_image(
     img: &[u8],
-    q: &[u8],
+    queries: &[u8],
+    size: usize,
     scratch: &mut [u8],
     room: usize,
+    count: &mut [u64; 1],
 ) -> u64
-    requires { ⌜ RightImage (now img) × Rule (trie-in (now img)) × (length (now q) ≤ 256) ⌝ }
-    ensures { λ r. ⌜ r ≡ row-count (search-answer (trie-in (now (img .entry))) (now (q .entry)) (length (now (scratch .entry))) room) ⌝ }
+    ensures answer { λ r. ⌜ r ≡ image-search (now (img .entry)) (last-of (now (queries .entry)) size) (length (now (scratch .entry))) room .refusal ⌝ }
+    ensures count { λ _. ⌜ now (count .exit) ≡ image-counted (now (img .entry)) (last-of (now (queries .entry)) size) (length (now (scratch .entry))) room (now (count .entry)) ⌝ }
 {
-    let found = searching::search_image(img, q, scratch, room);
-    if found.refusal != 0 {
-        return u64::MAX;
+    match index_rule::check(img) {
+        Layout::Refused(n) => n,
+        Layout::Right(_) => search_right(img, queries, size, scratch, room, count),
     }
-    found.count as u64
 }

@@ -150,9 +150,12 @@ fn main() {
         let mut k = 0;
         let mut next = || { k += 1; queries[k % queries.len()] };
         let whole = middle(9, || { black_box(linked::search(&mem, next(), &mut scratch, &mut rows)); });
-        let times = if len == 1 { 401 } else { 4001 };
-        let proper = middle(times, || { black_box(timed_parts::search_image(image, next(), &mut scratch, rows.len())); });
-        let rust = middle(times, || { black_box(index.search(next())); });
+        // the test of the image is made once for many searches, and taken off
+        let times = match len { 1 => 400, 64 => 40_000, 256 => 4_000, _ => 400_000 };
+        let many: Vec<u8> = (0..times).flat_map(|_| next().iter().copied()).collect();
+        let mut searches = |queries: &[u8]| middle(5, || { assert!(timed_parts::search_image(image, queries, len, &mut scratch, rows.len()).is_ok()); });
+        let proper = (searches(&many) - searches(&many[..len])) / (times - 1) as f64;
+        let rust = middle(5, || { for q in many.chunks_exact(len) { black_box(index.search(q)); } }) / times as f64;
         let ours: u64 = queries.iter().map(|q| linked::search(&mem, q, &mut scratch, &mut rows)).map(|(n, c)| { assert_eq!(n, 0); c }).sum();
         let theirs: usize = queries.iter().map(|q| index.search(q).len()).sum();
         println!("{:24} {:12.1} {:12.2} {:12.2}   {ours} {theirs}", format!("{len} bytes"), whole, proper, rust);

@@ -1,37 +1,68 @@
--- `helmapricot_search_image` counts the rows that are found. Assumes nothing.
-use Prim.Native.Nat.{ℕ}
-use mathlib.Core.Path.{_≡_, refl, sym, _∙_}
-use mathlib.Core.List.{List}
-use borrow.Author.Tests.{eq-eqb, ne-eqb}
+use native.Mathlib.Omega.{arith}
+use mathlib.Core.Path.{refl, sym, ap, _∙_, subst}
+use lib.ListN.{length}
+use denote.Ref.{now}
 use borrow.Author.Needs.{needs}
-use Rattle.definitions.specs.Calls.{last-number}
-use Rattle.searching.specs.declared.Finding.{Finding}
-use Rattle.searching.specs.Search.{Rows-found, Answers}
-use Rattle.timed_parts.specs.Parts.{row-count}
+use Rattle.image.specs.Answers.{layout-of}
+use Rattle.image.specs.Reading.{Layout, right}
+use Rattle.index_rule.proofs.Theorems.{check-image-is}
+use Rattle.timed_parts.specs.Parts.{last-of, found-in, counted-in}
+use Rattle.timed_parts.proofs.Queries.{right-image, said-refused, said-right}
 use Rattle.timed_parts.proofs.helmapricot_search_image.Statement.{statement}
 use Rattle.timed_parts.proofs.helmapricot_search_image.Tie as tie
+use Rattle.timed_parts.proofs.helmapricot_search_image.Reads as reads
+use Rattle.timed_parts.proofs.helmapricot_search_image.Lts as lts
+use Rattle.index_rule.proofs.check.Reads as check-reads
+use Rattle.timed_parts.proofs.search_right.Reads as search-right-reads
 
-refused-count : {o : Rows-found} {s : List ℕ} {f : Finding} → Answers o s f → (f .refusal ≡ 0 → ⊥) → last-number ≡ row-count o
-refused-count {o} a h = rw (ne-eqb (o .refusal) 0 (λ e. h (a .refused ∙ e))) refl
+-- src/lib.rt:113:11
+check-requires : tie.Need-check-requires
+check-requires c κs = search needs
 
-found-count : {o : Rows-found} {s : List ℕ} {f : Finding} → Answers o s f → f .refusal ≡ 0 → f .count ≡ row-count o
-found-count {o} a h = rw (eq-eqb (o .refusal) 0 (sym (a .refused) ∙ h)) (a .counted)
+-- src/lib.rt:114:25
+enum-known-n : tie.Need-enum-known-n
+enum-known-n c = search needs
 
-search-image-requires : tie.Need-search-image-requires
-search-image-requires c κs = search needs
+-- src/lib.rt:115:62
+enum-told : tie.Need-enum-told
+enum-told c = search needs
 
+-- src/lib.rt:115:29
+search-right-requires : tie.Need-search-right-requires
+search-right-requires c κs =
+    let told = c .before .before in
+    let run = told .before .before in
+    let known = run .before .before .before in
+    let a = known .before .args in
+    right-image (now (a .img)) (λ j. omega (arith, known .shared-slice-known .given j)) (omega arith) (ap layout-of (sym (told .enum-told .given .1)) ∙ run .check .ensures)
+
+-- src/lib.rt:101:1
+returns : tie.Need-returns
+returns c =
+    let run = c .before .before .before in
+    let a = run .before .before .before .before .args in
+    said-refused (now (a .img)) (last-of (now (a .queries)) (a .size)) (length (now (a .scratch))) (a .room) _ (ap layout-of (sym (c .before .n .given .1)) ∙ run .check .ensures)
+
+-- src/lib.rt:101:1
 same-length : tie.Need-same-length
 same-length c = search needs
 
-returns : tie.Need-returns
-returns c = refused-count (c .before .before .before .before .search-image .ensures) (c .if1 .taken)
-
-same-length-2 : tie.Need-same-length-2
-same-length-2 c = search needs
-
+-- src/lib.rt:101:1
 returns-2 : tie.Need-returns-2
-returns-2 c = found-count (c .before .before .before .before .search-image .ensures) (c .if1 .left)
+returns-2 c =
+    let told = c .before .before .before .before .before in
+    let run = told .before .before in
+    let a = run .before .before .before .before .args in
+    said-right (now (a .img)) (last-of (now (a .queries)) (a .size)) (length (now (a .scratch))) (a .room) _ (ap layout-of (sym (told .enum-told .given .1)) ∙ run .check .ensures) (c .before .before .search-right .ensures)
 
 pub helmapricot-search-image-spec : {M : Type 1} → statement M
 helmapricot-search-image-spec =
-    tie.close (tie.spec search-image-requires same-length returns same-length-2 returns-2)
+    tie.close
+    (tie.spec
+    check-requires
+    enum-known-n
+    enum-told
+    search-right-requires
+    returns
+    same-length
+    returns-2)

@@ -1,0 +1,2 @@
+-- `Queries` has the laws of queries that stand one behind another. Assumes nothing.
+pub mod Queries
