@@ -11,6 +11,7 @@ use lib.ListN.{getD}
 use borrow.Author.Tests.{eqb-true, le-leb, leb-false, leb-true, lt-leb}
 use Rattle.image.specs.Kinds.{fits, kind-of, kinds}
 use Rattle.image.specs.declared.kinds.KindRange.{KindRange}
+use Rattle.image.specs.Promises.{SomeRange, OneRange}
 
 -- ── the kind of a count ──
 
@@ -85,7 +86,7 @@ fits-view k n e = go (eqb k 3) refl (eqb k 2) refl (eqb k 1) refl e
 -- ── the rule ──
 
 -- a count of at most 256 lies in a range
-pub some-range : (n : ℕ) → n ≤ 256 → fits (kind-of n) n ≡ true
+pub some-range : SomeRange
 some-range n h = go (leb n 8) refl (leb n 96) refl
   where
     go : (p : Bool) → leb n 8 ≡ p → (q : Bool) → leb n 96 ≡ q → fits (kind-of n) n ≡ true
@@ -97,7 +98,7 @@ some-range n h = go (leb n 8) refl (leb n 96) refl
     go false x false y = let a = leb-false n 96 y in rw (kind-one n a h) (fits-one n a h)
 
 -- and in no other; a higher count lies in none
-pub one-range : (k n : ℕ) → fits k n ≡ true → (n ≤ 256) × (k ≡ kind-of n)
+pub one-range : OneRange
 one-range k n e = go (fits-view k n e)
   where
     go : Fits k n → (n ≤ 256) × (k ≡ kind-of n)

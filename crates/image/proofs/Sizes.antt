@@ -17,6 +17,7 @@ use Rattle.image.proofs.Shapes.{count-entries, count-nodes, fitting}
 use Rattle.image.specs.Image.{Child, as-child, ascending, children-of, children-size, entries-in, image, lists-size, node-size, nodes-in, slot-size, slots-size, table-size, with-byte}
 use Rattle.image.specs.Kinds.{kind-of}
 use Rattle.image.specs.Savable.{Savable, Shaped}
+use Rattle.image.specs.Promises.{ImageSize}
 
 -- a child's node leaves 31 bytes of its 64: 10 for its flag and table entry or its share of a table of kind 1, 2,304 / 97
 unfoldable pub Lean : List Child → Type 0
@@ -58,7 +59,7 @@ all-lean d leaf l = tt
 all-lean zero (more b h under later) l = absurd l
 all-lean (suc d) (more b h under later) l = (node-most h (children-of under) (l .0) (l .1) (all-lean d under (l .3)), all-lean (suc d) later (l .4))
 
-pub image-size : (t : Trie) → Shaped t → length (image t) ≤ 64 * nodes t + 24 * entries t
+pub image-size : ImageSize
 unfolding image
 image-size empty s = omega (arith, length-replicate {A = ℕ} 25 0)
 image-size (root n) s =

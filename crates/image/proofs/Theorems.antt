@@ -29,6 +29,7 @@ use Rattle.image.specs.Image.{Child, children-of, entries-in, image, nod
 use Rattle.image.specs.Kinds.{fits, kind-of}
 use Rattle.image.specs.Reading.{Step, done, fault, read-counts, read-image, read-node, read-root, refused, right, to-the-end}
 use Rattle.image.specs.Savable.{AllBytes, Savable, Shaped, ShapedNode}
+use Rattle.image.specs.Promises.{ImageRead, ReadImageIs}
 
 -- ── the trie of an image, by its first byte ──
 
@@ -84,7 +85,7 @@ node-read n p m =
       held-node s z ∙ ap root (node-held s 16 0 h c (p .lists) (p .all-lists) (f .limits) (f .bytes) (f .distinct) (f .up) m (omega arith) w),
     )
 
-pub image-read : (t : Trie) → Savable t → (read-image (image t) ≡ right (nodes t) (entries t)) × (trie-in (image t) ≡ t)
+pub image-read : ImageRead
 unfolding image
 image-read empty v = (read-none, held-none (replicate 25 0) refl)
 image-read (root n) v = node-read n (v .shaped) (v .size)
@@ -170,8 +171,7 @@ node-is s a k n e f =
     let fits = node-fits s a 16 0 in
     (all-held s xs (K .holds) l, shaped-of t (fits .lists) (fits .all-lists) (record { limits = g .3; bytes = g .0; distinct = g .1; up = g .2 }))
 
-pub read-image-is : (s : List ℕ) → AllBytes s → length s < 2 ^ 64 → (n e : ℕ) → read-image s ≡ right n e →
-    (image (trie-in s) ≡ s) × (nodes (trie-in s) ≡ n) × (entries (trie-in s) ≡ e) × Savable (trie-in s)
+pub read-image-is : ReadImageIs
 read-image-is s a m n e f = go (root-read s n e f)
   where
     same : {x y z w : ℕ} → right x y ≡ right z w → (x ≡ z) × (y ≡ w)

@@ -18,6 +18,7 @@ use Rattle.image.specs.Held.{trie-in}
 use Rattle.image.specs.Reading.{Layout, right, refused, read-image}
 use Rattle.image.specs.Savable.{AllBytes, Shaped, Short}
 use Rattle.index_rule.specs.Check.{and-rule, check-image}
+use Rattle.index_rule.specs.Promises.{IndexRuleIs, CheckImageIs}
 
 -- ── no path exceeds the levels ──
 
@@ -49,7 +50,7 @@ short-path (b ∷ path) (suc d) n m h e = go (child (n .children) b) (short-chil
 
 -- ── the test is the rule ──
 
-pub index-rule-is : (t : Trie) → Shaped t → (index-rule t ≡ true) ↔ Rule t
+pub index-rule-is : IndexRuleIs
 index-rule-is empty v = ((λ e. tt), λ r. refl)
 index-rule-is (root n) v = rule-test-is n (λ path h. short-path path 16 n (h .node) (v .short) (h .there)) (v .apart)
 
@@ -70,7 +71,7 @@ accepted false (right m n) k e = ((λ f. absurd (clash f)), λ f. absurd (never 
     never : false ≡ true → ⊥
     never f = let z : _≡_ {A = ℕ} 0 1 = cc in omega arith
 
-pub check-image-is : (s : List ℕ) → AllBytes s → length s < 2 ^ 64 → (k e : ℕ) → (check-image s ≡ right k e) ↔ ((read-image s ≡ right k e) × Rule (trie-in s))
+pub check-image-is : CheckImageIs
 unfolding check-image
 check-image-is s a l k e = (to, fro)
   where

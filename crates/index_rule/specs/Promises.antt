@@ -1,0 +1,22 @@
+-- What a reader may conclude of the test of an image. Assumes nothing.
+use Prim.Native.Nat.{ℕ, _^_, _<_}
+use mathlib.Core.Path.{_≡_}
+use mathlib.Core.Bool.{true}
+use mathlib.Core.Logic.{_↔_}
+use mathlib.Core.List.{List}
+use lib.ListN.{length}
+use Rattle.trie.specs.Trie.{Trie}
+use Rattle.trie.specs.Rule.{Rule}
+use Rattle.trie.specs.Test.{index-rule}
+use Rattle.image.specs.Held.{trie-in}
+use Rattle.image.specs.Reading.{right, read-image}
+use Rattle.image.specs.Savable.{AllBytes, Shaped}
+use Rattle.index_rule.specs.Check.{check-image}
+
+-- the test that is computed is the index rule in the document's words
+abbrev pub IndexRuleIs : Type 0
+IndexRuleIs = (t : Trie) → Shaped t → (index-rule t ≡ true) ↔ Rule t
+
+-- an image is accepted exactly if it has the layout and the index rule holds
+abbrev pub CheckImageIs : Type 0
+CheckImageIs = (s : List ℕ) → AllBytes s → length s < 2 ^ 64 → (k e : ℕ) → (check-image s ≡ right k e) ↔ ((read-image s ≡ right k e) × Rule (trie-in s))
