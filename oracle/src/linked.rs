@@ -32,16 +32,19 @@ pub fn finish(mem: &mut [u8]) -> u64 {
     unsafe { helmapricot_finish(mem.as_mut_ptr(), mem.len()) }
 }
 
-/// The number of the refusal, 0 for none, and how many rows there are. The call writes the count, refused or not.
+/// What stands in a count or a size before a call; one that is refused leaves it.
+pub const UNWRITTEN: u64 = u64::MAX;
+
+/// The number of the refusal, 0 for none, and how many rows there are.
 pub fn search(mem: &[u8], q: &[u8], scratch: &mut [u8], rows: &mut [Row]) -> (u64, u64) {
-    let mut count = u64::MAX;
+    let mut count = UNWRITTEN;
     let n = unsafe { helmapricot_search(mem.as_ptr(), mem.len(), q.as_ptr(), q.len(), scratch.as_mut_ptr(), scratch.len(), rows.as_mut_ptr(), rows.len(), &mut count) };
     (n, count)
 }
 
-/// The number of the refusal, 0 for none, and how many bytes the image has. The call writes the size, refused or not.
+/// The number of the refusal, 0 for none, and how many bytes the image has.
 pub fn save(mem: &[u8], out: &mut [u8]) -> (u64, u64) {
-    let mut size = u64::MAX;
+    let mut size = UNWRITTEN;
     let n = unsafe { helmapricot_save(mem.as_ptr(), mem.len(), out.as_mut_ptr(), out.len(), &mut size) };
     (n, size)
 }

@@ -115,6 +115,7 @@ impl Port {
         if ![0, 10, 11].contains(&number) {
             same_bytes("scratch after a refusal", &before_scratch, self.scratch.bytes())?;
         }
+        let count = written("the row count", number, count)?;
         if count > room as u64 {
             return Err(format!("{count} rows in a slice of {room}, answer {number}"));
         }
@@ -130,13 +131,23 @@ impl Port {
         self.out.set(&before);
         let (number, size) = linked::save(self.mem.bytes(), self.out.bytes());
         self.fences()?;
-        if size > buffer as u64 || (number != 0 && size != 0) {
+        let size = written("the size", number, size)?;
+        if size > buffer as u64 {
             return Err(format!("save answers {number} and {size} bytes in a buffer of {buffer}"));
         }
         let size = size as usize;
         same_bytes("the save buffer after the image", &before[size..], &self.out.bytes()[size..])?;
         Ok(if number == 0 { Ok(self.out.bytes()[..size].to_vec()) } else { Err(number) })
     }
+}
+
+/// What a call wrote into a place of the caller's: 0 stands for a refusal, which must leave it as it was.
+fn written(what: &str, number: u64, value: u64) -> Result<u64, String> {
+    if number == 0 {
+        return Ok(value);
+    }
+    same(&format!("{what} after refusal {number}"), linked::UNWRITTEN, value)?;
+    Ok(0)
 }
 
 // ── one recording ──
@@ -542,10 +553,13 @@ impl Run<'_> {
         same_bytes("a stream afterwards", stream, self.port.input.bytes())?;
         let told = model::read_block(stream, at);
         let number = told.as_ref().err().copied().unwrap_or(0);
-        expected[0] = 0;
-        if let Ok(Some((b, next))) = told {
-            expected = [1, b.kind, b.at.address, b.bytes.len() as u64, b.at.created, b.at.destroyed, next as u64];
-            same_bytes("a block's data", &b.bytes, &stream[next - b.bytes.len()..next])?;
+        match told {
+            Ok(Some((b, next))) => {
+                expected = [1, b.kind, b.at.address, b.bytes.len() as u64, b.at.created, b.at.destroyed, next as u64];
+                same_bytes("a block's data", &b.bytes, &stream[next - b.bytes.len()..next])?;
+            }
+            Ok(None) => expected[0] = 0,
+            Err(_) => {}
         }
         self.counts.one(&format!("blocks of streams read, answered {number}"));
         same(&format!("the block at {at} of ({})", hex(stream)), (number, expected), (got, fields))

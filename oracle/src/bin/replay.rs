@@ -29,14 +29,20 @@ fn opened() -> Vec<u8> {
 fn find(mem: &[u8], q: &[u8]) -> String {
     let mut rows = vec![linked::Row::default(); ROWS];
     let (answer, count) = linked::search(mem, q, &mut vec![0; 24 * PLACES], &mut rows);
+    if answer != 0 {
+        return said(answer, String::new());
+    }
     let places: String = rows[..count as usize].iter().map(|r| format!("(place {} {} {})\n", r.address, r.created, r.destroyed)).collect();
-    said(answer, format!("{places}(end {count})\n"))
+    format!("{places}(end {count})\n")
 }
 
 fn save(mem: &[u8]) -> String {
     let mut out = vec![0; NEEDED];
     let (answer, size) = linked::save(mem, &mut out);
-    said(answer, format!("(image {})\n", hex(&out[..size as usize])))
+    if answer != 0 {
+        return said(answer, String::new());
+    }
+    format!("(image {})\n", hex(&out[..size as usize]))
 }
 
 fn main() {
