@@ -4,6 +4,7 @@ pub mod answers;
 #[cfg(feature = "calls")]
 pub mod fenced;
 pub mod index;
+pub mod level;
 #[cfg(feature = "calls")]
 pub mod linked;
 pub mod making;

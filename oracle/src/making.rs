@@ -1,4 +1,5 @@
 //! Recordings from a seed.
+use crate::level::Level;
 use crate::model::Bytes;
 use crate::random::Random;
 use crate::recording::{Block, Call, Domain, Location, Recording};
@@ -15,6 +16,7 @@ pub enum Want {
 }
 
 pub struct Maker {
+    pub level: Level,
     pub r: Random,
     want: Want,
     alphabet: Vec<u8>,
@@ -37,7 +39,7 @@ pub fn alphabet(r: &mut Random, n: usize) -> Vec<u8> {
 }
 
 impl Maker {
-    pub fn new(mut r: Random, want: Want) -> Self {
+    pub fn new(level: Level, mut r: Random, want: Want) -> Self {
         let letters = r.pick(&[1, 2, 2, 3, 4, 8, 9, 20, 40, 96, 97, 256, 256]);
         let alphabet = alphabet(&mut r, letters);
         let n = r.between(1, 40) as usize;
@@ -47,7 +49,7 @@ impl Maker {
         let least = r.pick(&[0, 0, 1, 100, 1 << 32, u64::MAX - span, u64::MAX - span, u64::MAX - span / 2]);
         let ticks = r.pick(&[2, 4, 10, 10, 50, 1000]);
         let first_tick = r.pick(&[0, 0, 1, 1 << 40, u64::MAX - ticks]);
-        Self { r, want, alphabet, text, least, span, first_tick, ticks, domain: Domain::default(), blocks: Vec::new() }
+        Self { level, r, want, alphabet, text, least, span, first_tick, ticks, domain: Domain::default(), blocks: Vec::new() }
     }
 
     fn length(&mut self) -> usize {
@@ -313,10 +315,10 @@ fn small_recording(blocks: Vec<Block>, q: &[u8]) -> Recording {
 }
 
 /// The recording of a seed and a number.
-pub fn make(seed: u64, number: u64) -> Recording {
+pub fn make(level: Level, seed: u64, number: u64) -> Recording {
     let mut r = Random::new(seed.wrapping_mul(0x2545f4914f6cdd1d) ^ number.wrapping_mul(0x9e3779b97f4a7c15));
     let want = r.pick(&[Want::Met, Want::Met, Want::Met, Want::Met, Want::Consistent, Want::Consistent, Want::Consistent, Want::Any, Want::Any]);
-    let mut m = Maker::new(r, want);
+    let mut m = Maker::new(level, r, want);
     // the largest capacity, all but used up
     if number % 5000 == 2499 {
         m.least = 1 << 20;

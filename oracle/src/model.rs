@@ -1,5 +1,7 @@
 //! Document 01 once more, slowly: every call as a function on bytes, written from the document and from nothing else, so that
-//! the port's answers and the bytes it leaves can be foretold for every input, damaged ones too.
+//! the port's answers and the bytes it leaves can be foretold for every input, damaged ones too. A level says which requests it
+//! goes by besides.
+use crate::level::Level;
 use crate::recording::{Block, Location, Piece};
 use std::collections::{BTreeSet, HashMap, HashSet};
 
@@ -421,7 +423,7 @@ fn meets_rule(root: &Node) -> bool {
 }
 
 /// What an image holds, with its nodes and entries, or the number of its refusal.
-pub fn judge(s: &[u8]) -> Result<(Option<Node>, u64, u64), u64> {
+pub fn judge(_level: Level, s: &[u8]) -> Result<(Option<Node>, u64, u64), u64> {
     let mut r = Reader { s, at: 0 };
     let root = r.root()?;
     if r.at != s.len() || !root.as_ref().is_none_or(meets_rule) {
@@ -443,6 +445,7 @@ pub enum Held {
 /// A lent memory and what it holds.
 #[derive(Clone)]
 pub struct Memory {
+    pub level: Level,
     pub bytes: Vec<u8>,
     pub held: Held,
 }
@@ -481,7 +484,7 @@ fn log(m: &[u8]) -> Option<Vec<Piece>> {
 }
 
 /// What bytes hold: docs/DECISIONS.md has the layout.
-pub fn held(m: &[u8]) -> Held {
+pub fn held(level: Level, m: &[u8]) -> Held {
     if m.len() < 64 || !within_limits(number(m, 0)) || !within_limits(number(m, 8)) {
         return Held::Broken;
     }
@@ -493,15 +496,15 @@ pub fn held(m: &[u8]) -> Held {
     if phase == 0 {
         return log(m).map_or(Held::Broken, Held::Open);
     }
-    match judge(&m[64..64 + payload as usize]) {
+    match judge(level, &m[64..64 + payload as usize]) {
         Ok((root, n, e)) if n == number(m, 24) && e == number(m, 32) => Held::Finished(root),
         _ => Held::Broken,
     }
 }
 
 impl Memory {
-    pub fn of(bytes: &[u8]) -> Self {
-        Self { bytes: bytes.to_vec(), held: held(bytes) }
+    pub fn of(level: Level, bytes: &[u8]) -> Self {
+        Self { level, bytes: bytes.to_vec(), held: held(level, bytes) }
     }
 
     fn nodes_room(&self) -> u64 {
@@ -627,7 +630,7 @@ impl Memory {
         if self.held == Held::Broken {
             return 1;
         }
-        match judge(image) {
+        match judge(self.level, image) {
             Err(n) => n,
             Ok((_, nodes, _)) if nodes > self.nodes_room() => 7,
             Ok((_, _, entries)) if entries > self.entries_room() => 8,

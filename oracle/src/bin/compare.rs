@@ -7,6 +7,7 @@
 //! each thing was compared. At the first difference it prints the recording in the forms of `places`, and the smallest one
 //! found that still differs, and ends with 1.
 use oracle::fenced::Fenced;
+use oracle::level::Level;
 use oracle::linked;
 use oracle::making::{make, small};
 use oracle::model::{self, Bytes, Foretold, Held, Memory};
@@ -364,10 +365,10 @@ impl Run<'_> {
 
     /// Loads the Rust's image into another memory, searches there, and saves it again.
     fn exchange(&mut self, theirs: &[u8]) -> Compared {
-        let Ok((_, nodes, entries)) = model::judge(theirs) else { return self.load_into(self.open.clone().unwrap(), theirs).map(|_| ()) };
+        let Ok((_, nodes, entries)) = model::judge(Level::LANDED, theirs) else { return self.load_into(self.open.clone().unwrap(), theirs).map(|_| ()) };
         let entries = entries.max(1);
         for (n, e) in [(nodes, entries), (nodes, entries - 1), (nodes - 1, entries), (nodes - 1, entries - 1)] {
-            let mut other = Memory::of(&self.r.bytes(model::needed(n, e) + 5));
+            let mut other = Memory::of(Level::LANDED, &self.r.bytes(model::needed(n, e) + 5));
             if other.open(n, e) == 0 && self.load_into(other.clone(), theirs)? == 0 {
                 let saved = self.port.save(theirs.len(), &mut self.r)?.map_err(|n| format!("saving what was loaded: refused {n}"))?;
                 same_bytes("a loaded image, saved again", theirs, &saved)?;
@@ -423,7 +424,7 @@ impl Run<'_> {
         for k in 0..times {
             let whole = if k % 2 == 0 { open.clone() } else { self.model.clone() };
             let bytes = damaged_memory(&whole.bytes, &mut self.r);
-            let bad = Memory::of(&bytes);
+            let bad = Memory::of(Level::LANDED, &bytes);
             self.counts.one("damaged memories");
             self.counts.one(&format!("damaged memories that {}", if bytes == whole.bytes { "have the same bytes" } else { becomes(&whole, &bad) }));
             let q = if queries.is_empty() { vec![97] } else { queries[self.r.below(queries.len() as u64) as usize].clone() };
@@ -441,7 +442,7 @@ impl Run<'_> {
             for bit in (0..8 * end).chain((8 * end..8 * whole.bytes.len()).step_by(37)) {
                 let mut bytes = whole.bytes.clone();
                 bytes[bit / 8] ^= 1 << (bit % 8);
-                let bad = Memory::of(&bytes);
+                let bad = Memory::of(Level::LANDED, &bytes);
                 let place = if bit / 8 < 64 { "in the header" } else if bit / 8 < end { "in the log or image" } else { "behind the log or image" };
                 self.counts.one(&format!("bit flips of small memories, {place}: {}", becomes(&whole, &bad)));
                 self.calls_on(&bad, &q, &image)?;
@@ -695,7 +696,7 @@ fn compare(rec: &Recording, seed: u64, port: &mut Port, counts: &mut Counts, eve
     let garbage = r.below(70) as usize;
     let lent = r.bytes(model::needed(rec.nodes, rec.entries) + garbage);
     port.mem.set(&lent);
-    let model = Memory { bytes: lent, held: Held::Broken };
+    let model = Memory { level: Level::LANDED, bytes: lent, held: Held::Broken };
     let mut run = Run { port, counts, r, model, open: None, taken: Vec::new(), finished: None, calls: 0 };
     run.open(rec.nodes, rec.entries)?;
     for c in &rec.calls {
@@ -703,7 +704,7 @@ fn compare(rec: &Recording, seed: u64, port: &mut Port, counts: &mut Counts, eve
     }
     run.same_memory("memory after all calls")?;
     if run.finished.is_some() && run.model.bytes.len() < LARGE {
-        same("what the memory holds, read back", &run.model.held, &model::held(&run.model.bytes))?;
+        same("what the memory holds, read back", &run.model.held, &model::held(Level::LANDED, &run.model.bytes))?;
     }
     run.images()?;
     let times = if run.is_large() { 2 } else { 8 };
@@ -802,7 +803,7 @@ fn main() {
         }
     }
     for number in first..first + count {
-        let rec = make(seed, number);
+        let rec = make(Level::LANDED, seed, number);
         let own = seed ^ number.wrapping_mul(0xd1342543de82ef95);
         if let Err(why) = tried(&rec, own, &mut port, &mut counts, false) {
             report(number, rec, own, why);

@@ -7,6 +7,7 @@
 //! what the sample covers, and ends with 1 where something is missing.
 use oracle::answers::Answering;
 use oracle::making::{alphabet, Maker, Want};
+use oracle::level::Level;
 use oracle::model::{self, Bytes};
 use oracle::random::Random;
 use oracle::recording::{Block, Call, Domain, Piece};
@@ -237,7 +238,7 @@ fn made(s: &mut Sample, seed: u64, until: usize) {
         if s.recordings >= 330 || s.size() > until {
             return;
         }
-        let mut m = Maker::new(Random::new(seed + k), Want::Met);
+        let mut m = Maker::new(Level::LANDED, Random::new(seed + k), Want::Met);
         let count = m.r.between(1, 6);
         (0..count).for_each(|_| m.add_one());
         let held = Bytes::of(&m.blocks);
