@@ -12,8 +12,9 @@ use lib.Dec.{eqb}
 use borrow.Author.Tests.{eq-eqb}
 use Rattle.definitions.specs.Location.{Location, common, overlap, normal, Sorted, Less}
 use Rattle.definitions.specs.Blocks.{Piece, tails}
-use Rattle.definitions.specs.Places.{Reach, misses, covers, onward, first-of, rest-of, reach, extend, by-piece, by-pieces, ends, places, table, Chain, last, link, T}
+use Rattle.definitions.specs.Places.{Reach, misses, covers, onward, first-of, rest-of, reach, extend, by-piece, by-pieces, ends, places, table, Chain, last, link, T, NeverEmpty}
 use Rattle.definitions.specs.Rows.{combine-split-times, rows}
+use Rattle.definitions.specs.Runs.{Alive}
 use Rattle.definitions.proofs.Views.{Eq, eq, Overlaps, overlap-is, overlap-some}
 use Rattle.definitions.proofs.Order.{normal-mem, mem-normal, sorted-normal, same-lists}
 use Rattle.definitions.proofs.Tails.{Tail, tails-mem, mem-tails}
@@ -26,6 +27,24 @@ chain-some {q = q} (link p rest m h n e c a v) = go (p .bytes) n e
     go : (cs : List ℕ) → 0 < length cs → q ≡ cs ++ rest → 0 < length q
     go [] n e = absurd (not-suc-le-zero n)
     go (c ∷ cs) n e = omega (arith, ap length e)
+
+-- the overlap of lives that are not empty is not
+chain-lives : {ps rs : List Piece} {q : List ℕ} {l : Location} → Alive ps → Alive rs → Chain ps rs q l → l .created < l .destroyed
+chain-lives a b (last p more m n e f) = subst (λ (x : Location). x .created < x .destroyed) (sym f) (b p m)
+chain-lives {l = l} a b (link p rest next m n e c j v) =
+    let k : next .created < next .destroyed = chain-lives a a c in
+    let o : Overlaps (p .at) next l = overlap-is (p .at) next l v in
+    subst (λ (x : Location). x .created < x .destroyed) (sym (o .is)) (omega (arith, b p m, o .left, o .right))
+
+tails-alive : (ps : List Piece) → Alive ps → Alive (tails ps)
+tails-alive ps a x h = go (tails-mem ps h)
+  where
+    go : Tail ps x → x .at .created < x .at .destroyed
+    go k = subst (λ (y : Piece). y .at .created < y .at .destroyed) (sym (k .is)) (a (k .piece) (k .listed))
+
+pub never-empty : NeverEmpty
+never-empty ps a q zero l c = chain-lives a (tails-alive ps a) c
+never-empty ps a q (suc i) l c = chain-lives a a c
 
 module _ (ps : List Piece) where
   -- from the table to chains

@@ -6,7 +6,7 @@ use native.Mathlib.Omega.{arith}
 use mathlib.Core.Path.{_≡_, refl, sym, ap, _∙_, subst}
 use mathlib.Core.Bool.{Bool, true, false, cond}
 use mathlib.Core.Logic.{_⊎_, inl, inr, _↔_}
-use mathlib.Core.List.{List, [], _∷_, _++_, List·Memᴰ as Mem, List·Memᴰ·head as here, List·Memᴰ·tail as later, List·Memᴰ·not-nil as not-nil, List·Memᴰ·eq-of-singleton as only-one, List·Memᴰ·append-cases as append-cases, Memᴰ·append-left as append-left, Memᴰ·append-right as append-right}
+use mathlib.Core.List.{List, [], _∷_, _++_, append-nil, append-assoc, List·Memᴰ as Mem, List·Memᴰ·head as here, List·Memᴰ·tail as later, List·Memᴰ·not-nil as not-nil, List·Memᴰ·eq-of-singleton as only-one, List·Memᴰ·append-cases as append-cases, Memᴰ·append-left as append-left, Memᴰ·append-right as append-right}
 use lib.ListN.{length, getD, take, drop, length-take, length-drop}
 use lib.Seq.{getD-take, getD-drop}
 use lib.Dec.{leb}
@@ -150,6 +150,11 @@ pieces-mem {p} (b ∷ bs) h = go (pieces-mem bs) (append-cases (pieces b) h)
     go : (Mem p (pieces-of bs) → FromBlock bs p) → Mem p (pieces b) ⊎ Mem p (pieces-of bs) → FromBlock (b ∷ bs) p
     go ih (inl k) = record { block = b; listed = here refl; piece = piece-of b p k }
     go ih (inr k) = on (ih k)
+
+-- the pieces of blocks with one more
+pub pieces-added : (bs : List Block) (b : Block) → pieces-of (bs ++ (b ∷ [])) ≡ pieces-of bs ++ pieces b
+pieces-added [] b = append-nil (pieces b)
+pieces-added (x ∷ bs) b = ap (λ (ps : List Piece). pieces x ++ ps) (pieces-added bs b) ∙ sym (append-assoc (pieces x) (pieces-of bs) (pieces b))
 
 mem-pieces : {p : Piece} (bs : List Block) (b : Block) → Mem b bs → Mem p (pieces b) → Mem p (pieces-of bs)
 mem-pieces {p} (r ∷ bs) b (here e) k = append-left (pieces-of bs) (subst (λ (y : Block). Mem p (pieces y)) e k)

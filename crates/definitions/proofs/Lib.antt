@@ -13,5 +13,7 @@ pub mod Combine
 pub mod Runs
 pub mod Cutting
 pub mod Theorems
+pub mod Tallied
+pub mod Checks
 pub mod Taken
 pub mod Instance

@@ -1,4 +1,4 @@
--- What was taken passed the checks; the theorems on rows for whole recordings; the order of the checks. Assumes nothing.
+-- What was taken passed the checks; the theorems on rows for whole recordings. Assumes nothing.
 use Prim.Native.Nat.{ℕ, _+_, _≤_, _<_}
 use native.Mathlib.Omega.{arith}
 use mathlib.Core.Path.{_≡_, refl, sym, ap, _∙_, subst}
@@ -6,84 +6,65 @@ use mathlib.Core.Bool.{Bool, true, false, cond}
 use mathlib.Core.Logic.{_⊎_, inl, inr, _↔_}
 use mathlib.Core.List.{List, [], _∷_, _++_, List·Memᴰ as Mem, List·Memᴰ·head as here, List·Memᴰ·tail as later, List·Memᴰ·not-nil as not-nil, List·Memᴰ·eq-of-singleton as only-one, List·Memᴰ·append-cases as append-cases}
 use mathlib.Core.Option.{Option, none, some}
-use lib.ListN.{length, drop}
+use lib.ListN.{length}
 use lib.Dec.{eqb}
 use borrow.Author.Tests.{ltb-false, leb-false}
-use Rattle.definitions.specs.Blocks.{Block, nodes-charged, entries-charged}
+use Rattle.definitions.specs.Location.{Location}
+use Rattle.definitions.specs.Blocks.{Block, Piece, pieces, pieces-of, nodes-tallied, entries-tallied}
 use Rattle.definitions.specs.Runs.{Holds, RowsAreRuns, Consistent, Alive, SameRows, SameHeld}
-use Rattle.definitions.specs.Causes.{Cause, Check, first-cause, causes, checked, opening, record-call, search-call, save-call}
-use Rattle.definitions.specs.Calls.{Capacity, Recorded, fresh, added, data-limit, last-number, open-checks, memory-checks, record-checks, record-answer, unless-refused, recorded, search-checks, save-checks}
+use Rattle.definitions.specs.Causes.{Cause}
+use Rattle.definitions.specs.Calls.{Capacity, Recorded, fresh, standing, added, data-limit, last-number, memory-checks, block-checks, record-checks, record-answer, unless-refused, recorded}
 use Rattle.definitions.specs.Recording.{Call, record-block, finish, search, after, after-all, taken, Finished, Sound}
+use Rattle.definitions.proofs.Checks.{NoneApplies, none-applies}
+use Rattle.definitions.proofs.Cutting.{pieces-added}
 use Rattle.definitions.proofs.Theorems.{rows-are-runs, same-rows-same-held}
-
--- ── the checks stand in the order of the table ──
-
-record-order : (c : Capacity) (s : Recorded) (b : Block) → causes (record-checks c s 1 b) ≡ drop 1 (checked record-call)
-record-order c s b = refl
-
-search-order : (s : Recorded) (q : List ℕ) (scratch room : ℕ) → causes (search-checks s q scratch room) ≡ drop 1 (checked search-call)
-search-order s q scratch room = refl
-
-save-order : (finished : Bool) (image buffer : ℕ) → causes (save-checks finished image buffer) ≡ drop 1 (checked save-call)
-save-order finished image buffer = refl
-
-open-order : (c : Capacity) (memory : ℕ) → causes (open-checks c memory) ≡ checked opening
-open-order c memory = refl
 
 -- ── a block that is taken ──
 
--- none of the causes applies
-abbrev NoneApplies : List Check → Type 0
-NoneApplies [] = Unit {0}
-NoneApplies (c ∷ cs) = (c .applies ≡ false) × NoneApplies cs
-
-none-applies : (cs : List Check) → first-cause cs ≡ none → NoneApplies cs
-none-applies [] e = tt
-none-applies (c ∷ cs) e = go (c .applies) (none-applies cs) e
-  where
-    go : (o : Bool) → (first-cause cs ≡ none → NoneApplies cs) → cond o (some (c .cause)) (first-cause cs) ≡ none → (o ≡ false) × NoneApplies cs
-    go true ih f = absurd (let z : _≡_ {A = ℕ} 0 1 = cc in omega arith)
-    go false ih f = (refl, ih f)
-
 -- what is known of a Memory block that no check turned back
-pub record Passed (c : Capacity) (s : Recorded) (b : Block) : Type 0 where
-  pub sound : Sound b
-  pub nodes : nodes-charged (added s b) ≤ c .nodes
-  pub entries : entries-charged (added s b) ≤ c .entries
+pub record Passed (c : Capacity) (nodes entries n : ℕ) (l : Location) : Type 0 where
+  pub short : n ≤ data-limit
+  pub alive : l .created < l .destroyed
+  pub below : l .address + n ≤ last-number
+  pub few-nodes : nodes ≤ c .nodes
+  pub few-entries : entries ≤ c .entries
 
-passed : (c : Capacity) (s : Recorded) (b : Block) → NoneApplies (memory-checks c s b) → Passed c s b
-passed c s b f = record {
-  sound = record {
-    short = ltb-false data-limit (length (b .bytes)) (f .0);
-    alive = leb-false (b .at .destroyed) (b .at .created) (f .1 .0);
-    below = ltb-false last-number (b .at .address + length (b .bytes)) (f .1 .1 .0);
-  };
-  nodes = ltb-false (c .nodes) (nodes-charged (added s b)) (f .1 .1 .1 .0);
-  entries = ltb-false (c .entries) (entries-charged (added s b)) (f .1 .1 .1 .1 .0);
+pub passed : (c : Capacity) (nodes entries n : ℕ) (l : Location) → NoneApplies (memory-checks c nodes entries n l) → Passed c nodes entries n l
+passed c nodes entries n l f = record {
+  short = ltb-false data-limit n (f .0);
+  alive = leb-false (l .destroyed) (l .created) (f .1 .0);
+  below = ltb-false last-number (l .address + n) (f .1 .1 .0);
+  few-nodes = ltb-false (c .nodes) nodes (f .1 .1 .1 .0);
+  few-entries = ltb-false (c .entries) entries (f .1 .1 .1 .1 .0);
 }
 
-pub taken-passed : (c : Capacity) (s : Recorded) (b : Block) → record-answer c s 1 b ≡ none → Passed c s b
-taken-passed c s b e = passed c s b (none-applies (record-checks c s 1 b) e .1 .1)
+-- of a block behind pieces
+abbrev PassedBehind : Capacity → List Piece → Block → Type 0
+PassedBehind c ps b = Passed c (nodes-tallied (ps ++ pieces b)) (entries-tallied (ps ++ pieces b)) (length (b .bytes)) (b .at)
 
 -- ── what the calls of a recording have made of a fresh index ──
 
 pub record Right (c : Capacity) (s : Recorded) : Type 0 where
   pub sound : (b : Block) → Mem b (s .blocks) → Sound b
-  pub nodes : 1 ≤ c .nodes → nodes-charged (s .blocks) ≤ c .nodes
-  pub entries : entries-charged (s .blocks) ≤ c .entries
+  pub nodes : 1 ≤ c .nodes → nodes-tallied (pieces-of (s .blocks)) ≤ c .nodes
+  pub entries : entries-tallied (pieces-of (s .blocks)) ≤ c .entries
 
-right-added : (c : Capacity) (s : Recorded) (b : Block) → Right c s → Passed c s b → Right c (record { blocks = added s b; finished = s .finished })
-right-added c s b r p = record { sound = λ x h. go x (append-cases (s .blocks) h); nodes = λ h. p .nodes; entries = p .entries }
+right-added : (c : Capacity) (s : Recorded) (b : Block) → Right c s → PassedBehind c (pieces-of (s .blocks)) b → Right c (record { blocks = added s b; finished = s .finished })
+right-added c s b r p = record {
+  sound = λ x h. go x (append-cases (s .blocks) h);
+  nodes = λ h. subst (λ (ps : List Piece). nodes-tallied ps ≤ c .nodes) (sym (pieces-added (s .blocks) b)) (p .few-nodes);
+  entries = subst (λ (ps : List Piece). entries-tallied ps ≤ c .entries) (sym (pieces-added (s .blocks) b)) (p .few-entries);
+}
   where
     go : (x : Block) → Mem x (s .blocks) ⊎ Mem x (b ∷ []) → Sound x
     go x (inl k) = r .sound x k
-    go x (inr k) = subst Sound (sym (only-one k)) (p .sound)
+    go x (inr k) = subst Sound (sym (only-one k)) (record { short = p .short; alive = p .alive; below = p .below })
 
 right-recorded : (c : Capacity) (s : Recorded) (kind : ℕ) (b : Block) → Right c s → Right c (recorded c s kind b)
 right-recorded c s kind b r = go (eqb kind 1) refl (record-answer c s kind b) refl
   where
-    memory : eqb kind 1 ≡ true → record-answer c s kind b ≡ none → Passed c s b
-    memory e f = passed c s b (subst (λ (x : Bool). NoneApplies (cond x (memory-checks c s b) [])) e (none-applies (record-checks c s kind b) f .1 .1))
+    memory : eqb kind 1 ≡ true → record-answer c s kind b ≡ none → PassedBehind c (pieces-of (s .blocks)) b
+    memory e f = passed c _ _ _ _ (subst (λ (x : Bool). NoneApplies (cond x (block-checks c (pieces-of (s .blocks)) b) [])) e (none-applies (record-checks (standing c s) kind b) f .1 .1 .1))
 
     go : (o : Bool) → eqb kind 1 ≡ o → (a : Option Cause) → record-answer c s kind b ≡ a → Right c (unless-refused a s (cond o (record { blocks = added s b; finished = s .finished }) s))
     go o e (some x) f = r

@@ -31,8 +31,8 @@ abbrev pub ends-before : List ℕ → ℕ → Check
 ends-before s end = record { applies = ltb (length s) end; cause = cut-short }
 
 -- the fields in layout order: the first faulty one decides
-abbrev pub block-checks : List ℕ → ℕ → List Check
-block-checks s at =
+abbrev pub read-block-checks : List ℕ → ℕ → List Check
+read-block-checks s at =
     record { applies = ltb last-kind (getD s at 0); cause = unknown-kind } ∷
     ends-before s (at + 9) ∷
     ends-before s (at + 17) ∷
@@ -54,4 +54,4 @@ read-or-refuse (some c) s at = refused (number c)
 abbrev pub read-block : List ℕ → ℕ → Read
 read-block s at =
     cond (ltb (length s) at) (refused (number cut-short))
-    (cond (eqb at (length s)) nothing (read-or-refuse (first-cause (block-checks s at)) s at))
+    (cond (eqb at (length s)) nothing (read-or-refuse (first-cause (read-block-checks s at)) s at))

@@ -68,10 +68,10 @@ abbrev pub charge : (ℕ → ℕ) → List Piece → ℕ
 charge f [] = 0
 charge f (p ∷ ps) = f (length (p .bytes)) + charge f ps
 
--- the nodes charged for blocks; the root charges one node always
-abbrev pub nodes-charged : List Block → ℕ
-nodes-charged bs = 1 + charge node-charge (pieces-of bs)
+-- the nodes that pieces tally; the root charges one node always
+abbrev pub nodes-tallied : List Piece → ℕ
+nodes-tallied ps = 1 + charge node-charge ps
 
--- the entries charged for blocks
-abbrev pub entries-charged : List Block → ℕ
-entries-charged bs = charge entry-charge (pieces-of bs)
+-- the entries that they tally
+abbrev pub entries-tallied : List Piece → ℕ
+entries-tallied ps = charge entry-charge ps

@@ -1,5 +1,4 @@
--- Document 01, "One call, from block to row": what each call is refused for, as far as that needs no lent memory and no image.
--- Assumes nothing.
+-- Document 01, "One call, from block to row": what each call is refused for, one list of checks for each call. Assumes nothing.
 use Prim.Native.Nat.{ℕ, zero, suc, _+_, _*_, _^_}
 use mathlib.Core.Bool.{Bool, true, false, not, _||_, cond}
 use mathlib.Core.List.{List, [], _∷_, _++_}
@@ -7,10 +6,10 @@ use mathlib.Core.Option.{Option, none, some}
 use lib.ListN.{length}
 use lib.Dec.{ltb, leb, eqb}
 use Rattle.definitions.specs.Location.{Location}
-use Rattle.definitions.specs.Blocks.{Block, Piece, memory-kind, last-kind, pieces-of, nodes-charged, entries-charged}
+use Rattle.definitions.specs.Blocks.{Block, Piece, memory-kind, last-kind, pieces, pieces-of, nodes-tallied, entries-tallied}
 use Rattle.definitions.specs.Places.{places-counted}
 use Rattle.definitions.specs.Rows.{rows}
-use Rattle.definitions.specs.Causes.{Cause, capacity-refused, record-after-finish, before-finish, data-too-long, no-life, address-too-high, too-many-nodes, too-many-entries, query-too-long, scratch-too-small, too-many-rows, save-buffer-too-short, unknown-kind, Check, first-cause}
+use Rattle.definitions.specs.Causes.{Cause, number, capacity-refused, index-rule-broken, record-after-finish, before-finish, data-too-long, no-life, address-too-high, too-many-nodes, too-many-entries, query-too-long, scratch-too-small, too-many-rows, save-buffer-too-short, cut-short, unknown-kind, image-broken, Check, first-cause}
 
 abbrev pub data-limit : ℕ
 data-limit = 4096
@@ -50,9 +49,87 @@ out-of-range n = eqb n 0 || ltb capacity-limit n
 abbrev pub open-checks : Capacity → ℕ → List Check
 open-checks c memory = record { applies = out-of-range (c .nodes) || (out-of-range (c .entries) || ltb memory (needed c)); cause = capacity-refused } ∷ []
 
--- ── record ──
+-- ── the checks of each call on an index ──
 
--- what calls have made of a fresh index: the Memory blocks that were taken, in order, and whether it is finished
+-- what a lent memory holds, as far as checks ask: it breaks the index rule, or has a capacity and pieces and is finished or not
+pub record Standing : Type 0 where
+  pub broken : Bool
+  pub finished : Bool
+  pub capacity : Capacity
+  pub pieces : List Piece
+
+-- every call tests the index rule before all else
+abbrev pub index-check : Standing → Check
+index-check s = record { applies = s .broken; cause = index-rule-broken }
+
+-- search and save ask for a finished index
+abbrev pub finish-check : Standing → Check
+finish-check s = record { applies = not (s .finished); cause = before-finish }
+
+-- so many nodes and entries against a capacity
+abbrev pub capacity-checks : Capacity → ℕ → ℕ → List Check
+capacity-checks c nodes entries =
+    record { applies = ltb (c .nodes) nodes; cause = too-many-nodes } ∷
+    record { applies = ltb (c .entries) entries; cause = too-many-entries } ∷ []
+
+-- a Memory block of n bytes at l, with which the tally has so many nodes and entries
+abbrev pub memory-checks : Capacity → (nodes entries : ℕ) → (n : ℕ) → Location → List Check
+memory-checks c nodes entries n l =
+    record { applies = ltb data-limit n; cause = data-too-long } ∷
+    record { applies = leb (l .destroyed) (l .created); cause = no-life } ∷
+    record { applies = ltb last-number (l .address + n); cause = address-too-high } ∷
+    capacity-checks c nodes entries
+
+-- a Memory block behind pieces that are held
+abbrev pub block-checks : Capacity → List Piece → Block → List Check
+block-checks c ps b = memory-checks c (nodes-tallied (ps ++ pieces b)) (entries-tallied (ps ++ pieces b)) (length (b .bytes)) (b .at)
+
+-- a block of kind 0, 2, 3 or 4 is put to nothing behind its kind
+abbrev pub record-checks : Standing → ℕ → Block → List Check
+record-checks s kind b =
+    index-check s ∷
+    record { applies = s .finished; cause = record-after-finish } ∷
+    record { applies = ltb last-kind kind; cause = unknown-kind } ∷
+    cond (eqb kind memory-kind) (block-checks (s .capacity) (s .pieces) b) []
+
+-- finishing again is not refused
+abbrev pub finish-checks : Standing → List Check
+finish-checks s = index-check s ∷ []
+
+-- scratch has room for so many places, the row buffer for so many rows
+abbrev pub search-checks : Standing → List ℕ → (scratch room : ℕ) → List Check
+search-checks s q scratch room =
+    index-check s ∷
+    finish-check s ∷
+    record { applies = ltb query-limit (length q); cause = query-too-long } ∷
+    record { applies = ltb scratch (places-counted (s .pieces) q); cause = scratch-too-small } ∷
+    record { applies = ltb room (length (rows (s .pieces) q)); cause = too-many-rows } ∷ []
+
+-- an image and a save buffer of so many bytes
+abbrev pub save-checks : Standing → (image buffer : ℕ) → List Check
+save-checks s image buffer =
+    index-check s ∷
+    finish-check s ∷
+    record { applies = ltb buffer image; cause = save-buffer-too-short } ∷ []
+
+-- an image's own refusal has this number, 0 for none: its first faulty field decides between 13, 14 and 15
+abbrev pub fault-check : ℕ → Cause → Check
+fault-check fault c = record { applies = eqb fault (number c); cause = c }
+
+-- an image with this fault, or with so many nodes and entries, against a capacity
+abbrev pub image-checks : Capacity → (fault nodes entries : ℕ) → List Check
+image-checks c fault nodes entries =
+    fault-check fault cut-short ∷
+    fault-check fault unknown-kind ∷
+    fault-check fault image-broken ∷
+    capacity-checks c nodes entries
+
+abbrev pub load-checks : Standing → (fault nodes entries : ℕ) → List Check
+load-checks s fault nodes entries = index-check s ∷ image-checks (s .capacity) fault nodes entries
+
+-- ── what calls make of a fresh index ──
+
+-- the Memory blocks that were taken, in order, and whether it is finished
 pub record Recorded : Type 0 where
   pub blocks : List Block
   pub finished : Bool
@@ -60,29 +137,17 @@ pub record Recorded : Type 0 where
 abbrev pub fresh : Recorded
 fresh = record { blocks = []; finished = false }
 
+-- the checks look at its pieces; it never breaks the index rule
+abbrev pub standing : Capacity → Recorded → Standing
+standing c s = record { broken = false; finished = s .finished; capacity = c; pieces = pieces-of (s .blocks) }
+
 -- the blocks with one more
 abbrev pub added : Recorded → Block → List Block
 added s b = s .blocks ++ (b ∷ [])
 
--- what a Memory block is put to
-abbrev pub memory-checks : Capacity → Recorded → Block → List Check
-memory-checks c s b =
-    record { applies = ltb data-limit (length (b .bytes)); cause = data-too-long } ∷
-    record { applies = leb (b .at .destroyed) (b .at .created); cause = no-life } ∷
-    record { applies = ltb last-number (b .at .address + length (b .bytes)); cause = address-too-high } ∷
-    record { applies = ltb (c .nodes) (nodes-charged (added s b)); cause = too-many-nodes } ∷
-    record { applies = ltb (c .entries) (entries-charged (added s b)); cause = too-many-entries } ∷ []
-
--- record's checks behind the index rule; a block of kind 0, 2, 3 or 4 is taken
-abbrev pub record-checks : Capacity → Recorded → ℕ → Block → List Check
-record-checks c s kind b =
-    record { applies = s .finished; cause = record-after-finish } ∷
-    record { applies = ltb last-kind kind; cause = unknown-kind } ∷
-    cond (eqb kind memory-kind) (memory-checks c s b) []
-
 -- the answer of record: the cause of the refusal, or none where the block is taken
 abbrev pub record-answer : Capacity → Recorded → ℕ → Block → Option Cause
-record-answer c s kind b = first-cause (record-checks c s kind b)
+record-answer c s kind b = first-cause (record-checks (standing c s) kind b)
 
 -- a Memory block that is taken is added; all else changes nothing
 abbrev pub unless-refused : Option Cause → Recorded → Recorded → Recorded
@@ -92,26 +157,9 @@ unless-refused (some c) old new = old
 abbrev pub recorded : Capacity → Recorded → ℕ → Block → Recorded
 recorded c s kind b = unless-refused (record-answer c s kind b) s (cond (eqb kind memory-kind) (record { blocks = added s b; finished = s .finished }) s)
 
--- ── finish: finishing again changes nothing ──
-
+-- finishing again changes nothing
 abbrev pub finished-now : Recorded → Recorded
 finished-now s = record { blocks = s .blocks; finished = true }
 
--- ── search, save ──
-
--- search's checks behind the index rule; scratch has room for so many places, the row buffer for so many rows
-abbrev pub search-checks : Recorded → List ℕ → ℕ → ℕ → List Check
-search-checks s q scratch room =
-    record { applies = not (s .finished); cause = before-finish } ∷
-    record { applies = ltb query-limit (length q); cause = query-too-long } ∷
-    record { applies = ltb scratch (places-counted (pieces-of (s .blocks)) q); cause = scratch-too-small } ∷
-    record { applies = ltb room (length (rows (pieces-of (s .blocks)) q)); cause = too-many-rows } ∷ []
-
-abbrev pub search-answer : Recorded → List ℕ → ℕ → ℕ → Option Cause
-search-answer s q scratch room = first-cause (search-checks s q scratch room)
-
--- save's checks behind the index rule, for an image and a save buffer of so many bytes
-abbrev pub save-checks : Bool → ℕ → ℕ → List Check
-save-checks finished image buffer =
-    record { applies = not finished; cause = before-finish } ∷
-    record { applies = ltb buffer image; cause = save-buffer-too-short } ∷ []
+abbrev pub search-answer : Capacity → Recorded → List ℕ → (scratch room : ℕ) → Option Cause
+search-answer c s q scratch room = first-cause (search-checks (standing c s) q scratch room)

@@ -94,6 +94,11 @@ abbrev pub first-cause : List Check → Option Cause
 first-cause [] = none
 first-cause (c ∷ cs) = cond (c .applies) (some (c .cause)) (first-cause cs)
 
+-- the number of a refusal, 0 where there is none
+abbrev pub refusal-of : Option Cause → ℕ
+refusal-of none = 0
+refusal-of (some c) = number c
+
 abbrev pub causes : List Check → List Cause
 causes [] = []
 causes (c ∷ cs) = c .cause ∷ causes cs

@@ -9,4 +9,5 @@ pub mod Calls
 pub mod Recording
 pub mod BlockStream
 pub mod Program
+pub mod Promises
 pub mod Starred

@@ -22,6 +22,10 @@ abbrev pub T : List Piece → List ℕ → ℕ → Location → Type 0
 T ps q zero l = Chain ps (tails ps) q l
 T ps q (suc i) l = Chain ps ps (drop (suc i) q) l
 
+-- life is never empty, since no piece's is
+abbrev pub NeverEmpty : Type 0
+NeverEmpty = (ps : List Piece) → ((p : Piece) → List·Memᴰ p ps → p .at .created < p .at .destroyed) → (q : List ℕ) (i : ℕ) (l : Location) → T ps q i l → l .created < l .destroyed
+
 -- ── the table ──
 
 -- how a piece's bytes lie on a query: they differ, they cover it, or they end first, and the rest has these places

@@ -3,7 +3,7 @@ use Prim.Native.Nat.{ℕ, zero, suc, _+_, _*_, _/_, _%_, _≤_, _<_}
 use Prim.Native.Char.{code}
 use Prim.Native.String.{String, [] as empty, _∷_ as _then_}
 use mathlib.Core.Path.{_≡_}
-use mathlib.Core.Bool.{cond}
+use mathlib.Core.Bool.{Bool, true, false, not, cond}
 use mathlib.Core.List.{List, [], _∷_, _++_, List·Memᴰ}
 use mathlib.Core.Option.{Option, none, some}
 use lib.ListN.{length}
@@ -11,7 +11,7 @@ use lib.Dec.{ltb}
 use Rattle.definitions.specs.Location.{Location}
 use Rattle.definitions.specs.Blocks.{Block, pieces-of}
 use Rattle.definitions.specs.Rows.{rows}
-use Rattle.definitions.specs.Causes.{Cause, number}
+use Rattle.definitions.specs.Causes.{Cause, number, no-form, Check, first-cause}
 use Rattle.definitions.specs.Calls.{Capacity, Recorded, record-answer, recorded, finished-now, search-answer, last-number}
 
 -- ── text ──
@@ -112,7 +112,16 @@ or-refused (some c) rs = refused (number c) ∷ []
 abbrev pub replies : Recorded → Form → List Reply
 replies s (block kind b) = or-refused (record-answer program-capacity s kind b) (taken ∷ [])
 replies s finish = finished ∷ []
-replies s (find q) = or-refused (search-answer s q program-places program-rows) (found (rows (pieces-of (s .blocks)) q))
+replies s (find q) = or-refused (search-answer program-capacity s q program-places program-rows) (found (rows (pieces-of (s .blocks)) q))
+
+-- what a line is put to, whether it is a form or not
+abbrev pub line-checks : Bool → List Check
+line-checks is-form = record { applies = not is-form; cause = no-form } ∷ []
+
+-- what a line is answered that is this form, or none
+abbrev pub line-replies : Recorded → Option Form → List Reply
+line-replies s none = or-refused (first-cause (line-checks false)) []
+line-replies s (some f) = or-refused (first-cause (line-checks true)) (replies s f)
 
 -- what it leaves behind
 abbrev pub next : Recorded → Form → Recorded

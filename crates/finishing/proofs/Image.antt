@@ -8,12 +8,12 @@ use lib.ListN.{length, length-append}
 use Rattle.sort.specs.Records.{sorted, Ordered}
 use Rattle.sort.proofs.Bytes.{Bytes}
 use Rattle.sort.proofs.Lists.{sorted-ordered, length-sorted}
-use Rattle.definitions.specs.Blocks.{Piece}
+use Rattle.definitions.specs.Blocks.{Piece, entries-tallied}
 use Rattle.definitions.specs.Calls.{Capacity, needed}
 use Rattle.trie.specs.Trie.{nodes}
 use Rattle.trie.specs.Build.{Entry, parts, entered, entered-all, trie-of}
 use Rattle.trie.proofs.BuildCounts.{trie-of-nodes}
-use Rattle.index_memory.specs.Layout.{header-at, log-in, log-entries}
+use Rattle.index_memory.specs.Layout.{header-at, log-in}
 use Rattle.index_memory.proofs.LogBytes.{length-log-in, is-log-sound}
 use Rattle.index_memory.proofs.HeaderFacts.{open-payload}
 use Rattle.index_memory.proofs.Holding.{OpenIs, open-room, open-bytes}
@@ -142,7 +142,7 @@ module _ (m : List ℕ) (c : Capacity) (pieces : ℕ) (b : Bytes m) (o : OpenIs 
     pub trie-is : tails-trie ts ≡ trie-of ps
     trie-is = sorted-trie ps ts sound-pieces (w .tails) same
 
-    weights-are : weights 0 ts ≡ log-entries ps
+    weights-are : weights 0 ts ≡ entries-tallied ps
     weights-are = sorted-weights 0 ts all (w .tails) ∙ weights-charged 0 ps
 
     pub image-asked : ImageAsked s work n

@@ -6,6 +6,7 @@ use mathlib.Core.List.{List}
 use lib.ListN.{length, getD}
 use lib.Dec.{leb, ltb, eqb}
 use Rattle.words.specs.Words.{le64}
+use Rattle.definitions.specs.Causes.{number, cut-short, unknown-kind, image-broken}
 use Rattle.image.specs.Kinds.{fits}
 
 -- ── lists ──
@@ -29,7 +30,7 @@ pub data HeadRead : Type 0 where
 
 -- the lists go on one behind another
 abbrev pub behind-list : ListRead → (ℕ → ℕ → HeadRead) → HeadRead
-behind-list cut f = no-head 13
+behind-list cut f = no-head (number cut-short)
 behind-list (past next n) f = f next n
 
 -- prefixes, chunks, suffixes
@@ -41,8 +42,8 @@ read-lists s kind at =
 unfoldable pub read-head : List ℕ → ℕ → HeadRead
 read-head s at =
     cond (ltb at (length s))
-    (cond (eqb (getD s at 0) 0) (no-head 14) (cond (ltb 3 (getD s at 0)) (no-head 14) (read-lists s (getD s at 0) (at + 1))))
-    (no-head 13)
+    (cond (eqb (getD s at 0) 0) (no-head (number unknown-kind)) (cond (ltb 3 (getD s at 0)) (no-head (number unknown-kind)) (read-lists s (getD s at 0) (at + 1))))
+    (no-head (number cut-short))
 
 -- ── tables ──
 
@@ -64,9 +65,9 @@ find-byte s base b (suc k) j = cond (eqb (getD s (base + j * 9) 0) b) j (find-by
 unfoldable pub table-fault : List ℕ → ℕ → ℕ → ℕ → ℕ
 table-fault s base zero i = 0
 table-fault s base (suc k) i =
-    cond (leb (length s) (base + i * 9)) 13
-    (cond (ltb (find-byte s base (getD s (base + i * 9) 0) i 0) i) 15
-    (cond (ltb (length s) (base + i * 9 + 9)) 13 (table-fault s base k (i + 1))))
+    cond (leb (length s) (base + i * 9)) (number cut-short)
+    (cond (ltb (find-byte s base (getD s (base + i * 9) 0) i 0) i) (number image-broken)
+    (cond (ltb (length s) (base + i * 9 + 9)) (number cut-short) (table-fault s base k (i + 1))))
 
 -- the table of a node of kind 3 or 2 with n entries, whose count stands at an index
 abbrev pub sparse-table : ℕ → ℕ → ℕ → Table
@@ -88,10 +89,10 @@ unless-fault c t = cond (eqb c 0) (table t) (no-table c)
 unfoldable pub open-table : List ℕ → ℕ → ℕ → TableRead
 open-table s kind at =
     cond (eqb kind 1)
-    (cond (leb (at + 2048) (length s)) (table (dense-table at)) (no-table 13))
+    (cond (leb (at + 2048) (length s)) (table (dense-table at)) (no-table (number cut-short)))
     (cond (leb (at + 8) (length s))
-    (cond (fits kind (le64 s at)) (unless-fault (table-fault s (at + 8) (le64 s at) 0) (sparse-table kind at (le64 s at))) (no-table 15))
-    (no-table 13))
+    (cond (fits kind (le64 s at)) (unless-fault (table-fault s (at + 8) (le64 s at) 0) (sparse-table kind at (le64 s at))) (no-table (number image-broken)))
+    (no-table (number cut-short)))
 
 -- the offset that a turn judges; kind 2 skips a byte that its table has not
 pub data Slot : Type 0 where
@@ -125,12 +126,12 @@ pub data Turn : Type 0 where
 
 -- a flag 0 stands in kind 1 alone
 abbrev pub flag-turn : ℕ → ℕ → Turn
-flag-turn kind flag = cond (eqb flag 1) child (cond (eqb flag 0) (cond (eqb kind 1) gap (wrong 15)) (wrong 15))
+flag-turn kind flag = cond (eqb flag 1) child (cond (eqb flag 0) (cond (eqb kind 1) gap (wrong (number image-broken))) (wrong (number image-broken)))
 
 -- an offset is judged just before its flag is read
 abbrev pub slot-turn : List ℕ → ℕ → ℕ → Slot → Turn
 slot-turn s kind at skip = none-due
-slot-turn s kind at (offset off) = cond (eqb off at) (cond (leb (length s) at) (wrong 13) (flag-turn kind (getD s at 0))) (wrong 15)
+slot-turn s kind at (offset off) = cond (eqb off at) (cond (leb (length s) at) (wrong (number cut-short)) (flag-turn kind (getD s at 0))) (wrong (number image-broken))
 
 unfoldable pub turn-at : List ℕ → Table → ℕ → ℕ → Turn
 turn-at s t i at = slot-turn s (t .kind) at (slot-at s t i)
@@ -148,7 +149,7 @@ read-child s rd t i at = by-turn rd at (turn-at s t i at)
 -- the child count of kind 1 is judged after its last child
 unfoldable pub all-met : Table → ℕ → ℕ → ℕ → ℕ → Step
 all-met t at met nodes entries =
-    cond (eqb (t .kind) 1) (cond (fits 1 met) (done at 1 nodes entries) (fault 15)) (done at 1 nodes entries)
+    cond (eqb (t .kind) 1) (cond (fits 1 met) (done at 1 nodes entries) (fault (number image-broken))) (done at 1 nodes entries)
 
 -- k turns from number i on
 unfoldable pub read-turns : List ℕ → (ℕ → Step) → Table → ℕ → ℕ → ℕ → ℕ → ℕ → ℕ → Step
@@ -172,7 +173,7 @@ behind-head s rd (head kind next entries) = behind-table s rd entries (open-tabl
 
 -- the node at an index, of a trie with `left` levels yet allowed: where there is none, the flag before it is wrong
 unfoldable pub read-node : List ℕ → ℕ → ℕ → Step
-read-node s zero at = fault 15
+read-node s zero at = fault (number image-broken)
 read-node s (suc left) at = behind-head s (read-node s left) (read-head s at)
 
 -- ── the image ──
@@ -180,21 +181,36 @@ read-node s (suc left) at = behind-head s (read-node s left) (read-head s at)
 -- n counts of the empty index: wrong unless 0
 unfoldable pub read-counts : List ℕ → ℕ → ℕ → Step
 read-counts s zero at = done at 1 1 0
-read-counts s (suc n) at = cond (leb (at + 8) (length s)) (cond (eqb (le64 s at) 0) (read-counts s n (at + 8)) (fault 15)) (fault 13)
+read-counts s (suc n) at = cond (leb (at + 8) (length s)) (cond (eqb (le64 s at) 0) (read-counts s n (at + 8)) (fault (number image-broken))) (fault (number cut-short))
 
 -- a first byte 0 means the empty index
 unfoldable pub read-root : List ℕ → Step
-read-root s = cond (eqb (length s) 0) (fault 13) (cond (eqb (getD s 0 0) 0) (read-counts s 3 1) (read-node s 17 0))
+read-root s = cond (eqb (length s) 0) (fault (number cut-short)) (cond (eqb (getD s 0 0) 0) (read-counts s 3 1) (read-node s 17 0))
 
 -- the layout is right, with so many nodes and entries, or an image is refused with a number
 pub data Layout : Type 0 where
   right : ℕ → ℕ → Layout
   refused : ℕ → Layout
 
+-- the number of an image's own refusal, 0 where there is none
+abbrev pub fault-of : Layout → ℕ
+fault-of (right nodes entries) = 0
+fault-of (refused n) = n
+
+-- its nodes
+abbrev pub nodes-in : Layout → ℕ
+nodes-in (right nodes entries) = nodes
+nodes-in (refused n) = 0
+
+-- its entries
+abbrev pub entries-in : Layout → ℕ
+entries-in (right nodes entries) = entries
+entries-in (refused n) = 0
+
 -- then bytes left over
 abbrev pub to-the-end : List ℕ → Step → Layout
 to-the-end s (fault c) = refused c
-to-the-end s (done next met nodes entries) = cond (eqb next (length s)) (right nodes entries) (refused 15)
+to-the-end s (done next met nodes entries) = cond (eqb next (length s)) (right nodes entries) (refused (number image-broken))
 
 unfoldable pub read-image : List ℕ → Layout
 read-image s = to-the-end s (read-root s)

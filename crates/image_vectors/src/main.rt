@@ -71,8 +71,8 @@ fn judge(img: &[u8]) -> Said {
 }
 
 // One more answer: the same again, or the last one printed.
-fn after(last: Said, now: Said) -> Said {
-    if is_same(last, now) {
+fn after(last: Said, next: Said) -> Said {
+    if is_same(last, next) {
         if last.times < 1000000 {
             return Said {
                 times: last.times + 1,
@@ -83,7 +83,7 @@ fn after(last: Said, now: Said) -> Said {
         }
     }
     print(last);
-    now
+    next
 }
 
 // Every part of an image from its start.

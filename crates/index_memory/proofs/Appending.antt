@@ -6,9 +6,9 @@ use mathlib.Core.Logic.{_⊎_, inl, inr}
 use mathlib.Core.List.{List, [], _++_, List·Memᴰ as Mem, List·Memᴰ·not-nil as not-nil, List·Memᴰ·append-cases as append-cases}
 use lib.ListN.{length, length-append}
 use lib.Seq.{sets, length-sets}
-use Rattle.definitions.specs.Blocks.{Piece, pieces}
+use Rattle.definitions.specs.Blocks.{Piece, pieces, nodes-tallied, entries-tallied}
 use Rattle.definitions.specs.Calls.{Capacity}
-use Rattle.index_memory.specs.Layout.{Header, header-at, header-bytes, log-in, log-bytes, log-nodes, log-entries}
+use Rattle.index_memory.specs.Layout.{Header, header-at, header-bytes, log-in, log-bytes}
 use Rattle.index_memory.specs.Index.{opened, read-index}
 use Rattle.index_memory.specs.Record.{open-memory, fresh-header, appended}
 use Rattle.index_memory.proofs.Charges.{charge-count}
@@ -86,7 +86,7 @@ module _ (m : List ℕ) (c : Capacity) (ps new : List Piece) where
 
   -- the header that counts them
   abbrev counting : Header
-  counting = record { capacity = c; phase = 0; nodes = log-nodes (ps ++ new); entries = log-entries (ps ++ new); payload = length (ps ++ new) }
+  counting = record { capacity = c; phase = 0; nodes = nodes-tallied (ps ++ new); entries = entries-tallied (ps ++ new); payload = length (ps ++ new) }
 
   long : length logged ≡ length m
   long = length-sets m (64 + 48 * length ps) (log-bytes new)
@@ -95,7 +95,7 @@ module _ (m : List ℕ) (c : Capacity) (ps new : List Piece) where
   pub length-appended : length (appended m c ps new) ≡ length m
   length-appended = length-sets logged 0 (header-bytes counting) ∙ long
 
-  module _ (o : OpenIs m c ps) (f : AllFit new) (s : AllSound new) (n : log-nodes (ps ++ new) ≤ c .nodes) (e : log-entries (ps ++ new) ≤ c .entries) where
+  module _ (o : OpenIs m c ps) (f : AllFit new) (s : AllSound new) (n : nodes-tallied (ps ++ new) ≤ c .nodes) (e : entries-tallied (ps ++ new) ≤ c .entries) where
     few : length (ps ++ new) ≤ c .entries
     few = omega (arith, charge-count (ps ++ new))
 
@@ -142,6 +142,6 @@ module _ (m : List ℕ) (c : Capacity) (ps new : List Piece) where
     -- pieces that fit go behind the others
     pub read-behind : read-index (appended m c ps new) ≡ opened c (ps ++ new)
     read-behind =
-        let at = head-at logged c (log-nodes (ps ++ new)) (log-entries (ps ++ new)) (length (ps ++ new)) opens n e few in
-        let facts = head-facts logged c (log-nodes (ps ++ new)) (log-entries (ps ++ new)) (length (ps ++ new)) opens n e few in
+        let at = head-at logged c (nodes-tallied (ps ++ new)) (entries-tallied (ps ++ new)) (length (ps ++ new)) opens n e few in
+        let facts = head-facts logged c (nodes-tallied (ps ++ new)) (entries-tallied (ps ++ new)) (length (ps ++ new)) opens n e few in
         open-at (appended m c ps new) counting (ps ++ new) at facts refl whole-log all-sound refl refl

@@ -12,14 +12,10 @@ use lib.Dec.{leb}
 use Rattle.definitions.specs.Location.{Location, moved}
 use Rattle.definitions.specs.Blocks.{Block, Piece, cut, pieces, node-charge, entry-charge, charge}
 use Rattle.definitions.proofs.Views.{Le, le, lt-or-le}
+use Rattle.definitions.proofs.Tallied.{charge-append}
 use Rattle.index_memory.specs.Cut.{part, parts, piece-count, block-nodes}
 
 -- ---- sums of charges
-
--- the charges of two logs are the sum of theirs
-pub charge-append : (f : ℕ → ℕ) (xs ys : List Piece) → charge f (xs ++ ys) ≡ charge f xs + charge f ys
-charge-append f [] ys = omega arith
-charge-append f (p ∷ ps) ys = omega (arith, charge-append f ps ys)
 
 -- a charge of one for each piece counts them
 charge-one : (ps : List Piece) → charge (λ _. 1) ps ≡ length ps

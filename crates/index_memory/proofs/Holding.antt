@@ -8,12 +8,12 @@ use mathlib.Core.Option.{Option, none, some}
 use lib.ListN.{length, getD}
 use lib.Dec.{eqb}
 use borrow.Author.Tests.{eqb-true, eq-eqb, ne-eqb}
-use Rattle.definitions.specs.Blocks.{Piece}
+use Rattle.definitions.specs.Blocks.{Piece, nodes-tallied, entries-tallied}
 use Rattle.definitions.specs.Calls.{Capacity}
 use Rattle.trie.specs.Test.{index-rule}
 use Rattle.image.specs.Reading.{Layout, right, refused, read-image}
 use Rattle.image.specs.Held.{trie-in}
-use Rattle.index_memory.specs.Layout.{Header, header-at, log-in, log-sound, log-nodes, log-entries}
+use Rattle.index_memory.specs.Layout.{Header, header-at, log-in, log-sound}
 use Rattle.index_memory.specs.Index.{broken, opened, finished, header-right, log-right, open-index, finished-index, if-right, read-index, image-part}
 use Rattle.index_memory.specs.Answers.{heading-at}
 use Rattle.index_memory.proofs.Tests.{and-left, and-right, both}
@@ -64,13 +64,13 @@ pub record OpenIs (m : List ℕ) (c : Capacity) (ps : List Piece) : Type 0 where
   pub header : HeaderFacts m (header-at m)
   pub capacity : header-at m .capacity ≡ c
   pub phase : header-at m .phase ≡ 0
-  pub nodes : header-at m .nodes ≡ log-nodes ps
-  pub entries : header-at m .entries ≡ log-entries ps
+  pub nodes : header-at m .nodes ≡ nodes-tallied ps
+  pub entries : header-at m .entries ≡ entries-tallied ps
   pub payload : header-at m .payload ≡ length ps
   pub log : ps ≡ log-in m (header-at m .payload) 64
   pub sound : AllSound ps
-  pub few-nodes : log-nodes ps ≤ c .nodes
-  pub few-entries : log-entries ps ≤ c .entries
+  pub few-nodes : nodes-tallied ps ≤ c .nodes
+  pub few-entries : entries-tallied ps ≤ c .entries
 
 -- the log lies within the memory
 pub open-room : (m : List ℕ) (h : Header) → HeaderFacts m h → h .phase ≡ 0 → 64 + 48 * h .payload ≤ length m
@@ -95,14 +95,14 @@ module _ (m : List ℕ) (c : Capacity) (ps : List Piece) where
       let cap : h .capacity ≡ c = cc in
       let is : log ≡ ps = cc in
       let a : Bool = log-sound m (h .payload) 64 in
-      let b : Bool = eqb (h .nodes) (log-nodes log) in
-      let d : Bool = eqb (h .entries) (log-entries log) in
+      let b : Bool = eqb (h .nodes) (nodes-tallied log) in
+      let d : Bool = eqb (h .entries) (entries-tallied log) in
       let t′ : (b && d) ≡ true = and-right a (b && d) t in
-      let n : h .nodes ≡ log-nodes log = eqb-true (h .nodes) (log-nodes log) (and-left b d t′) in
-      let k : h .entries ≡ log-entries log = eqb-true (h .entries) (log-entries log) (and-right b d t′) in
+      let n : h .nodes ≡ nodes-tallied log = eqb-true (h .nodes) (nodes-tallied log) (and-left b d t′) in
+      let k : h .entries ≡ entries-tallied log = eqb-true (h .entries) (entries-tallied log) (and-right b d t′) in
       let s : AllSound log = log-sound-is m (h .payload) 64 (open-room m h f z) (and-left a (b && d) t) in
-      let n′ : h .nodes ≡ log-nodes ps = n ∙ ap log-nodes is in
-      let k′ : h .entries ≡ log-entries ps = k ∙ ap log-entries is in
+      let n′ : h .nodes ≡ nodes-tallied ps = n ∙ ap nodes-tallied is in
+      let k′ : h .entries ≡ entries-tallied ps = k ∙ ap entries-tallied is in
       let cn : h .capacity .nodes ≡ c .nodes = ap (λ (x : Capacity). x .nodes) cap in
       let ce : h .capacity .entries ≡ c .entries = ap (λ (x : Capacity). x .entries) cap in
       record {
@@ -133,13 +133,13 @@ module _ (m : List ℕ) (c : Capacity) (ps : List Piece) where
 
 -- a memory with this header and this log holds an open index
 pub open-at : (m : List ℕ) (h : Header) (ps : List Piece) → header-at m ≡ h → HeaderFacts m h → h .phase ≡ 0 → log-in m (h .payload) 64 ≡ ps
-    → AllSound ps → h .nodes ≡ log-nodes ps → h .entries ≡ log-entries ps → read-index m ≡ opened (h .capacity) ps
+    → AllSound ps → h .nodes ≡ nodes-tallied ps → h .entries ≡ entries-tallied ps → read-index m ≡ opened (h .capacity) ps
 open-at m h ps e f z l s n k =
     let log : List Piece = log-in m (h .payload) 64 in
     let head : some h ≡ heading-at m = ap {B = Option Header} some (sym e) ∙ heading-some m (subst (HeaderFacts m) (sym e) f) in
     let t : log-right m h ≡ true =
     both (is-log-sound m (h .payload) 64 (open-room m h f z) (subst AllSound (sym l) s))
-    (both (eq-eqb (h .nodes) (log-nodes log) (n ∙ ap log-nodes (sym l))) (eq-eqb (h .entries) (log-entries log) (k ∙ ap log-entries (sym l)))) in
+    (both (eq-eqb (h .nodes) (nodes-tallied log) (n ∙ ap nodes-tallied (sym l))) (eq-eqb (h .entries) (entries-tallied log) (k ∙ ap entries-tallied (sym l)))) in
     index-by-log m h (sym head) z ∙ rw t (ap (opened (h .capacity)) l)
 
 -- the pieces of an open index in a memory of bytes

@@ -4,11 +4,11 @@ use native.Mathlib.Omega.{arith}
 use mathlib.Core.Path.{_≡_, refl}
 use mathlib.Core.Bool.{Bool, true, false, not, _||_, cond}
 use mathlib.Core.List.{List}
-use mathlib.Core.Option.{none, some}
+use mathlib.Core.Option.{Option, none, some}
 use lib.ListN.{length}
 use lib.Seq.{sets, length-sets}
 use lib.Dec.{ltb}
-use Rattle.definitions.specs.Causes.{capacity-refused}
+use Rattle.definitions.specs.Causes.{Cause, capacity-refused}
 use Rattle.definitions.specs.Calls.{Capacity, out-of-range, needed}
 use Rattle.definitions.proofs.Views.{Lt, lt}
 use Rattle.index_memory.specs.Layout.{header-bytes}
@@ -16,6 +16,11 @@ use Rattle.index_memory.specs.Record.{Done, open-memory, unless-refused,
 use Rattle.index_memory.specs.Answers.{opened-as}
 use Rattle.index_memory.specs.declared.Opened.the-variants as O
 use Rattle.index_memory.proofs.HeaderFacts.{Range, range}
+
+-- a call that is refused leaves the memory
+pub refused-leaves : (o : Option Cause) (old new : List ℕ) → (unless-refused o old new .refusal ≡ 0 → ⊥) → unless-refused o old new .memory ≡ old
+refused-leaves none old new f = absurd (f refl)
+refused-leaves (some c) old new f = refl
 
 -- the memory holds the capacity
 pub record Opens (m : List ℕ) (c : Capacity) : Type 0 where

@@ -1,48 +1,28 @@
 -- What recording into an open index answers and leaves, by the tests of the code. Assumes nothing.
 use Prim.Native.Nat.{ℕ, _+_, _*_, _≤_, _<_}
 use native.Mathlib.Omega.{arith}
-use mathlib.Core.Path.{_≡_, refl, sym, ap, _∙_}
-use mathlib.Core.Bool.{Bool, true, false, cond}
+use mathlib.Core.Path.{_≡_, refl, sym, ap, _∙_, subst}
 use mathlib.Core.List.{List, _++_}
 use mathlib.Core.Option.{Option, none, some}
 use lib.ListN.{length, length-append}
 use lib.Seq.{sets}
-use lib.Dec.{ltb, eqb}
 use borrow.Author.Tests.{lt-ltb, le-ltb, eq-eqb, ne-eqb}
-use Rattle.definitions.specs.Blocks.{Block, Piece, pieces, entry-charge}
-use Rattle.definitions.specs.Causes.{Cause, number, Check, first-cause, capacity-refused, index-rule-broken, record-after-finish, before-finish, data-too-long, no-life, address-too-high, too-many-nodes, too-many-entries, query-too-long, scratch-too-small, too-many-rows, save-buffer-too-short, cut-short, unknown-kind, image-broken, no-form}
-use Rattle.definitions.specs.Calls.{Capacity}
-use Rattle.index_memory.specs.Layout.{Header, header-at, header-bytes, log-in, log-bytes, log-nodes, log-entries}
-use Rattle.index_memory.specs.Index.{opened, read-index}
-use Rattle.index_memory.specs.Record.{refusal-of, unless-refused, log-checks, appended, record-open}
+use Rattle.definitions.specs.Blocks.{Block, Piece, pieces, entry-charge, nodes-tallied, entries-tallied}
+use Rattle.definitions.specs.Causes.{Cause, Check, first-cause, refusal-of}
+use Rattle.definitions.specs.Calls.{Capacity, block-checks}
+use Rattle.definitions.proofs.Checks.{none-applies, none-refused}
+use Rattle.definitions.proofs.Taken.{passed}
+use Rattle.index_memory.specs.Layout.{Header, header-at, header-bytes, log-in, log-bytes}
+use Rattle.index_memory.specs.Index.{Index, opened, read-index}
+use Rattle.index_memory.specs.Record.{Done, unless-refused, appended, record-by, record-memory}
 use Rattle.index_memory.specs.Cut.{piece-count, block-nodes}
-use Rattle.index_memory.specs.Answers.{block-checks, grown, Fitting, recorded-as}
+use Rattle.index_memory.specs.Answers.{grown, Fitting, recorded-as}
 use Rattle.index_memory.specs.declared.Recorded.the-variants as R
 use Rattle.index_memory.proofs.Charges.{charge-count, pieces-length, entry-max}
 use Rattle.index_memory.proofs.Holding.{OpenIs, open-is}
 use Rattle.index_memory.proofs.Opening.{Opens}
-use Rattle.index_memory.proofs.Appending.{open-opens, length-appended}
-use Rattle.index_memory.proofs.Taken.{Passed, passed, tally-nodes, tally-entries, checks-same}
-
--- no cause has the number 0
-number-some : (c : Cause) → number c ≡ 0 → ⊥
-number-some capacity-refused e = omega arith
-number-some index-rule-broken e = omega arith
-number-some record-after-finish e = omega arith
-number-some before-finish e = omega arith
-number-some data-too-long e = omega arith
-number-some no-life e = omega arith
-number-some address-too-high e = omega arith
-number-some too-many-nodes e = omega arith
-number-some too-many-entries e = omega arith
-number-some query-too-long e = omega arith
-number-some scratch-too-small e = omega arith
-number-some too-many-rows e = omega arith
-number-some save-buffer-too-short e = omega arith
-number-some cut-short e = omega arith
-number-some unknown-kind e = omega arith
-number-some image-broken e = omega arith
-number-some no-form e = omega arith
+use Rattle.index_memory.proofs.Appending.{open-opens}
+use Rattle.index_memory.proofs.Taken.{tally-nodes, tally-entries, header-checks, checks-same}
 
 -- a number that is not 0 is answered as a refusal
 pub refused-as : (n : ℕ) → (n ≡ 0 → ⊥) → R.Refused n ≡ recorded-as n
@@ -54,34 +34,32 @@ refused-memory none old new h = absurd (h refl)
 refused-memory (some c) old new h = (refl, refl)
 
 taken-memory : (o : Option Cause) (old new : List ℕ) → refusal-of o ≡ 0 → (0 ≡ unless-refused o old new .refusal) × (new ≡ unless-refused o old new .memory)
-taken-memory none old new h = (refl, refl)
-taken-memory (some c) old new h = absurd (number-some c h)
+taken-memory o old new h = rw (none-refused o h) (refl, refl)
+
+-- what a memory holds decides
+pub record-as : (m : List ℕ) (kind : ℕ) (b : Block) (i : Index) → read-index m ≡ i → record-by i m kind b ≡ record-memory m kind b
+unfolding record-memory
+record-as m kind b i e = ap (λ (x : Index). record-by x m kind b) (sym e)
+
+-- an answer and a memory are those of a recording
+abbrev pub Answers : ℕ → List ℕ → Done → Type 0
+Answers n m d = (n ≡ d .refusal) × (m ≡ d .memory)
 
 module _ (m : List ℕ) (c : Capacity) (ps : List Piece) (kind : ℕ) (b : Block) where
-  pub kind-unknown : 4 < kind → (14 ≡ record-open m c ps kind b .refusal) × (m ≡ record-open m c ps kind b .memory)
-  kind-unknown h = rw (lt-ltb 4 kind h) (refl, refl)
+  abbrev by : Done
+  by = record-by (opened c ps) m kind b
 
-  pub kind-other : kind ≤ 4 → (kind ≡ 1 → ⊥) → (0 ≡ record-open m c ps kind b .refusal) × (m ≡ record-open m c ps kind b .memory)
-  kind-other h d = rw (le-ltb 4 kind h, ne-eqb kind 1 d) (refl, refl)
+  by-unknown : 4 < kind → Answers 14 m by
+  by-unknown h = rw (lt-ltb 4 kind h) (refl, refl)
 
-  memory-refused : kind ≤ 4 → kind ≡ 1 → (refusal-of (first-cause (log-checks c ps b)) ≡ 0 → ⊥)
-      → (refusal-of (first-cause (log-checks c ps b)) ≡ record-open m c ps kind b .refusal) × (m ≡ record-open m c ps kind b .memory)
-  memory-refused h e f = rw (le-ltb 4 kind h, eq-eqb kind 1 e) (refused-memory (first-cause (log-checks c ps b)) m (appended m c ps (pieces b)) f)
+  by-other : kind ≤ 4 → (kind ≡ 1 → ⊥) → Answers 0 m by
+  by-other h d = rw (le-ltb 4 kind h, ne-eqb kind 1 d) (refl, refl)
 
-  memory-taken : kind ≤ 4 → kind ≡ 1 → refusal-of (first-cause (log-checks c ps b)) ≡ 0
-      → (0 ≡ record-open m c ps kind b .refusal) × (appended m c ps (pieces b) ≡ record-open m c ps kind b .memory)
-  memory-taken h e f = rw (le-ltb 4 kind h, eq-eqb kind 1 e) (taken-memory (first-cause (log-checks c ps b)) m (appended m c ps (pieces b)) f)
+  by-refused : kind ≤ 4 → kind ≡ 1 → (refusal-of (first-cause (block-checks c ps b)) ≡ 0 → ⊥) → Answers (refusal-of (first-cause (block-checks c ps b))) m by
+  by-refused h e f = rw (le-ltb 4 kind h, eq-eqb kind 1 e) (refused-memory (first-cause (block-checks c ps b)) m (appended m c ps (pieces b)) f)
 
-  -- recording keeps the length
-  pub length-recorded : length (record-open m c ps kind b .memory) ≡ length m
-  length-recorded = go (ltb 4 kind) (eqb kind 1) (first-cause (log-checks c ps b))
-    where
-      go : (o₁ o₂ : Bool) (a : Option Cause)
-          → length (cond o₁ (record { refusal = 14; memory = m }) (cond o₂ (unless-refused a m (appended m c ps (pieces b))) (record { refusal = 0; memory = m })) .memory) ≡ length m
-      go true o₂ a = refl
-      go false true none = length-appended m c ps (pieces b)
-      go false true (some x) = refl
-      go false false a = refl
+  by-taken : kind ≤ 4 → kind ≡ 1 → refusal-of (first-cause (block-checks c ps b)) ≡ 0 → Answers 0 (appended m c ps (pieces b)) by
+  by-taken h e f = rw (le-ltb 4 kind h, eq-eqb kind 1 e) (taken-memory (first-cause (block-checks c ps b)) m (appended m c ps (pieces b)) f)
 
 -- ---- by the header
 
@@ -95,10 +73,10 @@ module _ (m : List ℕ) (h : Header) (e : header-at m ≡ h) (q : read-index m �
   open-phase : h .phase ≡ 0
   open-phase = ap (λ (x : Header). x .phase) (sym e) ∙ is .phase
 
-  tally-is : h .nodes ≡ log-nodes log
+  tally-is : h .nodes ≡ nodes-tallied log
   tally-is = ap (λ (x : Header). x .nodes) (sym e) ∙ is .nodes
 
-  entries-is : h .entries ≡ log-entries log
+  entries-is : h .entries ≡ entries-tallied log
   entries-is = ap (λ (x : Header). x .entries) (sym e) ∙ is .entries
 
   payload-is : h .payload ≡ length log
@@ -108,43 +86,54 @@ module _ (m : List ℕ) (h : Header) (e : header-at m ≡ h) (q : read-index m �
   pub tally-within : (h .nodes ≤ h .capacity .nodes) × (h .entries ≤ h .capacity .entries)
   tally-within = (omega (arith, tally-is, is .few-nodes), omega (arith, entries-is, is .few-entries))
 
-  module _ (kind : ℕ) (b : Block) (r : ℕ) (f : r ≡ refusal-of (first-cause (block-checks h (length (b .bytes)) (b .at)))) where
-    by-log : r ≡ refusal-of (first-cause (log-checks (h .capacity) log b))
+  module _ (kind : ℕ) (b : Block) where
+    from-log : (n : ℕ) (m′ : List ℕ) → Answers n m′ (by m (h .capacity) log kind b) → Answers n m′ (record-memory m kind b)
+    from-log n m′ a = subst (Answers n m′) (record-as m kind b (opened (h .capacity) log) q) a
+
+    pub kind-unknown : 4 < kind → Answers 14 m (record-memory m kind b)
+    kind-unknown k = from-log 14 m (by-unknown m (h .capacity) log kind b k)
+
+    pub kind-other : kind ≤ 4 → (kind ≡ 1 → ⊥) → Answers 0 m (record-memory m kind b)
+    kind-other k d = from-log 0 m (by-other m (h .capacity) log kind b k d)
+
+  -- with the number that the block's checks answer
+  module _ (kind : ℕ) (b : Block) (r : ℕ) (f : r ≡ refusal-of (first-cause (header-checks h b))) where
+    by-log : r ≡ refusal-of (first-cause (block-checks (h .capacity) log b))
     by-log = f ∙ ap (λ (cs : List Check). refusal-of (first-cause cs)) (checks-same h log b tally-is entries-is)
 
-    pub refused-by : kind ≤ 4 → kind ≡ 1 → (r ≡ 0 → ⊥) → (r ≡ record-open m (h .capacity) log kind b .refusal) × (m ≡ record-open m (h .capacity) log kind b .memory)
+    pub refused-by : kind ≤ 4 → kind ≡ 1 → (r ≡ 0 → ⊥) → Answers r m (record-memory m kind b)
     refused-by k l d =
-        let g = memory-refused m (h .capacity) log kind b k l (λ z. d (by-log ∙ z)) in
-        (by-log ∙ g .0, g .1)
+        let g = by-refused m (h .capacity) log kind b k l (λ z. d (by-log ∙ z)) in
+        from-log kind b r m (by-log ∙ g .0, g .1)
 
     -- a block that no check turned back fits
     pub fitting : r ≡ 0 → Fitting m h b
     fitting z =
         let n : ℕ = length (b .bytes) in
-        let p : Passed h n (b .at) = passed h n (b .at) (sym f ∙ z) in
+        let p = passed (h .capacity) (h .nodes + block-nodes n) (h .entries + entry-charge n) n (b .at) (none-applies (header-checks h b) (none-refused (first-cause (header-checks h b)) (sym f ∙ z))) in
         let o : Opens m (h .capacity) = open-opens m (h .capacity) log is in
         record {
           short = p .short;
           below = p .below;
-          nodes = omega (arith, p .nodes, o .few-nodes);
-          entries = omega (arith, p .entries, o .few-entries);
+          nodes = omega (arith, p .few-nodes, o .few-nodes);
+          entries = omega (arith, p .few-entries, o .few-entries);
           count = omega (arith, payload-is, charge-count log, is .few-entries, o .few-entries);
-          room = omega (arith, payload-is, charge-count log, entries-is, p .entries, entry-max n, o .held);
+          room = omega (arith, payload-is, charge-count log, entries-is, p .few-entries, entry-max n, o .held);
         }
 
     pub taken-by : kind ≤ 4 → kind ≡ 1 → r ≡ 0 → (m′ : List ℕ)
         → m′ ≡ sets (sets m (64 + 48 * h .payload) (log-bytes (pieces b))) 0 (header-bytes (grown h (length (b .bytes))))
-        → (0 ≡ record-open m (h .capacity) log kind b .refusal) × (m′ ≡ record-open m (h .capacity) log kind b .memory)
+        → Answers 0 m′ (record-memory m kind b)
     taken-by k l z m′ w =
-        let g = memory-taken m (h .capacity) log kind b k l (sym by-log ∙ z) in
+        let g = by-taken m (h .capacity) log kind b k l (sym by-log ∙ z) in
         let n : ℕ = length (b .bytes) in
         let new : List ℕ = log-bytes (pieces b) in
-        let c₁ : h .nodes + block-nodes n ≡ log-nodes (log ++ pieces b) = omega (arith, tally-is, tally-nodes log b) in
-        let c₂ : h .entries + entry-charge n ≡ log-entries (log ++ pieces b) = omega (arith, entries-is, tally-entries log b) in
+        let c₁ : h .nodes + block-nodes n ≡ nodes-tallied (log ++ pieces b) = omega (arith, tally-is, tally-nodes log b) in
+        let c₂ : h .entries + entry-charge n ≡ entries-tallied (log ++ pieces b) = omega (arith, entries-is, tally-entries log b) in
         let c₃ : h .payload + piece-count n ≡ length (log ++ pieces b) = omega (arith, payload-is, length-append log (pieces b), pieces-length b) in
-        let head : _≡_ {A = Header} (grown h n) (record { capacity = h .capacity; phase = 0; nodes = log-nodes (log ++ pieces b); entries = log-entries (log ++ pieces b); payload = length (log ++ pieces b) }) =
+        let head : _≡_ {A = Header} (grown h n) (record { capacity = h .capacity; phase = 0; nodes = nodes-tallied (log ++ pieces b); entries = entries-tallied (log ++ pieces b); payload = length (log ++ pieces b) }) =
         λ i. record { capacity = h .capacity; phase = open-phase i; nodes = c₁ i; entries = c₂ i; payload = c₃ i } in
         let same : m′ ≡ appended m (h .capacity) log (pieces b) =
         w ∙ ap (λ (k : ℕ). sets (sets m (64 + 48 * k) new) 0 (header-bytes (grown h n))) payload-is
         ∙ ap (λ (x : Header). sets (sets m (64 + 48 * length log) new) 0 (header-bytes x)) head in
-        (g .0, same ∙ g .1)
+        from-log kind b 0 m′ (g .0, same ∙ g .1)

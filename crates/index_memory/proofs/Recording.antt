@@ -10,14 +10,13 @@ use borrow.Author.Tests.{lt-ltb, le-ltb, le-leb, lt-leb}
 use Rattle.words.specs.Words.{setLe64}
 use Rattle.definitions.specs.Location.{Location, moved, location-bytes}
 use Rattle.definitions.specs.Blocks.{Block, Piece, pieces, entry-charge}
-use Rattle.definitions.specs.Causes.{first-cause}
-use Rattle.definitions.specs.Calls.{last-number}
+use Rattle.definitions.specs.Causes.{first-cause, refusal-of}
+use Rattle.definitions.specs.Calls.{Capacity, last-number, memory-checks}
 use Rattle.definitions.proofs.Views.{lt-or-le}
 use Rattle.tally.specs.Tallied.{recorded}
 use Rattle.index_memory.specs.Layout.{Header, header-bytes, piece-bytes, log-bytes}
-use Rattle.index_memory.specs.Record.{refusal-of}
 use Rattle.index_memory.specs.Cut.{part, parts, piece-count, block-nodes}
-use Rattle.index_memory.specs.Answers.{header-of, tally-in, with-tally, block-checks, grown}
+use Rattle.index_memory.specs.Answers.{header-of, tally-in, with-tally, grown}
 use Rattle.index_memory.specs.declared.Header as C
 use Rattle.index_memory.proofs.Charges.{pieces-parts}
 use Rattle.index_memory.proofs.PieceBytes.{piece-parts}
@@ -25,9 +24,9 @@ use Rattle.index_memory.proofs.LogBytes.{log-sets}
 
 -- ---- the ways out of the checks, each behind those before it
 
-module _ (h : Header) (n : ℕ) (l : Location) where
+module _ (c : Capacity) (nodes entries n : ℕ) (l : Location) where
   abbrev answer : ℕ
-  answer = refusal-of (first-cause (block-checks h n l))
+  answer = refusal-of (first-cause (memory-checks c nodes entries n l))
 
   pub refused-4 : 4096 < n → 4 ≡ answer
   refused-4 a = rw (lt-ltb 4096 n a)
@@ -38,37 +37,31 @@ module _ (h : Header) (n : ℕ) (l : Location) where
 
     module _ (b : l .created < l .destroyed) where
       pub refused-6 : last-number < l .address + n → 6 ≡ answer
-      refused-6 c = rw (le-ltb 4096 n a, lt-leb (l .destroyed) (l .created) b, lt-ltb last-number (l .address + n) c)
+      refused-6 d = rw (le-ltb 4096 n a, lt-leb (l .destroyed) (l .created) b, lt-ltb last-number (l .address + n) d)
 
-      module _ (c : l .address + n ≤ last-number) where
-        pub refused-7 : h .capacity .nodes < h .nodes + block-nodes n → 7 ≡ answer
-        refused-7 d =
-            rw (
-              le-ltb 4096 n a,
-              lt-leb (l .destroyed) (l .created) b,
-              le-ltb last-number (l .address + n) c,
-              lt-ltb (h .capacity .nodes) (h .nodes + block-nodes n) d,
-            )
+      module _ (d : l .address + n ≤ last-number) where
+        pub refused-7 : c .nodes < nodes → 7 ≡ answer
+        refused-7 e = rw (le-ltb 4096 n a, lt-leb (l .destroyed) (l .created) b, le-ltb last-number (l .address + n) d, lt-ltb (c .nodes) nodes e)
 
-        module _ (d : h .nodes + block-nodes n ≤ h .capacity .nodes) where
-          pub refused-8 : h .capacity .entries < h .entries + entry-charge n → 8 ≡ answer
-          refused-8 e =
+        module _ (e : nodes ≤ c .nodes) where
+          pub refused-8 : c .entries < entries → 8 ≡ answer
+          refused-8 f =
               rw (
                 le-ltb 4096 n a,
                 lt-leb (l .destroyed) (l .created) b,
-                le-ltb last-number (l .address + n) c,
-                le-ltb (h .capacity .nodes) (h .nodes + block-nodes n) d,
-                lt-ltb (h .capacity .entries) (h .entries + entry-charge n) e,
+                le-ltb last-number (l .address + n) d,
+                le-ltb (c .nodes) nodes e,
+                lt-ltb (c .entries) entries f,
               )
 
-          pub not-refused : h .entries + entry-charge n ≤ h .capacity .entries → 0 ≡ answer
-          not-refused e =
+          pub not-refused : entries ≤ c .entries → 0 ≡ answer
+          not-refused f =
               rw (
                 le-ltb 4096 n a,
                 lt-leb (l .destroyed) (l .created) b,
-                le-ltb last-number (l .address + n) c,
-                le-ltb (h .capacity .nodes) (h .nodes + block-nodes n) d,
-                le-ltb (h .capacity .entries) (h .entries + entry-charge n) e,
+                le-ltb last-number (l .address + n) d,
+                le-ltb (c .nodes) nodes e,
+                le-ltb (c .entries) entries f,
               )
 
 -- ---- the pieces as they are written

@@ -2,14 +2,12 @@
 use Prim.Native.Nat.{ℕ, _+_, _*_, _≤_}
 use mathlib.Core.Path.{_≡_}
 use mathlib.Core.Bool.{cond}
-use mathlib.Core.List.{List, [], _∷_}
+use mathlib.Core.List.{List}
 use mathlib.Core.Option.{Option, none, some}
 use lib.ListN.{length}
-use lib.Dec.{ltb, leb, eqb}
+use lib.Dec.{eqb}
 use Rattle.words.specs.Words.{le64}
-use Rattle.definitions.specs.Location.{Location}
 use Rattle.definitions.specs.Blocks.{Block, entry-charge}
-use Rattle.definitions.specs.Causes.{Check, data-too-long, no-life, address-too-high, too-many-nodes, too-many-entries}
 use Rattle.definitions.specs.Calls.{data-limit, last-number, needed}
 use Rattle.tally.specs.declared.Tally.{Tally}
 use Rattle.index_memory.specs.declared.Heading.{Heading}
@@ -72,15 +70,6 @@ pub record Front (m : List ℕ) (nodes entries : ℕ) : Type 0 where
   pub second-zero : le64 m 56 ≡ 0
 
 -- ── recording by the header alone ──
-
--- what a Memory block of n bytes at l is put to: the tally has what the log charges
-abbrev pub block-checks : Header → ℕ → Location → List Check
-block-checks h n l =
-    record { applies = ltb data-limit n; cause = data-too-long } ∷
-    record { applies = leb (l .destroyed) (l .created); cause = no-life } ∷
-    record { applies = ltb last-number (l .address + n); cause = address-too-high } ∷
-    record { applies = ltb (h .capacity .nodes) (h .nodes + block-nodes n); cause = too-many-nodes } ∷
-    record { applies = ltb (h .capacity .entries) (h .entries + entry-charge n); cause = too-many-entries } ∷ []
 
 -- the header that counts a block of n bytes too
 abbrev pub grown : Header → ℕ → Header

@@ -1,22 +1,28 @@
 -- What a lent memory holds: nothing that meets the index rule, an open index with its pieces, or a finished one with its trie.
 -- Assumes nothing.
 use Prim.Native.Nat.{ℕ, _+_}
-use mathlib.Core.Bool.{Bool, _&&_, cond}
-use mathlib.Core.List.{List}
+use mathlib.Core.Bool.{Bool, true, false, _&&_, cond}
+use mathlib.Core.List.{List, []}
 use lib.ListN.{length, take, drop}
 use lib.Dec.{leb, eqb}
-use Rattle.definitions.specs.Blocks.{Piece}
-use Rattle.definitions.specs.Calls.{Capacity, header-size}
-use Rattle.trie.specs.Trie.{Trie}
+use Rattle.definitions.specs.Blocks.{Piece, nodes-tallied, entries-tallied}
+use Rattle.definitions.specs.Calls.{Capacity, Standing, header-size}
+use Rattle.trie.specs.Trie.{Trie, trie-pieces}
 use Rattle.trie.specs.Test.{index-rule}
 use Rattle.image.specs.Reading.{Layout, right, refused, read-image}
 use Rattle.image.specs.Held.{trie-in}
-use Rattle.index_memory.specs.Layout.{Header, header-at, log-in, log-sound, header-sound, log-nodes, log-entries}
+use Rattle.index_memory.specs.Layout.{Header, header-at, log-in, log-sound, header-sound}
 
 pub data Index : Type 0 where
   broken : Index
   opened : Capacity → List Piece → Index
   finished : Capacity → Trie → Index
+
+-- as far as checks ask
+abbrev pub standing-of : Index → Standing
+standing-of broken = record { broken = true; finished = false; capacity = record { nodes = 0; entries = 0 }; pieces = [] }
+standing-of (opened c ps) = record { broken = false; finished = false; capacity = c; pieces = ps }
+standing-of (finished c t) = record { broken = false; finished = true; capacity = c; pieces = trie-pieces t }
 
 -- there is room for a header, and it is sound
 abbrev pub header-right : List ℕ → Bool
@@ -24,7 +30,7 @@ header-right m = leb header-size (length m) && header-sound m (header-at m)
 
 -- each piece is sound and the tally is the sum of the charges
 abbrev pub log-right : List ℕ → Header → Bool
-log-right m h = log-sound m (h .payload) header-size && (eqb (h .nodes) (log-nodes (log-in m (h .payload) header-size)) && eqb (h .entries) (log-entries (log-in m (h .payload) header-size)))
+log-right m h = log-sound m (h .payload) header-size && (eqb (h .nodes) (nodes-tallied (log-in m (h .payload) header-size)) && eqb (h .entries) (entries-tallied (log-in m (h .payload) header-size)))
 
 abbrev pub open-index : List ℕ → Header → Index
 open-index m h = cond (log-right m h) (opened (h .capacity) (log-in m (h .payload) header-size)) broken

@@ -7,7 +7,7 @@ use lib.ListN.{length, take, drop, replicate}
 use lib.Dec.{ltb, leb, eqb}
 use Rattle.words.specs.Words.{le64, bytes64}
 use Rattle.definitions.specs.Location.{Location, location-at, location-bytes}
-use Rattle.definitions.specs.Blocks.{Piece, node-charge, entry-charge, charge}
+use Rattle.definitions.specs.Blocks.{Piece}
 use Rattle.definitions.specs.Calls.{Capacity, header-size, node-size, needed, out-of-range, last-number}
 
 -- ── the header ──
@@ -74,10 +74,3 @@ header-sound m h =
     (leb (h .nodes) (h .capacity .nodes) &&
     (leb (h .entries) (h .capacity .entries) &&
     leb (h .payload) (cond (eqb (h .phase) 0) (h .capacity .entries) (payload-size (h .capacity))))))))))
-
--- the tally of a log: the root charges one node always
-abbrev pub log-nodes : List Piece → ℕ
-log-nodes ps = 1 + charge node-charge ps
-
-abbrev pub log-entries : List Piece → ℕ
-log-entries ps = charge entry-charge ps

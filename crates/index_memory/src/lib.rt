@@ -10,15 +10,15 @@ ghost use lib.ListN.{length};
 ghost use lib.Dec.{eqb};
 ghost use lib.Seq.{sets};
 ghost use Rattle.definitions.specs.Blocks.{entry-charge, node-charge, pieces};
-ghost use Rattle.definitions.specs.Calls.{needed, out-of-range};
-ghost use Rattle.definitions.specs.Causes.{first-cause};
+ghost use Rattle.definitions.specs.Calls.{needed, out-of-range, memory-checks};
+ghost use Rattle.definitions.specs.Causes.{first-cause, refusal-of};
 ghost use Rattle.location.specs.Plain.{plain};
 ghost use Rattle.tally.specs.Tallied.{recorded, finished};
 ghost use Rattle.index_memory.specs.Layout.{header-at, header-bytes, payload-size, piece-sound, piece-bytes, log-bytes, log-in};
 ghost use Rattle.index_memory.specs.Index.{log-right, read-index, opened};
-ghost use Rattle.index_memory.specs.Record.{open-memory, record-open, refusal-of};
+ghost use Rattle.index_memory.specs.Record.{open-memory, record-memory};
 ghost use Rattle.index_memory.specs.Cut.{part, piece-count, block-nodes};
-ghost use Rattle.index_memory.specs.Answers.{header-of, heading-of, heading-at, Front, Fitting, opened-as, recorded-as, block-checks, grown, tally-in, with-tally};
+ghost use Rattle.index_memory.specs.Answers.{header-of, heading-of, heading-at, Front, Fitting, opened-as, recorded-as, grown, tally-in, with-tally};
 
 pub const HEADER_SIZE: usize = 64;
 
@@ -315,7 +315,7 @@ fn piece_count(n: usize) -> usize
 // The number of the refusal of a Memory block of n bytes, 0 where it is taken.
 fn block_refusal(h: Header, n: usize, l: SpacetimeLocation) -> u64
     requires { ⌜ (h .nodes ≤ h .«node_room») × (h .entries ≤ h .«entry_room») ⌝ }
-    ensures { λ r. ⌜ r ≡ refusal-of (first-cause (block-checks (header-of h) n (plain l))) ⌝ }
+    ensures { λ r. ⌜ r ≡ refusal-of (first-cause (memory-checks (header-of h .capacity) (h .nodes + block-nodes n) (h .entries + entry-charge n) n (plain l))) ⌝ }
 {
     if definitions::DATA_LIMIT < n {
         return definitions::DATA_TOO_LONG;
@@ -414,8 +414,8 @@ pub fn record_open(
     data: &[u8],
 ) -> Recorded
     requires { ⌜ (header-at (now mem) ≡ header-of h) × (read-index (now mem) ≡ opened (header-of h .capacity) (log-in (now mem) (h .payload) 64)) ⌝ }
-    ensures answer { λ r. ⌜ r ≡ recorded-as (record-open (now (mem .entry)) (header-of h .capacity) (log-in (now (mem .entry)) (h .payload) 64) kind (record { bytes = now («data» .entry); at = plain l }) .refusal) ⌝ }
-    ensures memory { λ _. ⌜ now (mem .exit) ≡ record-open (now (mem .entry)) (header-of h .capacity) (log-in (now (mem .entry)) (h .payload) 64) kind (record { bytes = now («data» .entry); at = plain l }) .memory ⌝ }
+    ensures answer { λ r. ⌜ r ≡ recorded-as (record-memory (now (mem .entry)) kind (record { bytes = now («data» .entry); at = plain l }) .refusal) ⌝ }
+    ensures memory { λ _. ⌜ now (mem .exit) ≡ record-memory (now (mem .entry)) kind (record { bytes = now («data» .entry); at = plain l }) .memory ⌝ }
 {
     if (definitions::LAST_KIND as u64) < kind {
         return Recorded::Refused(definitions::UNKNOWN_KIND);

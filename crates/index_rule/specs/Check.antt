@@ -2,13 +2,14 @@
 use Prim.Native.Nat.{ℕ}
 use mathlib.Core.Bool.{Bool, cond}
 use mathlib.Core.List.{List}
+use Rattle.definitions.specs.Causes.{number, image-broken}
 use Rattle.trie.specs.Test.{index-rule}
 use Rattle.image.specs.Held.{trie-in}
 use Rattle.image.specs.Reading.{Layout, right, refused, read-image}
 
 -- what is said of a layout, where the rule holds or not
 abbrev pub and-rule : Bool → Layout → Layout
-and-rule holds (right nodes entries) = cond holds (right nodes entries) (refused 15)
+and-rule holds (right nodes entries) = cond holds (right nodes entries) (refused (number image-broken))
 and-rule holds (refused n) = refused n
 
 unfoldable pub check-image : List ℕ → Layout

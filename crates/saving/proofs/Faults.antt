@@ -1,13 +1,14 @@
 -- An image that is not accepted is refused with 13, 14 or 15. Assumes nothing.
-use Prim.Native.Nat.{ℕ, zero, suc, _+_, _*_, _≤_}
-use native.Mathlib.Omega.{arith}
+use Prim.Native.Nat.{ℕ, zero, suc, _+_, _*_}
 use mathlib.Core.Path.{_≡_, refl}
 use mathlib.Core.Bool.{Bool, true, false, cond}
+use mathlib.Core.Logic.{_⊎_, inl, inr}
 use mathlib.Core.List.{List}
 use lib.ListN.{length, getD}
 use lib.Dec.{leb, ltb, eqb}
 use borrow.Author.Tests.{eqb-false}
 use Rattle.words.specs.Words.{le64}
+use Rattle.definitions.specs.Causes.{number, cut-short, unknown-kind, image-broken}
 use Rattle.trie.specs.Test.{index-rule}
 use Rattle.image.specs.Kinds.{fits}
 use Rattle.image.specs.Held.{trie-in}
@@ -15,18 +16,17 @@ use Rattle.image.specs.Reading.{ListRead, past, cut, HeadRead, head, no-head, b
 use Rattle.index_rule.specs.Check.{and-rule, check-image}
 
 -- the numbers of an image's faults
-pub record Number (n : ℕ) : Type 0 where
-  pub least : 13 ≤ n
-  pub most : n ≤ 15
+abbrev pub Number : ℕ → Type 0
+Number n = (n ≡ number cut-short) ⊎ ((n ≡ number unknown-kind) ⊎ (n ≡ number image-broken))
 
 thirteen : Number 13
-thirteen = record { least = omega arith; most = omega arith }
+thirteen = inl refl
 
 fourteen : Number 14
-fourteen = record { least = omega arith; most = omega arith }
+fourteen = inr (inl refl)
 
 fifteen : Number 15
-fifteen = record { least = omega arith; most = omega arith }
+fifteen = inr (inr refl)
 
 -- both ways out have it
 either : {A : Type 0} (P : A → Type 0) (o : Bool) {x y : A} → P x → P y → P (cond o x y)

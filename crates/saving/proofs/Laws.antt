@@ -2,37 +2,39 @@
 use Prim.Native.Nat.{ℕ, _+_, _-_, _^_, _≤_, _<_}
 use native.Mathlib.Omega.{arith}
 use mathlib.Core.Path.{_≡_, refl, sym, ap, _∙_, subst}
-use mathlib.Core.Logic.{inr}
+use mathlib.Core.Logic.{_⊎_, inl, inr}
 use mathlib.Core.List.{List}
+use mathlib.Core.Option.{some}
 use lib.ListN.{length, take, drop}
 use lib.Seq.{sets, length-sets, take-length}
 use borrow.Author.Tests.{lt-ltb, le-ltb, ne-eqb}
 use Rattle.words.specs.Holding.{Holds}
 use Rattle.words.proofs.Parts.{getD-sets-out}
 use Rattle.words.proofs.Holding.{holds-sets}
-use Rattle.definitions.specs.Causes.{save-buffer-too-short}
-use Rattle.definitions.specs.Calls.{Capacity, needed}
-use Rattle.trie.specs.Trie.{nodes, entries}
+use Rattle.definitions.specs.Causes.{number, index-rule-broken, save-buffer-too-short, first-cause}
+use Rattle.definitions.specs.Calls.{Capacity, needed, image-checks}
+use Rattle.trie.specs.Trie.{Trie, nodes, entries}
 use Rattle.image.specs.Image.{image}
 use Rattle.image.specs.Held.{trie-in}
-use Rattle.image.specs.Reading.{Layout, right}
+use Rattle.image.specs.Reading.{Layout, right, refused, fault-of, nodes-in, entries-in}
 use Rattle.image.specs.Savable.{AllBytes, Savable}
 use Rattle.image.proofs.Sizes.{image-size}
 use Rattle.image.proofs.Theorems.{read-image-is}
 use Rattle.index_rule.specs.Check.{check-image}
 use Rattle.index_rule.proofs.Theorems.{check-image-is}
 use Rattle.index_memory.specs.Layout.{Header}
-use Rattle.index_memory.specs.Index.{image-part}
-use Rattle.index_memory.specs.Record.{Done}
+use Rattle.index_memory.specs.Index.{Index, broken, opened, finished, image-part, read-index}
+use Rattle.index_memory.specs.Record.{Done, unless-refused}
 use Rattle.inspecting.specs.Held.{ImageIn}
 use Rattle.inspecting.proofs.Facts.{same-part}
 use Rattle.finished_memory.specs.Finished.{finished-header, finished-memory, closed, Closable}
-use Rattle.finished_memory.specs.Room.{Room}
+use Rattle.finished_memory.specs.Room.{capacity-of, Room}
 use Rattle.finished_memory.proofs.Standing.{closed-is}
 use Rattle.finished_memory.proofs.Holds.{part-bytes, part-small}
-use Rattle.saving.specs.Saving.{Saving, not-saved, save-image, load-right}
+use Rattle.saving.specs.Saving.{Saving, save-by, save-memory, load-by, load-memory}
 use Rattle.saving.specs.Answers.{loaded-as}
 use Rattle.saving.specs.declared.Loaded.the-variants as L
+use Rattle.saving.proofs.Faults.{Number}
 
 -- ── an image that passes the test ──
 
@@ -46,15 +48,24 @@ accepted s a l n e t = read-image-is s a l n e (check-image-is s a l n e .0 t .0
 pub cut-is : (m : List ℕ) (h : Header) → AllBytes m → length m < 2 ^ 64 → ImageIn m h → take (64 + h .payload - 64) (drop 64 m) ≡ image (trie-in (image-part m h))
 cut-is m h a l w = same-part m (h .payload) ∙ sym (accepted (image-part m h) (part-bytes m h a) (part-small m h l) (w .tested .nodes) (w .tested .entries) (sym (w .tested .is)) .0)
 
-module _ (s x buffer : List ℕ) (is : s ≡ x) where
-  pub too-short : length buffer < length s → not-saved save-buffer-too-short buffer ≡ save-image x buffer
-  too-short h = rw (lt-ltb (length buffer) (length x) (subst (λ (y : List ℕ). length buffer < length y) is h))
+-- what a memory holds decides
+pub save-as : (m buffer : List ℕ) (i : Index) → read-index m ≡ i → save-by i buffer ≡ save-memory m buffer
+unfolding save-memory
+save-as m buffer i e = ap (λ (x : Index). save-by x buffer) (sym e)
 
-  pub saved : length s ≤ length buffer → (after : List ℕ) → after ≡ sets buffer 0 (take (length s) (drop 0 s)) → _≡_ {A = Saving} (record { refusal = 0; size = length s; buffer = after }) (save-image x buffer)
+module _ (m s buffer : List ℕ) (c : Capacity) (t : Trie) (holds : read-index m ≡ finished c t) (is : s ≡ image t) where
+  abbrev x : List ℕ
+  x = image t
+
+  pub too-short : length buffer < length s → record { refusal = number save-buffer-too-short; size = 0; buffer = buffer } ≡ save-memory m buffer
+  too-short h = rw (lt-ltb (length buffer) (length x) (subst (λ (y : List ℕ). length buffer < length y) is h)) at (save-as m buffer (finished c t) holds)
+
+  pub saved : length s ≤ length buffer → (after : List ℕ) → after ≡ sets buffer 0 (take (length s) (drop 0 s)) → record { refusal = 0; size = length s; buffer = after } ≡ save-memory m buffer
   saved h after e =
       let n : length s ≡ length x = ap length is in
       let b : after ≡ sets buffer 0 x = e ∙ ap (sets buffer 0) (take-length s ∙ is) in
-      rw (le-ltb (length buffer) (length x) (subst (λ (y : List ℕ). length y ≤ length buffer) is h)) (λ i. record { refusal = 0; size = n i; buffer = b i })
+      let w : _≡_ {A = Saving} (record { refusal = 0; size = length s; buffer = after }) (record { refusal = 0; size = length x; buffer = sets buffer 0 x }) = λ i. record { refusal = 0; size = n i; buffer = b i } in
+      w ∙ (rw (le-ltb (length buffer) (length x) (subst (λ (y : List ℕ). length y ≤ length buffer) is h)) at (save-as m buffer (finished c t) holds))
 
 -- ── load ──
 
@@ -62,18 +73,43 @@ module _ (s x buffer : List ℕ) (is : s ≡ x) where
 pub refused-as : (n : ℕ) → (n ≡ 0 → ⊥) → L.Refused n ≡ loaded-as n
 refused-as n h = rw (ne-eqb n 0 h) refl
 
--- what the check says decides
-pub by-check : (c : Capacity) (m s : List ℕ) (x : Layout) → x ≡ check-image s → load-right x c m s ≡ load-right (check-image s) c m s
-by-check c m s x e = ap (λ (y : Layout). load-right y c m s) e
+-- an image of this layout, loaded where the capacity is c
+abbrev pub load-image : Layout → Capacity → List ℕ → List ℕ → Done
+load-image x c m s = unless-refused (first-cause (image-checks c (fault-of x) (nodes-in x) (entries-in x))) m (finished-memory m c (trie-in s))
+
+-- an image that is not accepted is refused with its own number
+pub fault-over : (c : Capacity) (m s : List ℕ) (n : ℕ) → Number n → _≡_ {A = Done} (record { refusal = n; memory = m }) (load-image (refused n) c m s)
+fault-over c m s n (inl e) = rw e
+fault-over c m s n (inr (inl e)) = rw e
+fault-over c m s n (inr (inr e)) = rw e
+
+-- nothing is loaded over what breaks the index rule
+pub load-broken : (m s : List ℕ) → read-index m ≡ broken → record { refusal = number index-rule-broken; memory = m } ≡ load-memory m s
+unfolding load-memory
+load-broken m s e = ap (λ (x : Index). load-by x m s) (sym e)
+
+-- an open index and a finished one are replaced alike
+pub load-as : (m s : List ℕ) (c : Capacity) (x : Layout) → capacity-of (read-index m) ≡ some c → check-image s ≡ x → load-image x c m s ≡ load-memory m s
+unfolding load-memory
+load-as m s c x e f = ap (λ (y : Layout). load-image y c m s) (sym f) ∙ go (read-index m) e
+  where
+    go : (i : Index) → capacity-of i ≡ some c → load-image (check-image s) c m s ≡ load-by i m s
+    go broken f = absurd (let z : _≡_ {A = ℕ} 0 1 = cc in omega arith)
+    go (opened d ps) f =
+        let q : c ≡ d = cc in
+        ap (λ (y : Capacity). load-image (check-image s) y m s) q
+    go (finished d t) f =
+        let q : c ≡ d = cc in
+        ap (λ (y : Capacity). load-image (check-image s) y m s) q
 
 module _ (c : Capacity) (m s : List ℕ) (n e : ℕ) where
-  pub nodes-over : c .nodes < n → _≡_ {A = Done} (record { refusal = 7; memory = m }) (load-right (right n e) c m s)
+  pub nodes-over : c .nodes < n → _≡_ {A = Done} (record { refusal = 7; memory = m }) (load-image (right n e) c m s)
   nodes-over h = rw (lt-ltb (c .nodes) n h)
 
-  pub entries-over : n ≤ c .nodes → c .entries < e → _≡_ {A = Done} (record { refusal = 8; memory = m }) (load-right (right n e) c m s)
+  pub entries-over : n ≤ c .nodes → c .entries < e → _≡_ {A = Done} (record { refusal = 8; memory = m }) (load-image (right n e) c m s)
   entries-over h k = rw (le-ltb (c .nodes) n h, lt-ltb (c .entries) e k)
 
-  pub both-within : n ≤ c .nodes → e ≤ c .entries → _≡_ {A = Done} (record { refusal = 0; memory = finished-memory m c (trie-in s) }) (load-right (right n e) c m s)
+  pub both-within : n ≤ c .nodes → e ≤ c .entries → _≡_ {A = Done} (record { refusal = 0; memory = finished-memory m c (trie-in s) }) (load-image (right n e) c m s)
   both-within h k = rw (le-ltb (c .nodes) n h, le-ltb (c .entries) e k)
 
   -- the header that the code writes
@@ -103,7 +139,7 @@ module _ (c : Capacity) (m s : List ℕ) (n e : ℕ) where
     pub closable : (made : Header) → made ≡ head → (x : List ℕ) → length x ≡ length m → Closable x made
     closable made v x q = subst (Closable x) (sym v) (able x q)
 
-    pub loaded : (made : Header) → made ≡ head → (x after : List ℕ) → x ≡ sets m 64 (take (length s) (drop 0 s)) → after ≡ closed x made → _≡_ {A = Done} (record { refusal = 0; memory = after }) (load-right (right n e) c m s)
+    pub loaded : (made : Header) → made ≡ head → (x after : List ℕ) → x ≡ sets m 64 (take (length s) (drop 0 s)) → after ≡ closed x made → _≡_ {A = Done} (record { refusal = 0; memory = after }) (load-image (right n e) c m s)
     loaded made is-head x after p q =
         let u : List ℕ = sets m 64 s in
         let x-is : x ≡ u = p ∙ ap (sets m 64) (take-length s) in

@@ -3,62 +3,42 @@ use Prim.Native.Nat.{ℕ, _+_, _≤_}
 use native.Mathlib.Omega.{arith}
 use mathlib.Core.Path.{_≡_, refl, sym, ap, _∙_, subst}
 use mathlib.Core.Bool.{Bool, true, false, cond}
+use mathlib.Core.Logic.{_⊎_, inl, inr}
 use mathlib.Core.List.{List}
 use mathlib.Core.Option.{Option, none, some}
 use lib.ListN.{length, take, drop}
-use lib.Seq.{sets, sets-eq, take-append-seam}
+use lib.Seq.{sets, sets-eq, take-append-seam, take-length}
 use lib.Dec.{ltb}
-use borrow.Author.Tests.{le-ltb, ltb-false}
-use Rattle.definitions.specs.Causes.{Cause, save-buffer-too-short, too-many-nodes, too-many-entries, first-cause, causes, checked, load-call}
-use Rattle.definitions.specs.Calls.{Capacity, save-checks}
+use borrow.Author.Tests.{ltb-false}
+use Rattle.definitions.specs.Causes.{Cause, save-buffer-too-short, too-many-nodes, too-many-entries, first-cause}
+use Rattle.definitions.specs.Calls.{Capacity, save-checks, load-checks}
 use Rattle.trie.specs.Trie.{Trie, nodes, entries}
 use Rattle.trie.specs.Test.{index-rule}
 use Rattle.image.specs.Image.{image}
 use Rattle.image.specs.Held.{trie-in}
-use Rattle.image.specs.Reading.{Layout, right, refused}
+use Rattle.image.specs.Reading.{Layout, right, refused, fault-of, nodes-in, entries-in}
 use Rattle.image.specs.Savable.{Savable}
 use Rattle.image.proofs.Theorems.{image-read}
 use Rattle.index_rule.specs.Check.{and-rule, check-image}
 use Rattle.index_rule.proofs.Theorems.{check-image-is, index-rule-is}
-use Rattle.index_memory.specs.Index.{Index, broken, opened, finished, read-index}
+use Rattle.index_memory.specs.Index.{Index, broken, opened, finished, standing-of, read-index}
 use Rattle.index_memory.specs.Record.{Done, unless-refused}
+use Rattle.index_memory.proofs.Opening.{refused-leaves}
 use Rattle.finished_memory.specs.Finished.{finished-memory}
 use Rattle.finished_memory.specs.Room.{capacity-of, Within}
 use Rattle.finished_memory.proofs.Holds.{FinishedIs, finished-holds, finished-is, room-of}
-use Rattle.saving.specs.Saving.{Saving, saved-or-refused, save-image, save-by, save-memory, load-checks, load-right, load-by, load-memory}
-use Rattle.saving.specs.Promises.{Lent, LoadHolds, SaveOfLoaded, bytes-of, SaveIsImage, LoadOfSaved, ImageRefusal, RefusedLeaves}
-use Rattle.saving.proofs.Laws.{accepted, both-within}
-use Rattle.saving.proofs.Faults.{InLayout, check-in}
-
--- ── load's checks stand in the order of the table, behind those of the memory and the image ──
-
-load-order : (c : Capacity) (n k : ℕ) → causes (load-checks c n k) ≡ drop 4 (checked load-call)
-load-order c n k = refl
-
--- ── what a memory holds decides ──
-
-pub save-as : (m buffer : List ℕ) (i : Index) → read-index m ≡ i → save-by i buffer ≡ save-memory m buffer
-unfolding save-memory
-save-as m buffer i e = ap (λ (x : Index). save-by x buffer) (sym e)
-
-pub load-as : (m s : List ℕ) (i : Index) → read-index m ≡ i → load-by i m s ≡ load-memory m s
-unfolding load-memory
-load-as m s i e = ap (λ (x : Index). load-by x m s) (sym e)
-
--- an open index and a finished one are replaced alike
-pub load-in : (m s : List ℕ) (c : Capacity) → capacity-of (read-index m) ≡ some c → load-right (check-image s) c m s ≡ load-memory m s
-load-in m s c e = go (read-index m) e ∙ load-as m s (read-index m) refl
-  where
-    go : (i : Index) → capacity-of i ≡ some c → load-right (check-image s) c m s ≡ load-by i m s
-    go broken f = absurd (let z : _≡_ {A = ℕ} 0 1 = cc in omega arith)
-    go (opened d ps) f =
-        let q : c ≡ d = cc in
-        ap (λ (x : Capacity). load-right (check-image s) x m s) q
-    go (finished d t) f =
-        let q : c ≡ d = cc in
-        ap (λ (x : Capacity). load-right (check-image s) x m s) q
+use Rattle.saving.specs.Saving.{Saving, saved-or-refused, image-of, save-by, save-memory, load-by, load-memory}
+use Rattle.saving.specs.Promises.{Lent, LoadHolds, SaveOfLoaded, bytes-of, SaveIsImage, LoadOfSaved, ImageRefusal}
+use Rattle.saving.proofs.Laws.{accepted, save-as, saved, load-image, fault-over, load-as, both-within}
+use Rattle.saving.proofs.Faults.{Number, InLayout, check-in}
 
 -- ── a load that is not refused ──
+
+-- a fault is not 0
+pub fault-some : {n : ℕ} → Number n → n ≡ 0 → ⊥
+fault-some (inl e) z = omega arith
+fault-some (inr (inl e)) z = omega arith
+fault-some (inr (inr e)) z = omega arith
 
 record Accepted (c : Capacity) (x : Layout) : Type 0 where
   nodes : ℕ
@@ -67,8 +47,8 @@ record Accepted (c : Capacity) (x : Layout) : Type 0 where
   few-nodes : nodes ≤ c .nodes
   few-entries : entries ≤ c .entries
 
-accepted-by : (m s : List ℕ) (c : Capacity) (x : Layout) → InLayout x → load-right x c m s .refusal ≡ 0 → Accepted c x
-accepted-by m s c (refused n) i e = absurd (omega (arith, i .least))
+accepted-by : (m s : List ℕ) (c : Capacity) (x : Layout) → InLayout x → load-image x c m s .refusal ≡ 0 → Accepted c x
+accepted-by m s c (refused n) i e = absurd (fault-some i (ap (λ (d : Done). d .refusal) (fault-over c m s n i) ∙ e))
 accepted-by m s c (right n k) i e = go (ltb (c .nodes) n) refl (ltb (c .entries) k) refl e
   where
     go : (o₁ : Bool) → ltb (c .nodes) n ≡ o₁ → (o₂ : Bool) → ltb (c .entries) k ≡ o₂
@@ -88,7 +68,7 @@ held : (m s : List ℕ) (c : Capacity) (t : Trie) → capacity-of (read-index m)
     → (load-memory m s .refusal ≡ 0) × (read-index (load-memory m s .memory) ≡ finished c t)
 held m s c t h e q w v rule =
     let is : load-memory m s ≡ record { refusal = 0; memory = finished-memory m c (trie-in s) } =
-    sym (both-within c m s (nodes t) (entries t) (w .nodes) (w .entries) ∙ ap (λ (x : Layout). load-right x c m s) (sym e) ∙ load-in m s c h) in
+    sym (both-within c m s (nodes t) (entries t) (w .nodes) (w .entries) ∙ load-as m s c (right (nodes t) (entries t)) h e) in
     (ap (λ (d : Done). d .refusal) is, ap (λ (d : Done). read-index (d .memory)) is ∙ ap (λ (x : Trie). read-index (finished-memory m c x)) q ∙ finished-holds m c t (room-of m c h) w v rule)
 
 -- what a load that was not refused had before it
@@ -98,9 +78,10 @@ record Before (m s : List ℕ) : Type 0 where
   image : Accepted capacity (check-image s)
 
 before : (m s : List ℕ) → load-memory m s .refusal ≡ 0 → Before m s
+unfolding load-memory
 before m s e =
-    let h = had m s (read-index m) (ap (λ (d : Done). d .refusal) (load-as m s (read-index m) refl) ∙ e) in
-    record { capacity = h .0; had = h .1; image = accepted-by m s (h .0) (check-image s) (check-in s) (ap (λ (d : Done). d .refusal) (load-in m s (h .0) (h .1)) ∙ e) }
+    let h = had m s (read-index m) e in
+    record { capacity = h .0; had = h .1; image = accepted-by m s (h .0) (check-image s) (check-in s) (ap (λ (d : Done). d .refusal) (load-as m s (h .0) (check-image s) (h .1) refl) ∙ e) }
 
 pub load-holds : LoadHolds
 load-holds m s l e =
@@ -114,9 +95,6 @@ load-holds m s l e =
 
 -- ── saving what was loaded ──
 
-image-saved : (s buffer : List ℕ) → length s ≤ length buffer → save-image s buffer ≡ record { refusal = 0; size = length s; buffer = sets buffer 0 s }
-image-saved s buffer h = rw (le-ltb (length buffer) (length s) h)
-
 -- an image that was loaded is that of its trie
 loaded-is : (m s : List ℕ) → Lent s → load-memory m s .refusal ≡ 0 → image (trie-in s) ≡ s
 loaded-is m s l e =
@@ -126,22 +104,25 @@ loaded-is m s l e =
 pub save-of-loaded : SaveOfLoaded
 save-of-loaded m s buffer l e h =
     let w = load-holds m s l e in
-    sym (save-as (load-memory m s .memory) buffer (finished (w .capacity) (trie-in s)) (w .holds)) ∙ ap (λ (x : List ℕ). save-image x buffer) (loaded-is m s l e) ∙ image-saved s buffer h
+    sym (saved (load-memory m s .memory) s buffer (w .capacity) (trie-in s) (w .holds) (sym (loaded-is m s l e)) h (sets buffer 0 s) (ap (sets buffer 0) (sym (take-length s))))
 
 -- ── loading what was saved ──
 
 -- a save that is not refused hands over the image
-handed : (s buffer : List ℕ) → save-image s buffer .refusal ≡ 0 → bytes-of (save-image s buffer) ≡ s
-handed s buffer e = go (ltb (length buffer) (length s)) refl e
+handed : (c : Capacity) (t : Trie) (buffer : List ℕ) → save-by (finished c t) buffer .refusal ≡ 0 → bytes-of (save-by (finished c t) buffer) ≡ image t
+handed c t buffer e = go (ltb (length buffer) (length s)) refl e
   where
+    s : List ℕ
+    s = image t
+
     go : (o : Bool) → ltb (length buffer) (length s) ≡ o → saved-or-refused (cond o (some save-buffer-too-short) none) s buffer .refusal ≡ 0 → bytes-of (saved-or-refused (cond o (some save-buffer-too-short) none) s buffer) ≡ s
     go true q f = absurd (omega arith)
     go false q f = ap (take (length s)) (sets-eq s buffer 0 (omega (arith, ltb-false (length buffer) (length s) q))) ∙ take-append-seam s (drop (0 + length s) buffer)
 
 pub save-is-image : SaveIsImage
 save-is-image m buffer c t e r =
-    let q : save-image (image t) buffer ≡ save-memory m buffer = save-as m buffer (finished c t) e in
-    ap bytes-of (sym q) ∙ handed (image t) buffer (ap (λ (x : Saving). x .refusal) q ∙ r)
+    let q : save-by (finished c t) buffer ≡ save-memory m buffer = save-as m buffer (finished c t) e in
+    ap bytes-of (sym q) ∙ handed c t buffer (ap (λ (x : Saving). x .refusal) q ∙ r)
 
 -- the image of what can be saved and meets the rule passes the test
 image-passes : (t : Trie) → Savable t → index-rule t ≡ true → check-image (image t) ≡ right (nodes t) (entries t)
@@ -162,43 +143,28 @@ load-of-saved m m′ buffer c c′ t l e r h w =
 -- ── a call that is refused ──
 
 pub image-refusal : ImageRefusal
-image-refusal s n e =
-    let k : InLayout (refused n) = subst InLayout e (check-in s) in
-    (k .least, k .most)
+image-refusal s n e = subst InLayout e (check-in s)
 
-load-refused : (m s : List ℕ) (i : Index) → (load-by i m s .refusal ≡ 0 → ⊥) → load-by i m s .memory ≡ m
-load-refused m s i f = by-index i f
-  where
-    by-cause : (o : Option Cause) (new : List ℕ) → (unless-refused o m new .refusal ≡ 0 → ⊥) → unless-refused o m new .memory ≡ m
-    by-cause none new f = absurd (f refl)
-    by-cause (some x) new f = refl
+save-refused : (o : Option Cause) (s buffer : List ℕ) → (saved-or-refused o s buffer .refusal ≡ 0 → ⊥) → (saved-or-refused o s buffer .buffer ≡ buffer) × (saved-or-refused o s buffer .size ≡ 0)
+save-refused none s buffer f = absurd (f refl)
+save-refused (some x) s buffer f = (refl, refl)
 
-    by-layout : (c : Capacity) (x : Layout) → (load-right x c m s .refusal ≡ 0 → ⊥) → load-right x c m s .memory ≡ m
-    by-layout c (refused n) f = refl
-    by-layout c (right n k) f = by-cause (first-cause (load-checks c n k)) (finished-memory m c (trie-in s)) f
+-- a save's checks on what a memory holds
+abbrev save-cause : Index → List ℕ → Option Cause
+save-cause i buffer = first-cause (save-checks (standing-of i) (length (image-of i)) (length buffer))
 
-    by-index : (i : Index) → (load-by i m s .refusal ≡ 0 → ⊥) → load-by i m s .memory ≡ m
-    by-index broken f = refl
-    by-index (opened c ps) f = by-layout c (check-image s) f
-    by-index (finished c t) f = by-layout c (check-image s) f
+-- a load that is refused leaves the memory
+pub load-leaves : (m s : List ℕ) → (load-memory m s .refusal ≡ 0 → ⊥) → load-memory m s .memory ≡ m
+unfolding load-memory
+load-leaves m s f =
+    refused-leaves (first-cause (load-checks (standing-of (read-index m)) (fault-of (check-image s)) (nodes-in (check-image s)) (entries-in (check-image s)))) m
+    (finished-memory m (standing-of (read-index m) .capacity) (trie-in s)) f
 
-save-refused : (buffer : List ℕ) (i : Index) → (save-by i buffer .refusal ≡ 0 → ⊥) → (save-by i buffer .buffer ≡ buffer) × (save-by i buffer .size ≡ 0)
-save-refused buffer i f = by-index i f
-  where
-    by-cause : (o : Option Cause) (s : List ℕ) → (saved-or-refused o s buffer .refusal ≡ 0 → ⊥) → (saved-or-refused o s buffer .buffer ≡ buffer) × (saved-or-refused o s buffer .size ≡ 0)
-    by-cause none s f = absurd (f refl)
-    by-cause (some x) s f = (refl, refl)
+-- a save that is refused leaves the buffer, and has no bytes
+pub save-leaves : (m buffer : List ℕ) → (save-memory m buffer .refusal ≡ 0 → ⊥) → save-memory m buffer .buffer ≡ buffer
+unfolding save-memory
+save-leaves m buffer f = save-refused (save-cause (read-index m) buffer) (image-of (read-index m)) buffer f .0
 
-    by-index : (i : Index) → (save-by i buffer .refusal ≡ 0 → ⊥) → (save-by i buffer .buffer ≡ buffer) × (save-by i buffer .size ≡ 0)
-    by-index broken f = (refl, refl)
-    by-index (opened c ps) f = (refl, refl)
-    by-index (finished c t) f = by-cause (first-cause (save-checks true (length (image t)) (length buffer))) (image t) f
-
-pub refused-leaves : RefusedLeaves
-unfolding load-memory save-memory
-refused-leaves m s = (load-refused m s (read-index m), λ f. save-refused s (read-index m) f .0)
-
--- a save that is refused has no bytes
 pub none-saved : (m buffer : List ℕ) → (save-memory m buffer .refusal ≡ 0 → ⊥) → save-memory m buffer .size ≡ 0
 unfolding save-memory
-none-saved m buffer f = save-refused buffer (read-index m) f .1
+none-saved m buffer f = save-refused (save-cause (read-index m) buffer) (image-of (read-index m)) buffer f .1

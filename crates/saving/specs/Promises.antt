@@ -1,10 +1,12 @@
 -- What save and load promise of each other, on memories as they are lent. Assumes nothing.
 use Prim.Native.Nat.{ℕ, _^_, _≤_, _<_}
 use mathlib.Core.Path.{_≡_}
+use mathlib.Core.Logic.{_⊎_}
 use mathlib.Core.List.{List}
 use mathlib.Core.Option.{some}
 use lib.ListN.{length, take}
 use lib.Seq.{sets}
+use Rattle.definitions.specs.Causes.{number, cut-short, unknown-kind, image-broken}
 use Rattle.definitions.specs.Calls.{Capacity}
 use Rattle.trie.specs.Trie.{Trie}
 use Rattle.image.specs.Image.{image}
@@ -51,8 +53,4 @@ LoadOfSaved =
 
 -- what an image itself is refused with: 13, 14 or 15
 abbrev pub ImageRefusal : Type 0
-ImageRefusal = (s : List ℕ) (n : ℕ) → check-image s ≡ refused n → (13 ≤ n) × (n ≤ 15)
-
--- a call that is refused leaves all as it was
-abbrev pub RefusedLeaves : Type 0
-RefusedLeaves = (m s : List ℕ) → ((load-memory m s .refusal ≡ 0 → ⊥) → load-memory m s .memory ≡ m) × ((save-memory m s .refusal ≡ 0 → ⊥) → save-memory m s .buffer ≡ s)
+ImageRefusal = (s : List ℕ) (n : ℕ) → check-image s ≡ refused n → (n ≡ number cut-short) ⊎ ((n ≡ number unknown-kind) ⊎ (n ≡ number image-broken))

@@ -4,15 +4,15 @@ use image::Tally;
 use index_memory::HEADER_SIZE;
 use index_memory::Header;
 ghost use mathlib.Core.Path.{_≡_};
-ghost use Rattle.image.specs.Image.{image};
+ghost use mathlib.Core.Option.{some};
 ghost use Rattle.image.specs.Held.{trie-in};
 ghost use Rattle.image.specs.Reading.{right};
 ghost use Rattle.index_rule.specs.Check.{check-image};
-ghost use Rattle.index_memory.specs.Index.{image-part};
+ghost use Rattle.index_memory.specs.Index.{finished, image-part, read-index};
 ghost use Rattle.index_memory.specs.Answers.{header-of};
 ghost use Rattle.inspecting.specs.Held.{ImageIn};
-ghost use Rattle.finished_memory.specs.Room.{Room};
-ghost use Rattle.saving.specs.Saving.{save-image, load-right};
+ghost use Rattle.finished_memory.specs.Room.{capacity-of};
+ghost use Rattle.saving.specs.Saving.{save-memory, load-memory};
 ghost use Rattle.saving.specs.Answers.{saved-as, loaded-as};
 
 // How many bytes of the save buffer are the image, or a refusal.
@@ -28,9 +28,9 @@ pub enum Loaded {
 
 // Saves the image of a finished index: h is the header of its memory.
 pub fn save_finished(mem: &[u8], h: Header, out: &mut [u8]) -> Saved
-    requires { ⌜ ImageIn (now mem) (header-of h) ⌝ }
-    ensures answer { λ r. ⌜ r ≡ saved-as (save-image (image (trie-in (image-part (now (mem .entry)) (header-of h)))) (now (out .entry)) .refusal) (save-image (image (trie-in (image-part (now (mem .entry)) (header-of h)))) (now (out .entry)) .size) ⌝ }
-    ensures buffer { λ _. ⌜ now (out .exit) ≡ save-image (image (trie-in (image-part (now (mem .entry)) (header-of h)))) (now (out .entry)) .buffer ⌝ }
+    requires { ⌜ ImageIn (now mem) (header-of h) × (read-index (now mem) ≡ finished (header-of h .capacity) (trie-in (image-part (now mem) (header-of h)))) ⌝ }
+    ensures answer { λ r. ⌜ r ≡ saved-as (save-memory (now (mem .entry)) (now (out .entry)) .refusal) (save-memory (now (mem .entry)) (now (out .entry)) .size) ⌝ }
+    ensures buffer { λ _. ⌜ now (out .exit) ≡ save-memory (now (mem .entry)) (now (out .entry)) .buffer ⌝ }
 {
     let s = &mem[HEADER_SIZE..HEADER_SIZE + h.payload];
     let n = s.len();
@@ -43,9 +43,9 @@ pub fn save_finished(mem: &[u8], h: Header, out: &mut [u8]) -> Saved
 
 // Loads an image that is right, with this tally, if the capacity in h has room for it.
 fn load_right(mem: &mut [u8], h: Header, t: Tally, s: &[u8]) -> Loaded
-    requires { ⌜ Room (now mem) (header-of h .capacity) × (check-image (now s) ≡ right (t .nodes) (t .entries)) ⌝ }
-    ensures answer { λ r. ⌜ r ≡ loaded-as (load-right (right (t .nodes) (t .entries)) (header-of h .capacity) (now (mem .entry)) (now (s .entry)) .refusal) ⌝ }
-    ensures memory { λ _. ⌜ now (mem .exit) ≡ load-right (right (t .nodes) (t .entries)) (header-of h .capacity) (now (mem .entry)) (now (s .entry)) .memory ⌝ }
+    requires { ⌜ (capacity-of (read-index (now mem)) ≡ some (header-of h .capacity)) × (check-image (now s) ≡ right (t .nodes) (t .entries)) ⌝ }
+    ensures answer { λ r. ⌜ r ≡ loaded-as (load-memory (now (mem .entry)) (now (s .entry)) .refusal) ⌝ }
+    ensures memory { λ _. ⌜ now (mem .exit) ≡ load-memory (now (mem .entry)) (now (s .entry)) .memory ⌝ }
 {
     if h.node_room < t.nodes {
         return Loaded::Refused(definitions::TOO_MANY_NODES);
@@ -60,11 +60,11 @@ fn load_right(mem: &mut [u8], h: Header, t: Tally, s: &[u8]) -> Loaded
     Loaded::Done
 }
 
-// Loads an image into a memory that has room for the capacity in h: nothing of what it held is read.
+// Loads an image in place of what a memory holds, whose capacity is in h: nothing else of it is read.
 pub fn load_into(mem: &mut [u8], h: Header, s: &[u8]) -> Loaded
-    requires { ⌜ Room (now mem) (header-of h .capacity) ⌝ }
-    ensures answer { λ r. ⌜ r ≡ loaded-as (load-right (check-image (now (s .entry))) (header-of h .capacity) (now (mem .entry)) (now (s .entry)) .refusal) ⌝ }
-    ensures memory { λ _. ⌜ now (mem .exit) ≡ load-right (check-image (now (s .entry))) (header-of h .capacity) (now (mem .entry)) (now (s .entry)) .memory ⌝ }
+    requires { ⌜ capacity-of (read-index (now mem)) ≡ some (header-of h .capacity) ⌝ }
+    ensures answer { λ r. ⌜ r ≡ loaded-as (load-memory (now (mem .entry)) (now (s .entry)) .refusal) ⌝ }
+    ensures memory { λ _. ⌜ now (mem .exit) ≡ load-memory (now (mem .entry)) (now (s .entry)) .memory ⌝ }
 {
     match index_rule::check(s) {
         Layout::Refused(n) => Loaded::Refused(n),

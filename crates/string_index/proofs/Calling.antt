@@ -3,7 +3,6 @@ use Prim.Native.Nat.{ℕ, _+_, _-_, _≤_, _<_, _^_}
 use mathlib.Core.Path.{_≡_, sym, ap, _∙_, subst}
 use mathlib.Core.List.{List}
 use lib.ListN.{length, take, drop}
-use Rattle.definitions.specs.Blocks.{Block}
 use Rattle.trie.specs.Trie.{trie-pieces}
 use Rattle.trie.specs.Rule.{Rule}
 use Rattle.image.specs.Held.{trie-in}
@@ -12,7 +11,6 @@ use Rattle.image.specs.Savable.{AllBytes}
 use Rattle.index_rule.proofs.Theorems.{check-image-is}
 use Rattle.index_memory.specs.Layout.{Header}
 use Rattle.index_memory.specs.Index.{Index, image-part, read-index}
-use Rattle.index_memory.specs.Record.{record-by, record-memory}
 use Rattle.finished_memory.proofs.Holds.{part-bytes, part-small}
 use Rattle.inspecting.specs.Held.{RightImage as Tested, ImageIn}
 use Rattle.inspecting.proofs.Facts.{same-part}
@@ -23,10 +21,6 @@ use Rattle.string_index.specs.Finish.{finish-by, finish-memory}
 use Rattle.string_index.proofs.Finding.{by-pieces}
 
 -- ── what a memory holds decides ──
-
-pub record-as : (m : List ℕ) (kind : ℕ) (b : Block) (i : Index) → read-index m ≡ i → record-by i m kind b ≡ record-memory m kind b
-unfolding record-memory
-record-as m kind b i e = ap (λ (x : Index). record-by x m kind b) (sym e)
 
 pub finish-as : (m : List ℕ) (i : Index) → read-index m ≡ i → finish-by i m ≡ finish-memory m
 unfolding finish-memory

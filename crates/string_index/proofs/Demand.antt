@@ -16,7 +16,7 @@ use Rattle.definitions.specs.Places.{places-counted}
 use Rattle.definitions.specs.Rows.{rows}
 use Rattle.definitions.specs.Runs.{RowsAreRuns, Consistent, Query, SameRows, SameHeld}
 use Rattle.definitions.specs.Causes.{Cause, number, query-too-long, scratch-too-small, too-many-rows, Check, first-cause}
-use Rattle.definitions.specs.Calls.{Capacity, Recorded, fresh, query-limit}
+use Rattle.definitions.specs.Calls.{Capacity, Recorded, fresh, query-limit, block-checks}
 use Rattle.definitions.specs.Recording.{Sound, after-all, taken}
 use Rattle.definitions.proofs.Chains.{SamePieces, rows-by-set}
 use Rattle.definitions.proofs.Cutting.{FromBlock, pieces-mem}
@@ -26,7 +26,7 @@ use Rattle.trie.specs.Build.{trie-of}
 use Rattle.trie.proofs.BuildRule.{SoundPiece}
 use Rattle.trie.proofs.BuildPieces.{trie-of-pieces}
 use Rattle.index_memory.specs.Index.{Index, opened, finished, read-index}
-use Rattle.index_memory.specs.Record.{open-memory, log-checks, appended}
+use Rattle.index_memory.specs.Record.{open-memory, appended}
 use Rattle.row_buffer.specs.Numbers.{row-numbers}
 use Rattle.finished_memory.specs.Finished.{finished-memory}
 use Rattle.string_index.specs.Finish.{Found, query-checks, found-or-refused, search-by, search-memory}
@@ -106,7 +106,7 @@ room-answers ps q scratch buffer h k l = rw (le-ltb query-limit (length q) h, le
 
 module _
     (opened-fresh : (m : List ℕ) (c : Capacity) → open-memory m c .refusal ≡ 0 → read-index (open-memory m c .memory) ≡ opened c [])
-    (read-appended : (c : Capacity) (m : List ℕ) (ps : List Piece) (b : Block) → read-index m ≡ opened c ps → first-cause (log-checks c ps b) ≡ none → Fits b → read-index (appended m c ps (pieces b)) ≡ opened c (ps ++ pieces b))
+    (read-appended : (c : Capacity) (m : List ℕ) (ps : List Piece) (b : Block) → read-index m ≡ opened c ps → first-cause (block-checks c ps b) ≡ none → Fits b → read-index (appended m c ps (pieces b)) ≡ opened c (ps ++ pieces b))
     (read-finished : (c : Capacity) (m : List ℕ) (s : Recorded) → Right c s → AllFit (s .blocks) → read-index m ≡ opened c (pieces-of (s .blocks)) → read-index (finished-memory m c (trie-of (pieces-of (s .blocks)))) ≡ finished c (trie-of (pieces-of (s .blocks)))) where
   -- after a recording the memory holds the trie of what was taken
   final-holds : (r : Recording) → read-index (final r) ≡ finished (r .capacity) (trie-of (pieces-of (taken-in r)))

@@ -4,29 +4,22 @@ use native.Mathlib.Omega.{arith}
 use mathlib.Core.Path.{_≡_, refl, sym, ap, _∙_, subst}
 use mathlib.Core.Bool.{Bool, true, false, cond}
 use mathlib.Core.Logic.{_⊎_, inl, inr}
-use mathlib.Core.List.{List, [], _∷_, _++_, append-nil, append-assoc, List·Memᴰ as Mem, List·Memᴰ·head as here, List·Memᴰ·tail as later, List·Memᴰ·eq-of-singleton as only-one, List·Memᴰ·append-cases as append-cases}
+use mathlib.Core.List.{List, [], _∷_, _++_, List·Memᴰ as Mem, List·Memᴰ·head as here, List·Memᴰ·tail as later, List·Memᴰ·eq-of-singleton as only-one, List·Memᴰ·append-cases as append-cases}
 use mathlib.Core.Option.{Option, none, some}
 use lib.Dec.{ltb, eqb}
 use Rattle.definitions.specs.Blocks.{Block, Piece, pieces, pieces-of, memory-kind, last-kind}
-use Rattle.definitions.specs.Causes.{Cause, number, record-after-finish, unknown-kind, Check, first-cause}
-use Rattle.definitions.specs.Calls.{Capacity, Recorded, added, memory-checks, record-answer, recorded, finished-now}
+use Rattle.definitions.specs.Causes.{Cause, record-after-finish, unknown-kind, first-cause}
+use Rattle.definitions.specs.Calls.{Capacity, Recorded, added, block-checks, record-answer, recorded, finished-now}
 use Rattle.definitions.specs.Calls as D
 use Rattle.definitions.specs.Recording.{Call, record-block, finish, search, after, after-all, taken}
+use Rattle.definitions.proofs.Cutting.{pieces-added}
 use Rattle.definitions.proofs.Taken.{Right, right-after}
 use Rattle.trie.specs.Build.{trie-of}
 use Rattle.index_memory.specs.Index.{Index, opened, finished, read-index}
-use Rattle.index_memory.specs.Record.{log-checks, appended, record-open, record-by, record-memory, unless-refused}
+use Rattle.index_memory.specs.Record.{appended, record-by, record-memory, unless-refused}
 use Rattle.finished_memory.specs.Finished.{finished-memory}
 use Rattle.string_index.specs.Finish.{finish-by, finish-memory}
 use Rattle.string_index.specs.Demand.{memory-after, memory-after-all, Fits, CallFits}
-
-pieces-snoc : (bs : List Block) (b : Block) → pieces-of (bs ++ (b ∷ [])) ≡ pieces-of bs ++ pieces b
-pieces-snoc [] b = append-nil (pieces b)
-pieces-snoc (x ∷ bs) b = ap (λ (ps : List Piece). pieces x ++ ps) (pieces-snoc bs b) ∙ sym (append-assoc (pieces x) (pieces-of bs) (pieces b))
-
--- the checks on a log are those on what was taken
-checks-same : (c : Capacity) (s : Recorded) (b : Block) → log-checks c (pieces-of (s .blocks)) b ≡ memory-checks c s b
-checks-same c s b = rw (pieces-snoc (s .blocks) b)
 
 -- what a memory holds after calls
 abbrev pub holds : Capacity → Recorded → Index
@@ -37,38 +30,35 @@ abbrev pub AllFit : List Block → Type 0
 AllFit bs = (b : Block) → Mem b bs → Fits b
 
 module _ (c : Capacity)
-    (read-appended : (m : List ℕ) (ps : List Piece) (b : Block) → read-index m ≡ opened c ps → first-cause (log-checks c ps b) ≡ none → Fits b → read-index (appended m c ps (pieces b)) ≡ opened c (ps ++ pieces b))
+    (read-appended : (m : List ℕ) (ps : List Piece) (b : Block) → read-index m ≡ opened c ps → first-cause (block-checks c ps b) ≡ none → Fits b → read-index (appended m c ps (pieces b)) ≡ opened c (ps ++ pieces b))
     (read-finished : (m : List ℕ) (s : Recorded) → Right c s → AllFit (s .blocks) → read-index m ≡ opened c (pieces-of (s .blocks)) → read-index (finished-memory m c (trie-of (pieces-of (s .blocks)))) ≡ finished c (trie-of (pieces-of (s .blocks)))) where
   -- a record call on an open index
-  follow-open : (m : List ℕ) (s : Recorded) (kind : ℕ) (b : Block) → Fits b → s .finished ≡ false → read-index m ≡ opened c (pieces-of (s .blocks)) → read-index (record-open m c (pieces-of (s .blocks)) kind b .memory) ≡ holds c (recorded c s kind b)
-  follow-open m s kind b f o e = go (s .finished) (ltb last-kind kind) (eqb kind memory-kind) o
+  follow-open : (m : List ℕ) (s : Recorded) (kind : ℕ) (b : Block) → Fits b → s .finished ≡ false → read-index m ≡ opened c (pieces-of (s .blocks)) → read-index (record-by (opened c (pieces-of (s .blocks))) m kind b .memory) ≡ holds c (recorded c s kind b)
+  follow-open m s kind b f o e = go (s .finished) (ltb last-kind kind) (eqb kind memory-kind) o (first-cause (block-checks c ps b)) refl
     where
+      ps : List Piece
+      ps = pieces-of (s .blocks)
+
       stay : read-index m ≡ holds c s
-      stay = e ∙ sym (ap (λ (x : Bool). cond x (finished c (trie-of (pieces-of (s .blocks)))) (opened c (pieces-of (s .blocks)))) o)
+      stay = e ∙ sym (ap (λ (x : Bool). cond x (finished c (trie-of ps)) (opened c ps)) o)
 
       new : Recorded
       new = record { blocks = added s b; finished = s .finished }
 
-      take : first-cause (log-checks c (pieces-of (s .blocks)) b) ≡ none → read-index (appended m c (pieces-of (s .blocks)) (pieces b)) ≡ holds c new
+      take : first-cause (block-checks c ps b) ≡ none → read-index (appended m c ps (pieces b)) ≡ holds c new
       take k =
-          read-appended m (pieces-of (s .blocks)) b e k f ∙ ap (opened c) (sym (pieces-snoc (s .blocks) b))
+          read-appended m ps b e k f ∙ ap (opened c) (sym (pieces-added (s .blocks) b))
           ∙ sym (ap (λ (x : Bool). cond x (finished c (trie-of (pieces-of (added s b)))) (opened c (pieces-of (added s b)))) o)
 
-      memory : (a : Option Cause) → first-cause (log-checks c (pieces-of (s .blocks)) b) ≡ a → read-index (unless-refused a m (appended m c (pieces-of (s .blocks)) (pieces b)) .memory) ≡ holds c (D.unless-refused a s new)
-      memory none k = take k
-      memory (some x) k = stay
-
-      as-taken : read-index (unless-refused (first-cause (log-checks c (pieces-of (s .blocks)) b)) m (appended m c (pieces-of (s .blocks)) (pieces b)) .memory) ≡ holds c (D.unless-refused (first-cause (memory-checks c s b)) s new)
-      as-taken = memory (first-cause (log-checks c (pieces-of (s .blocks)) b)) refl ∙ ap (λ (cs : List Check). holds c (D.unless-refused (first-cause cs) s new)) (checks-same c s b)
-
       -- the tests of both sides replaced by their answers
-      go : (o₀ o₁ o₂ : Bool) → o₀ ≡ false
-          → read-index (cond o₁ (record { refusal = number unknown-kind; memory = m }) (cond o₂ (unless-refused (first-cause (log-checks c (pieces-of (s .blocks)) b)) m (appended m c (pieces-of (s .blocks)) (pieces b))) (record { refusal = 0; memory = m })) .memory)
-          ≡ holds c (D.unless-refused (cond o₀ (some record-after-finish) (cond o₁ (some unknown-kind) (first-cause (cond o₂ (memory-checks c s b) [])))) s (cond o₂ new s))
-      go true o₁ o₂ k = absurd (let z : _≡_ {A = ℕ} 0 1 = cc in omega arith)
-      go false true o₂ k = stay
-      go false false true k = as-taken
-      go false false false k = stay
+      go : (o₀ o₁ o₂ : Bool) → o₀ ≡ false → (a : Option Cause) → first-cause (block-checks c ps b) ≡ a
+          → read-index (unless-refused (cond o₁ (some unknown-kind) (first-cause (cond o₂ (block-checks c ps b) []))) m (cond o₂ (appended m c ps (pieces b)) m) .memory)
+          ≡ holds c (D.unless-refused (cond o₀ (some record-after-finish) (cond o₁ (some unknown-kind) (first-cause (cond o₂ (block-checks c ps b) [])))) s (cond o₂ new s))
+      go true o₁ o₂ k a q = absurd (let z : _≡_ {A = ℕ} 0 1 = cc in omega arith)
+      go false true o₂ k a q = stay
+      go false false true k none q = rw q (take q)
+      go false false true k (some x) q = rw q stay
+      go false false false k a q = stay
 
   -- what is known between two calls
   pub record Follows (s : Recorded) (m : List ℕ) : Type 0 where
@@ -86,7 +76,7 @@ module _ (c : Capacity)
   refused-finished : (s : Recorded) (kind : ℕ) (b : Block) → s .finished ≡ true → recorded c s kind b ≡ s
   refused-finished s kind b e = go (s .finished) e
     where
-      go : (o : Bool) → o ≡ true → D.unless-refused (cond o (some record-after-finish) (first-cause (record { applies = ltb last-kind kind; cause = unknown-kind } ∷ cond (eqb kind memory-kind) (memory-checks c s b) []))) s (cond (eqb kind memory-kind) (record { blocks = added s b; finished = s .finished }) s) ≡ s
+      go : (o : Bool) → o ≡ true → D.unless-refused (cond o (some record-after-finish) (first-cause (record { applies = ltb last-kind kind; cause = unknown-kind } ∷ cond (eqb kind memory-kind) (block-checks c (pieces-of (s .blocks)) b) []))) s (cond (eqb kind memory-kind) (record { blocks = added s b; finished = s .finished }) s) ≡ s
       go true k = refl
       go false k = absurd (let z : _≡_ {A = ℕ} 0 1 = cc in omega arith)
 

@@ -7,3 +7,4 @@ pub mod Finding
 pub mod Searched
 pub mod HandsOver
 pub mod Calling
+pub mod Refused

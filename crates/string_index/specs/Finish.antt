@@ -8,21 +8,26 @@ use Rattle.definitions.specs.Location.{Location}
 use Rattle.definitions.specs.Blocks.{Piece}
 use Rattle.definitions.specs.Rows.{rows}
 use Rattle.definitions.specs.Causes.{Cause, number, index-rule-broken, before-finish, Check, first-cause}
+use Rattle.definitions.specs.Calls.{finish-checks}
 use Rattle.trie.specs.Trie.{trie-pieces}
 use Rattle.trie.specs.Build.{trie-of}
 use Rattle.image.specs.Image.{image}
 use Rattle.row_buffer.specs.Numbers.{row-numbers}
 use Rattle.finished_memory.specs.Finished.{finished-memory}
-use Rattle.index_memory.specs.Index.{Index, broken, opened, finished, read-index}
-use Rattle.index_memory.specs.Record.{Done}
+use Rattle.index_memory.specs.Index.{Index, broken, opened, finished, standing-of, read-index}
+use Rattle.index_memory.specs.Record.{Done, unless-refused}
 use Rattle.string_index.specs.Find.{room-checks}
 
 -- ── finish: the log becomes an image ──
 
+-- finishing again changes nothing
+abbrev pub finished-by : Index → List ℕ → List ℕ
+finished-by broken m = m
+finished-by (opened c ps) m = finished-memory m c (trie-of ps)
+finished-by (finished c t) m = m
+
 abbrev pub finish-by : Index → List ℕ → Done
-finish-by broken m = record { refusal = number index-rule-broken; memory = m }
-finish-by (finished c t) m = record { refusal = 0; memory = m }
-finish-by (opened c ps) m = record { refusal = 0; memory = finished-memory m c (trie-of ps) }
+finish-by i m = unless-refused (first-cause (finish-checks (standing-of i))) m (finished-by i m)
 
 unfoldable pub finish-memory : List ℕ → Done
 finish-memory m = finish-by (read-index m) m

@@ -8,13 +8,13 @@ use Rattle.index_memory.proofs.block_refusal.Statement.{statement}
 use Rattle.index_memory.proofs.block_refusal.Tie as tie
 
 returns : tie.Need-returns
-returns c = refused-4 (header-of (c .before .args .h)) (c .before .args .n) (plain (c .before .args .l)) (c .if1 .taken)
+returns c = refused-4 (header-of (c .before .args .h) .capacity) _ _ (c .before .args .n) (plain (c .before .args .l)) (c .if1 .taken)
 
 returns-2 : tie.Need-returns-2
 returns-2 c =
     let c₂ = c .before .before in
     let c₃ = c₂ .before in
-    refused-5 (header-of (c₃ .args .h)) (c₃ .args .n) (plain (c₃ .args .l)) (c₂ .if1 .left) (c .if2 .taken)
+    refused-5 (header-of (c₃ .args .h) .capacity) _ _ (c₃ .args .n) (plain (c₃ .args .l)) (c₂ .if1 .left) (c .if2 .taken)
 
 sub-if3 : tie.Need-sub-if3
 sub-if3 c = search needs
@@ -24,7 +24,7 @@ returns-3 c =
     let c₂ = c .before .before in
     let c₄ = c₂ .before .before in
     let c₅ = c₄ .before in
-    refused-6 (header-of (c₅ .args .h)) (c₅ .args .n) (plain (c₅ .args .l)) (c₄ .if1 .left) (c₂ .if2 .left) (omega arith)
+    refused-6 (header-of (c₅ .args .h) .capacity) _ _ (c₅ .args .n) (plain (c₅ .args .l)) (c₄ .if1 .left) (c₂ .if2 .left) (omega arith)
 
 block-nodes-requires : tie.Need-block-nodes-requires
 block-nodes-requires c κs = search needs
@@ -41,7 +41,7 @@ returns-4 c =
     let c₆ = c₃ .before .before .before in
     let c₈ = c₆ .before .before in
     let c₉ = c₈ .before in
-    refused-7 (header-of (c₉ .args .h)) (c₉ .args .n) (plain (c₉ .args .l)) (c₈ .if1 .left) (c₆ .if2 .left) (omega arith)
+    refused-7 (header-of (c₉ .args .h) .capacity) _ _ (c₉ .args .n) (plain (c₉ .args .l)) (c₈ .if1 .left) (c₆ .if2 .left) (omega arith)
     (omega (arith, c₉ .pre, c₃ .block-nodes .ensures))
 
 sub-if5 : tie.Need-sub-if5
@@ -54,7 +54,7 @@ returns-5 c =
     let c₈ = c₅ .before .before .before in
     let c₁₀ = c₈ .before .before in
     let c₁₁ = c₁₀ .before in
-    refused-8 (header-of (c₁₁ .args .h)) (c₁₁ .args .n) (plain (c₁₁ .args .l)) (c₁₀ .if1 .left) (c₈ .if2 .left) (omega arith)
+    refused-8 (header-of (c₁₁ .args .h) .capacity) _ _ (c₁₁ .args .n) (plain (c₁₁ .args .l)) (c₁₀ .if1 .left) (c₈ .if2 .left) (omega arith)
     (omega (arith, c₁₁ .pre, c₅ .block-nodes .ensures))
     (omega (arith, c₁₁ .pre, c₄ .entry-charge .ensures))
 
@@ -65,7 +65,7 @@ returns-6 c =
     let c₈ = c₅ .before .before .before in
     let c₁₀ = c₈ .before .before in
     let c₁₁ = c₁₀ .before in
-    not-refused (header-of (c₁₁ .args .h)) (c₁₁ .args .n) (plain (c₁₁ .args .l)) (c₁₀ .if1 .left) (c₈ .if2 .left) (omega arith)
+    not-refused (header-of (c₁₁ .args .h) .capacity) _ _ (c₁₁ .args .n) (plain (c₁₁ .args .l)) (c₁₀ .if1 .left) (c₈ .if2 .left) (omega arith)
     (omega (arith, c₁₁ .pre, c₅ .block-nodes .ensures))
     (omega (arith, c₁₁ .pre, c₄ .entry-charge .ensures))
 

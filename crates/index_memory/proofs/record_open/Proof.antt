@@ -5,7 +5,6 @@ use denote.Ref.{now}
 use Rattle.definitions.specs.Blocks.{Block}
 use Rattle.location.specs.Plain.{plain}
 use Rattle.index_memory.specs.Answers.{header-of, recorded-as}
-use Rattle.index_memory.specs.Layout.{log-in}
 use Rattle.index_memory.proofs.Outcome.{refused-as, kind-unknown, kind-other, tally-within, refused-by, fitting, taken-by}
 use Rattle.index_memory.proofs.record_open.Statement.{statement}
 use Rattle.index_memory.proofs.record_open.Tie as tie
@@ -19,7 +18,8 @@ returns c =
     let m = now (a .mem) in
     let h = header-of (a .h) in
     let b : Block = record { bytes = now (a .«data»); at = plain (a .l) } in
-    let f = kind-unknown m (h .capacity) (log-in m (h .payload) 64) (a .kind) b (c .if1 .taken) in
+    let p = c .before .before .before .pre in
+    let f = kind-unknown m h (p .0) (p .1) (a .kind) b (c .if1 .taken) in
     (ap recorded-as (f .0), f .1)
 
 cast-if2 : tie.Need-cast-if2
@@ -31,7 +31,8 @@ returns-2 c =
     let m = now (a .mem) in
     let h = header-of (a .h) in
     let b : Block = record { bytes = now (a .«data»); at = plain (a .l) } in
-    let f = kind-other m (h .capacity) (log-in m (h .payload) 64) (a .kind) b (c .before .if1 .left) (c .if2 .taken) in
+    let p = c .before .before .before .before .pre in
+    let f = kind-other m h (p .0) (p .1) (a .kind) b (c .before .if1 .left) (c .if2 .taken) in
     (ap recorded-as (f .0), f .1)
 
 block-refusal-requires : tie.Need-block-refusal-requires

@@ -1,5 +1,4 @@
 -- `saving::load_into` meets its contract: the image's own refusal, or what its tally decides. Assumes nothing.
-use native.Mathlib.Omega.{arith}
 use mathlib.Core.Path.{sym, ap, _∙_}
 use borrow.Author.Needs.{needs}
 use denote.Ref.{now}
@@ -7,8 +6,8 @@ use Rattle.image.specs.Answers.{layout-of}
 use Rattle.index_memory.specs.Answers.{header-of}
 use Rattle.index_memory.specs.Record.{Done}
 use Rattle.saving.specs.Answers.{loaded-as}
-use Rattle.saving.proofs.Laws.{refused-as, by-check}
-use Rattle.saving.proofs.Theorems.{image-refusal}
+use Rattle.saving.proofs.Laws.{refused-as, fault-over, load-as}
+use Rattle.saving.proofs.Theorems.{image-refusal, fault-some}
 use Rattle.saving.proofs.load_into.Statement.{statement}
 use Rattle.saving.proofs.load_into.Tie as tie
 
@@ -31,24 +30,19 @@ returns : tie.Need-returns
 returns c =
     let c₁ = c .before in
     let c₃ = c₁ .before .before in
-    let a = c₃ .before .before .before .args in
+    let start = c₃ .before .before .before in
+    let a = start .args in
     let n = c₁ .n .given .0 .0 in
-    let x = ap layout-of (sym (c₁ .n .given .1)) ∙ c₃ .check .ensures in
-    let e = by-check (header-of (a .h) .capacity) (now (a .mem)) (now (a .s)) _ x in
-    let k = image-refusal (now (a .s)) n (sym x) in
-    (refused-as n (λ z. omega (arith, k .0, z)) ∙ ap (λ (d : Done). loaded-as (d .refusal)) e, ap (λ (d : Done). d .memory) e)
+    let x = sym (ap layout-of (sym (c₁ .n .given .1)) ∙ c₃ .check .ensures) in
+    let k = image-refusal (now (a .s)) n x in
+    let e = fault-over (header-of (a .h) .capacity) (now (a .mem)) (now (a .s)) n k ∙ load-as (now (a .mem)) (now (a .s)) _ _ (start .pre) x in
+    (refused-as n (fault-some k) ∙ ap (λ (d : Done). loaded-as (d .refusal)) e, ap (λ (d : Done). d .memory) e)
 
 same-length : tie.Need-same-length
 same-length c = search needs
 
 returns-2 : tie.Need-returns-2
-returns-2 c =
-    let r = c .before .before .load-right in
-    let c₅ = c .before .before .before .before .before in
-    let c₇ = c₅ .before .before in
-    let a = c₇ .before .before .before .args in
-    let e = by-check (header-of (a .h) .capacity) (now (a .mem)) (now (a .s)) _ (ap layout-of (sym (c₅ .t .given .1)) ∙ c₇ .check .ensures) in
-    (r .ensures .0 ∙ ap (λ (d : Done). loaded-as (d .refusal)) e, r .ensures .1 ∙ ap (λ (d : Done). d .memory) e)
+returns-2 c = c .before .before .load-right .ensures
 
 pub load-into-spec : {M : Type 1} → statement M
 load-into-spec =

@@ -7,22 +7,25 @@ use borrow.Author.Needs.{needs}
 use denote.Ref.{now}
 use Rattle.index_memory.specs.Answers.{header-of}
 use Rattle.index_memory.specs.Record.{Done}
+use Rattle.finished_memory.proofs.Holds.{room-of}
 use Rattle.saving.specs.Answers.{loaded-as}
-use Rattle.saving.proofs.Laws.{nodes-over, entries-over, room, closable, loaded}
+use Rattle.saving.proofs.Laws.{load-as, nodes-over, entries-over, room, closable, loaded}
 use Rattle.saving.proofs.load_right.Statement.{statement}
 use Rattle.saving.proofs.load_right.Tie as tie
 
 returns : tie.Need-returns
 returns c =
-    let a = c .before .before .before .before .before .args in
-    let e = nodes-over (header-of (a .h) .capacity) (now (a .mem)) (now (a .s)) (a .t .nodes) (a .t .entries) (c .if1 .taken) in
+    let start = c .before .before .before .before .before in
+    let a = start .args in
+    let e = nodes-over (header-of (a .h) .capacity) (now (a .mem)) (now (a .s)) (a .t .nodes) (a .t .entries) (c .if1 .taken) ∙ load-as (now (a .mem)) (now (a .s)) _ _ (start .pre .0) (start .pre .1) in
     (ap (λ (d : Done). loaded-as (d .refusal)) e, ap (λ (d : Done). d .memory) e)
 
 returns-2 : tie.Need-returns-2
 returns-2 c =
     let c₃ = c .before .before .before in
-    let a = c₃ .before .before .before .before .before .args in
-    let e = entries-over (header-of (a .h) .capacity) (now (a .mem)) (now (a .s)) (a .t .nodes) (a .t .entries) (c₃ .if1 .left) (c .if2 .taken) in
+    let start = c₃ .before .before .before .before .before in
+    let a = start .args in
+    let e = entries-over (header-of (a .h) .capacity) (now (a .mem)) (now (a .s)) (a .t .nodes) (a .t .entries) (c₃ .if1 .left) (c .if2 .taken) ∙ load-as (now (a .mem)) (now (a .s)) _ _ (start .pre .0) (start .pre .1) in
     (ap (λ (d : Done). loaded-as (d .refusal)) e, ap (λ (d : Done). d .memory) e)
 
 copy-requires : tie.Need-copy-requires
@@ -33,7 +36,7 @@ copy-requires c κs =
     let start = c₇ .before .before in
     let a = start .args in (
       omega arith,
-      room (header-of (a .h) .capacity) (now (a .mem)) (now (a .s)) (a .t .nodes) (a .t .entries) (start .pre .0) (λ j. omega (arith, c₇ .shared-slice-known .given j)) (omega arith) (start .pre .1) (c₄ .if1 .left) (c₁ .if2 .left),
+      room (header-of (a .h) .capacity) (now (a .mem)) (now (a .s)) (a .t .nodes) (a .t .entries) (room-of (now (a .mem)) _ (start .pre .0)) (λ j. omega (arith, c₇ .shared-slice-known .given j)) (omega arith) (start .pre .1) (c₄ .if1 .left) (c₁ .if2 .left),
     )
 
 closed-requires : tie.Need-closed-requires
@@ -48,7 +51,7 @@ put-finished-requires c κs =
     let c₁₂ = c₉ .before .before .before in
     let start = c₁₂ .before .before in
     let a = start .args in
-    closable (header-of (a .h) .capacity) (now (a .mem)) (now (a .s)) (a .t .nodes) (a .t .entries) (start .pre .0) (λ j. omega (arith, c₁₂ .shared-slice-known .given j)) (omega (arith, start .good .1 .1 .1 .0)) (start .pre .1) (c₉ .if1 .left) (c₆ .if2 .left)
+    closable (header-of (a .h) .capacity) (now (a .mem)) (now (a .s)) (a .t .nodes) (a .t .entries) (room-of (now (a .mem)) _ (start .pre .0)) (λ j. omega (arith, c₁₂ .shared-slice-known .given j)) (omega (arith, start .good .1 .1 .1 .0)) (start .pre .1) (c₉ .if1 .left) (c₆ .if2 .left)
     (header-of (k .result)) (ap header-of (k .ensures)) _ (ap length (c₄ .copy .ensures) ∙ simp length-sets)
 
 same-length : tie.Need-same-length
@@ -66,8 +69,9 @@ returns-3 c =
     let start = c₁₅ .before .before in
     let a = start .args in
     let e =
-    loaded (header-of (a .h) .capacity) (now (a .mem)) (now (a .s)) (a .t .nodes) (a .t .entries) (start .pre .0) (λ j. omega (arith, c₁₅ .shared-slice-known .given j)) (omega (arith, start .good .1 .1 .1 .0)) (start .pre .1) (c₁₂ .if1 .left) (c₉ .if2 .left)
-    (header-of (k .result)) (ap header-of (k .ensures)) (c₇ .copy .last .1 .1 .0) (w .last .0) (c₇ .copy .ensures) (w .ensures) in
+    loaded (header-of (a .h) .capacity) (now (a .mem)) (now (a .s)) (a .t .nodes) (a .t .entries) (room-of (now (a .mem)) _ (start .pre .0)) (λ j. omega (arith, c₁₅ .shared-slice-known .given j)) (omega (arith, start .good .1 .1 .1 .0)) (start .pre .1) (c₁₂ .if1 .left) (c₉ .if2 .left)
+    (header-of (k .result)) (ap header-of (k .ensures)) (c₇ .copy .last .1 .1 .0) (w .last .0) (c₇ .copy .ensures) (w .ensures)
+    ∙ load-as (now (a .mem)) (now (a .s)) _ _ (start .pre .0) (start .pre .1) in
     (ap (λ (d : Done). loaded-as (d .refusal)) e, ap (λ (d : Done). d .memory) e)
 
 pub load-right-spec : {M : Type 1} → statement M

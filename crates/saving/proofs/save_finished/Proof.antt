@@ -27,7 +27,7 @@ returns c =
     let c₄ = c .before .before .before .before in
     let start = c₄ .before in
     let a = start .args in
-    let e = too-short _ _ (now (a .out)) (cut-is (now (a .mem)) (header-of (a .h)) (λ j. omega (arith, c₄ .shared-slice-known .given j)) (omega arith) (start .pre)) (c .if1 .taken) in
+    let e = too-short (now (a .mem)) _ (now (a .out)) _ _ (start .pre .1) (cut-is (now (a .mem)) (header-of (a .h)) (λ j. omega (arith, c₄ .shared-slice-known .given j)) (omega arith) (start .pre .0)) (c .if1 .taken) in
     (ap (λ (f : Saving). saved-as (f .refusal) (f .size)) e, ap (λ (f : Saving). f .buffer) e)
 
 copy-requires : tie.Need-copy-requires
@@ -43,7 +43,7 @@ returns-2 c =
     let start = c₈ .before in
     let a = start .args in
     let r = c .before .before .copy in
-    let e = saved _ _ (now (a .out)) (cut-is (now (a .mem)) (header-of (a .h)) (λ j. omega (arith, c₈ .shared-slice-known .given j)) (omega arith) (start .pre)) (c₄ .if1 .left) (r .last .1 .1 .0) (r .ensures) in
+    let e = saved (now (a .mem)) _ (now (a .out)) _ _ (start .pre .1) (cut-is (now (a .mem)) (header-of (a .h)) (λ j. omega (arith, c₈ .shared-slice-known .given j)) (omega arith) (start .pre .0)) (c₄ .if1 .left) (r .last .1 .1 .0) (r .ensures) in
     (ap (λ (f : Saving). saved-as (f .refusal) (f .size)) e, ap (λ (f : Saving). f .buffer) e)
 
 pub save-finished-spec : {M : Type 1} → statement M

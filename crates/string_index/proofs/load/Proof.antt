@@ -1,13 +1,12 @@
 -- `string_index::load` meets its contract: an open index and a finished one are replaced alike. Assumes nothing.
-use mathlib.Core.Path.{ap, _∙_, subst}
+use mathlib.Core.Path.{ap, subst}
 use borrow.Author.Needs.{needs}
 use denote.Ref.{now}
 use Rattle.index_memory.specs.Record.{Done}
 use Rattle.inspecting.specs.Held.{Inspects}
 use Rattle.finished_memory.specs.Room.{capacity-of}
-use Rattle.finished_memory.proofs.Holds.{room-of}
 use Rattle.saving.specs.Answers.{loaded-as}
-use Rattle.saving.proofs.Theorems.{load-as}
+use Rattle.saving.proofs.Laws.{load-broken}
 use Rattle.string_index.proofs.load.Statement.{statement}
 use Rattle.string_index.proofs.load.Tie as tie
 
@@ -26,7 +25,7 @@ load-into-requires c κs =
     let c₄ = c₂ .before .before in
     let a = c₄ .before .before .before .before .args in
     let w = subst (Inspects (now (a .mem))) (c₂ .h .given .1) (c₄ .inspect .ensures) in
-    room-of (now (a .mem)) _ (ap capacity-of (w .holds))
+    ap capacity-of (w .holds)
 
 enum-known-h-2 : tie.Need-enum-known-h-2
 enum-known-h-2 c = search needs
@@ -37,7 +36,7 @@ load-into-requires-2 c κs =
     let c₄ = c₂ .before .before in
     let a = c₄ .before .before .before .before .args in
     let w = subst (Inspects (now (a .mem))) (c₂ .h2 .given .1) (c₄ .inspect .ensures) in
-    room-of (now (a .mem)) _ (ap capacity-of (w .holds))
+    ap capacity-of (w .holds)
 
 same-length : tie.Need-same-length
 same-length c = search needs
@@ -47,7 +46,7 @@ returns c =
     let c₂ = c .before .before in
     let a = c₂ .before .before .before .before .args in
     let w = subst (Inspects (now (a .mem))) (c .enum-told .given .1) (c₂ .inspect .ensures) in
-    let e = load-as (now (a .mem)) (now (a .image)) _ (w .holds) in
+    let e = load-broken (now (a .mem)) (now (a .image)) (w .holds) in
     (ap (λ (d : Done). loaded-as (d .refusal)) e, ap (λ (d : Done). d .memory) e)
 
 same-length-2 : tie.Need-same-length-2
@@ -56,12 +55,7 @@ same-length-2 c = search needs
 returns-2 : tie.Need-returns-2
 returns-2 c =
     let r = c .before .before .load-into in
-    let c₅ = c .before .before .before .before .before in
-    let c₇ = c₅ .before .before in
-    let a = c₇ .before .before .before .before .args in
-    let w = subst (Inspects (now (a .mem))) (c₅ .h .given .1) (c₇ .inspect .ensures) in
-    let e = load-as (now (a .mem)) (now (a .image)) _ (w .holds) in
-    (r .ensures .0 ∙ ap (λ (d : Done). loaded-as (d .refusal)) e, r .ensures .1 ∙ ap (λ (d : Done). d .memory) e)
+    (r .ensures .0, r .ensures .1)
 
 same-length-3 : tie.Need-same-length-3
 same-length-3 c = search needs
@@ -69,12 +63,7 @@ same-length-3 c = search needs
 returns-3 : tie.Need-returns-3
 returns-3 c =
     let r = c .before .before .load-into2 in
-    let c₅ = c .before .before .before .before .before in
-    let c₇ = c₅ .before .before in
-    let a = c₇ .before .before .before .before .args in
-    let w = subst (Inspects (now (a .mem))) (c₅ .h2 .given .1) (c₇ .inspect .ensures) in
-    let e = load-as (now (a .mem)) (now (a .image)) _ (w .holds) in
-    (r .ensures .0 ∙ ap (λ (d : Done). loaded-as (d .refusal)) e, r .ensures .1 ∙ ap (λ (d : Done). d .memory) e)
+    (r .ensures .0, r .ensures .1)
 
 pub load-spec : {M : Type 1} → statement M
 load-spec =

@@ -1,12 +1,12 @@
 -- `string_index::record` meets its contract: what the memory holds decides. Assumes nothing.
-use mathlib.Core.Path.{sym, ap, _∙_, subst}
+use mathlib.Core.Path.{ap, subst}
 use borrow.Author.Needs.{needs}
 use denote.Ref.{now}
 use Rattle.location.specs.Plain.{plain}
 use Rattle.index_memory.specs.Record.{Done}
 use Rattle.index_memory.specs.Answers.{recorded-as}
+use Rattle.index_memory.proofs.Outcome.{record-as}
 use Rattle.inspecting.specs.Held.{Inspects}
-use Rattle.string_index.proofs.Calling.{record-as}
 use Rattle.string_index.proofs.record.Statement.{statement}
 use Rattle.string_index.proofs.record.Tie as tie
 
@@ -46,12 +46,7 @@ same-length-2 c = search needs
 returns-2 : tie.Need-returns-2
 returns-2 c =
     let r = c .before .before .record-open in
-    let c₅ = c .before .before .before .before .before in
-    let c₇ = c₅ .before .before in
-    let a = c₇ .before .before .before .before .args in
-    let w = subst (Inspects (now (a .mem))) (c₅ .h .given .1) (c₇ .inspect .ensures) in
-    let e = record-as (now (a .mem)) (a .kind) (record { bytes = now (a .«data»); at = plain (a .l) }) _ (w .holds) in
-    (r .ensures .0 ∙ ap (λ (d : Done). recorded-as (d .refusal)) e, r .ensures .1 ∙ ap (λ (d : Done). d .memory) e)
+    (r .ensures .0, r .ensures .1)
 
 same-length-3 : tie.Need-same-length-3
 same-length-3 c = search needs

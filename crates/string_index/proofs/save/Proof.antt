@@ -1,11 +1,11 @@
 -- `string_index::save` meets its contract: what the memory holds decides. Assumes nothing.
-use mathlib.Core.Path.{ap, _∙_, subst}
+use mathlib.Core.Path.{ap, subst}
 use borrow.Author.Needs.{needs}
 use denote.Ref.{now}
 use Rattle.inspecting.specs.Held.{Inspects}
 use Rattle.saving.specs.Saving.{Saving}
 use Rattle.saving.specs.Answers.{saved-as}
-use Rattle.saving.proofs.Theorems.{save-as}
+use Rattle.saving.proofs.Laws.{save-as}
 use Rattle.string_index.proofs.save.Statement.{statement}
 use Rattle.string_index.proofs.save.Tie as tie
 
@@ -27,7 +27,7 @@ save-finished-requires c κs =
     let c₄ = c₂ .before .before in
     let a = c₄ .before .before .before .args in
     let w = subst (Inspects (now (a .mem))) (c₂ .h .given .1) (c₄ .inspect .ensures) in
-    w .told
+    (w .told, w .holds)
 
 returns : tie.Need-returns
 returns c =
@@ -51,12 +51,7 @@ same-length c = search needs
 returns-3 : tie.Need-returns-3
 returns-3 c =
     let r = c .before .before .save-finished in
-    let c₅ = c .before .before .before .before .before in
-    let c₇ = c₅ .before .before in
-    let a = c₇ .before .before .before .args in
-    let w = subst (Inspects (now (a .mem))) (c₅ .h .given .1) (c₇ .inspect .ensures) in
-    let e = save-as (now (a .mem)) (now (a .out)) _ (w .holds) in
-    (r .ensures .0 ∙ ap (λ (f : Saving). saved-as (f .refusal) (f .size)) e, r .ensures .1 ∙ ap (λ (f : Saving). f .buffer) e)
+    (r .ensures .0, r .ensures .1)
 
 pub save-spec : {M : Type 1} → statement M
 save-spec =

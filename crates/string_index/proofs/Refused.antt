@@ -1,0 +1,52 @@
+-- A call that is refused leaves all as it was. Assumes nothing.
+use Prim.Native.Nat.{ℕ}
+use mathlib.Core.Path.{_≡_, refl}
+use mathlib.Core.Bool.{cond}
+use mathlib.Core.List.{List}
+use mathlib.Core.Option.{Option, none, some}
+use lib.ListN.{length}
+use lib.Seq.{sets}
+use lib.Dec.{eqb}
+use Rattle.definitions.specs.Location.{Location}
+use Rattle.definitions.specs.Blocks.{Block, pieces, memory-kind}
+use Rattle.definitions.specs.Rows.{rows}
+use Rattle.definitions.specs.Causes.{Cause, first-cause}
+use Rattle.definitions.specs.Calls.{Capacity, open-checks, record-checks, finish-checks}
+use Rattle.trie.specs.Trie.{trie-pieces}
+use Rattle.index_memory.specs.Layout.{header-bytes}
+use Rattle.index_memory.specs.Index.{Index, broken, opened, finished, standing-of, read-index}
+use Rattle.index_memory.specs.Record.{fresh-header, open-memory, appended, record-memory}
+use Rattle.index_memory.proofs.Opening.{refused-leaves}
+use Rattle.saving.proofs.Theorems.{save-leaves, load-leaves}
+use Rattle.string_index.specs.Finish.{finished-by, finish-memory, query-checks, found-or-refused, search-by, search-memory}
+use Rattle.string_index.specs.Promises.{RefusedLeaves}
+
+open-leaves : (m : List ℕ) (c : Capacity) → (open-memory m c .refusal ≡ 0 → ⊥) → open-memory m c .memory ≡ m
+unfolding open-memory
+open-leaves m c = refused-leaves (first-cause (open-checks c (length m))) m (sets m 0 (header-bytes (fresh-header c)))
+
+record-leaves : (m : List ℕ) (kind : ℕ) (b : Block) → (record-memory m kind b .refusal ≡ 0 → ⊥) → record-memory m kind b .memory ≡ m
+unfolding record-memory
+record-leaves m kind b =
+    refused-leaves (first-cause (record-checks (standing-of (read-index m)) kind b)) m
+    (cond (eqb kind memory-kind) (appended m (standing-of (read-index m) .capacity) (standing-of (read-index m) .pieces) (pieces b)) m)
+
+finish-leaves : (m : List ℕ) → (finish-memory m .refusal ≡ 0 → ⊥) → finish-memory m .memory ≡ m
+unfolding finish-memory
+finish-leaves m = refused-leaves (first-cause (finish-checks (standing-of (read-index m)))) m (finished-by (read-index m) m)
+
+found-leaves : (o : Option Cause) (rs : List Location) (buffer : List ℕ) → (found-or-refused o rs buffer .refusal ≡ 0 → ⊥) → found-or-refused o rs buffer .buffer ≡ buffer
+found-leaves none rs buffer f = absurd (f refl)
+found-leaves (some c) rs buffer f = refl
+
+search-leaves : (m q : List ℕ) (scratch : ℕ) (buffer : List ℕ) → (search-memory m q scratch buffer .refusal ≡ 0 → ⊥) → search-memory m q scratch buffer .buffer ≡ buffer
+unfolding search-memory
+search-leaves m q scratch buffer = by (read-index m)
+  where
+    by : (i : Index) → (search-by i q scratch buffer .refusal ≡ 0 → ⊥) → search-by i q scratch buffer .buffer ≡ buffer
+    by broken f = refl
+    by (opened c ps) f = refl
+    by (finished c t) f = found-leaves (first-cause (query-checks (trie-pieces t) q scratch (length buffer))) (rows (trie-pieces t) q) buffer f
+
+pub all-leave : RefusedLeaves
+all-leave = record { open-leaves = open-leaves; record-leaves = record-leaves; finish-leaves = finish-leaves; search-leaves = search-leaves; save-leaves = save-leaves; load-leaves = load-leaves }

@@ -1,0 +1,18 @@
+-- What every call promises where it is refused. Assumes nothing.
+use Prim.Native.Nat.{ℕ}
+use mathlib.Core.Path.{_≡_}
+use mathlib.Core.List.{List}
+use Rattle.definitions.specs.Blocks.{Block}
+use Rattle.definitions.specs.Calls.{Capacity}
+use Rattle.index_memory.specs.Record.{open-memory, record-memory}
+use Rattle.saving.specs.Saving.{save-memory, load-memory}
+use Rattle.string_index.specs.Finish.{finish-memory, search-memory}
+
+-- a call that is refused leaves the lent memory, the row buffer and the save buffer as they were
+pub record RefusedLeaves : Type 0 where
+  pub open-leaves : (m : List ℕ) (c : Capacity) → (open-memory m c .refusal ≡ 0 → ⊥) → open-memory m c .memory ≡ m
+  pub record-leaves : (m : List ℕ) (kind : ℕ) (b : Block) → (record-memory m kind b .refusal ≡ 0 → ⊥) → record-memory m kind b .memory ≡ m
+  pub finish-leaves : (m : List ℕ) → (finish-memory m .refusal ≡ 0 → ⊥) → finish-memory m .memory ≡ m
+  pub search-leaves : (m q : List ℕ) (scratch : ℕ) (buffer : List ℕ) → (search-memory m q scratch buffer .refusal ≡ 0 → ⊥) → search-memory m q scratch buffer .buffer ≡ buffer
+  pub save-leaves : (m buffer : List ℕ) → (save-memory m buffer .refusal ≡ 0 → ⊥) → save-memory m buffer .buffer ≡ buffer
+  pub load-leaves : (m s : List ℕ) → (load-memory m s .refusal ≡ 0 → ⊥) → load-memory m s .memory ≡ m
