@@ -21,3 +21,5 @@ pub mod Theorems
 pub mod RunLaws
 pub mod LoneLaws
 pub mod SingleLaws
+-- reading ahead
+pub mod AheadLaws

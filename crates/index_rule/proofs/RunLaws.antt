@@ -3,9 +3,9 @@ use Prim.Native.Nat.{ℕ, suc, _+_, _*_, _-_, _≤_, _<_}
 use native.Mathlib.Omega.{arith}
 use native.Mathlib.Numerals.{add-one}
 use mathlib.Core.Path.{_≡_, refl, sym, ap, subst, _∙_}
-use mathlib.Core.Bool.{Bool, true, false, _&&_}
+use mathlib.Core.Bool.{Bool, true, false, cond, _&&_}
 use mathlib.Core.List.{List, [], _∷_, _++_, append-nil}
-use mathlib.Core.Option.{some}
+use mathlib.Core.Option.{Option, none, some}
 use lib.ListN.{length, getD}
 use lib.Dec.{eqb}
 use borrow.Author.Tests.{eq-eqb, eqb-true, ne-eqb}
@@ -23,7 +23,7 @@ use Rattle.image_walk.specs.declared.Node.{Node as Parts}
 use Rattle.image_walk.proofs.Parts.{parts-are, room-last}
 use Rattle.index_rule.specs.Parts.{TableOf, PartsOf, HasTable}
 use Rattle.index_rule.specs.Says.{children-right, ChildLists, with-two}
-use Rattle.index_rule.specs.Runs.{BareAt, LoneTable, Bare, Thin, Down, RunAt, RunTo, SaysNone, LeafParts, LeafSays}
+use Rattle.index_rule.specs.Runs.{BareAt, LoneTable, Bare, Thin, byte-behind, Down, RunAt, RunTo, SaysNone, LeafParts, LeafSays}
 use Rattle.index_rule.proofs.Tables.{Next, slot-taken, slots-end}
 use Rattle.index_rule.proofs.Parts.{parts-of}
 use Rattle.index_rule.proofs.Children.{next-laid}
@@ -139,14 +139,40 @@ goes-down s table other t o e f q r z x y d c g h m n =
     never : {v : ℕ} {w : Forest} → (w ≡ leaf → v ≡ 0) → v ≡ 1 → w ≡ leaf → ⊥
     never i j l = let u = i l in omega arith
 
--- the same where the children stand at indices that are known
-pub laid-due : (s : List ℕ) (table : ℕ) (e : Entry) → some e ≡ slot-in s table 1 0 → HasTable s table 1 → (due : ℕ) → e .node ≡ due → Laid s due
-laid-due s table e q h due z = subst (Laid s) z (only-laid s table e q h)
+pub behind-none : (o : Option Entry) (due : ℕ) → none ≡ o → 256 ≡ byte-behind o due
+behind-none o due q = ap (λ (p : Option Entry). byte-behind p due) q
 
-pub goes-due : (s : List ℕ) (table other t o : ℕ) (e f : Entry) → some e ≡ slot-in s table 1 0 → some f ≡ slot-in s other 1 0 → e .byte ≡ f .byte → (due front-due : ℕ) → e .node ≡ due → f .node ≡ front-due →
-    Thin (parts-at s due) t → Bare (parts-at s front-due) o → Down s table other t o
-goes-due s table other t o e f q r z due front-due i j x y =
-    goes-down s table other t o e f q r z (subst (λ (k : ℕ). Thin (parts-at s k) t) (sym i) x) (subst (λ (k : ℕ). Bare (parts-at s k) o) (sym j) y)
+pub behind-other : (o : Option Entry) (e : Entry) (due : ℕ) → some e ≡ o → (e .node ≡ due → ⊥) → 256 ≡ byte-behind o due
+behind-other o e due q n =
+    let z : cond (eqb (e .node) due) (e .byte) 256 ≡ 256 = rw (ne-eqb (e .node) due n) refl in
+    sym z ∙ ap (λ (p : Option Entry). byte-behind p due) q
+
+pub behind-here : (o : Option Entry) (e : Entry) (due : ℕ) → some e ≡ o → e .node ≡ due → e .byte ≡ byte-behind o due
+behind-here o e due q n =
+    let z : cond (eqb (e .node) due) (e .byte) 256 ≡ e .byte = rw (eq-eqb (e .node) due n) refl in
+    sym z ∙ ap (λ (p : Option Entry). byte-behind p due) q
+
+-- a byte of an entry whose node stands there is that of the entry
+behind-is : (o : Option Entry) (due r : ℕ) → r ≡ byte-behind o due → (r ≡ 256 → ⊥) → some (record { byte = r; node = due }) ≡ o
+behind-is none due r e n = absurd (n e)
+behind-is (some x) due r e n = go (eqb (x .node) due) (eq (x .node) due) e
+  where
+    go : (t : Bool) → Eq t (x .node) due → r ≡ cond t (x .byte) 256 → some (record { byte = r; node = due }) ≡ some x
+    go true z f = ap some (λ i. record { byte = f i; node = sym z i })
+    go false z f = absurd (n f)
+
+-- the same where the children stand right behind their tables
+module _ (s : List ℕ) (table b : ℕ) (e : b ≡ byte-behind (slot-in s table 1 0) (table + 10)) (n : b ≡ 256 → ⊥) where
+  pub behind : some (record { byte = b; node = table + 10 }) ≡ slot-in s table 1 0
+  behind = behind-is (slot-in s table 1 0) (table + 10) b e n
+
+  pub laid-behind : HasTable s table 1 → Laid s (table + 10)
+  laid-behind = only-laid s table (record { byte = b; node = table + 10 }) behind
+
+pub goes-behind : (s : List ℕ) (table other t o b c : ℕ) → b ≡ byte-behind (slot-in s table 1 0) (table + 10) → (b ≡ 256 → ⊥) → c ≡ byte-behind (slot-in s other 1 0) (other + 10) → c ≡ b →
+    Thin (parts-at s (table + 10)) t → Bare (parts-at s (other + 10)) o → Down s table other t o
+goes-behind s table other t o b c e n f z =
+    goes-down s table other t o (record { byte = b; node = table + 10 }) (record { byte = c; node = other + 10 }) (behind s table b e n) (behind s other c f (λ y. n (sym z ∙ y))) (sym z)
 
 -- an entry of a table ends within the image
 pub table-room : (s : List ℕ) (table : ℕ) → HasTable s table 1 → table + 9 ≤ length s

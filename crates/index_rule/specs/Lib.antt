@@ -1,7 +1,8 @@
--- `Parts` is a node in place, `Masks` the masks of their tables, `Fronts` the stack of fronts, `Says` what the functions say of each other, `Marks` the bytes of a table, `Runs` and `Singles` the nodes that they step over at once, `Check` the whole check of an image, `Promises` what a reader may conclude.
+-- `Parts` is a node in place, `Masks` the masks of their tables, `Fronts` the stack of fronts, `Ahead` what is read ahead, `Says` what the functions say of each other, `Marks` the bytes of a table, `Runs` and `Singles` the nodes that they step over at once, `Check` the whole check of an image, `Promises` what a reader may conclude.
 pub mod Parts
 pub mod Masks
 pub mod Fronts
+pub mod Ahead
 pub mod Says
 pub mod Marks
 pub mod Runs

@@ -1,12 +1,15 @@
 -- Runs of nodes that have one child and no location, each with one front that has one child and neither chunk nor prefix. Assumes nothing.
 use Prim.Native.Nat.{ℕ, _+_, _*_, _-_, _≤_}
 use mathlib.Core.Path.{_≡_}
-use mathlib.Core.Bool.{Bool, true, false, _&&_}
+use mathlib.Core.Bool.{Bool, true, false, cond, _&&_}
 use mathlib.Core.List.{List, [], _∷_}
+use mathlib.Core.Option.{Option, none, some}
+use lib.Dec.{eqb}
 use lib.ListN.{getD}
 use Rattle.words.specs.Words.{le64}
 use Rattle.trie.specs.Trie.{Lists, Forest, leaf, more, Node}
 use Rattle.trie.specs.Test.{all-ended, child-lists}
+use Rattle.image.specs.Held.{Entry}
 use Rattle.image_walk.specs.declared.Node.{Node as Parts}
 use Rattle.index_rule.specs.Parts.{TableOf}
 use Rattle.index_rule.specs.Fronts.{FrontsHere, KeptBelow}
@@ -34,6 +37,11 @@ pub record Bare (p : Parts) (table : ℕ) : Type 0 where
 pub record Thin (p : Parts) (table : ℕ) : Type 0 where
   pub bare : Bare p table
   pub suffixes : p .«suffix_count» ≡ 0
+
+-- the byte of an entry whose node stands at an index, or else 256
+abbrev pub byte-behind : Option Entry → ℕ → ℕ
+byte-behind none due = 256
+byte-behind (some e) due = cond (eqb (e .node) due) (e .byte) 256
 
 -- g and f are one sibling each, by the same byte: that of g has no location, that of f is a front with neither chunk nor prefix, and one child stands below each
 pub record DownTo (s : List ℕ) (d e table other : ℕ) (g f : Forest) : Type 0 where

@@ -1,13 +1,17 @@
 // Reading ahead. The test comes to nodes and their fronts in an order in which most would have to be waited for. Read once in
 // the image's own order before, they are near. What is read makes a number only so that the reads are not left out.
 use image_walk::Child;
-ghost use Prim.Native.Nat.{_*_, _≤_};
-ghost use lib.ListN.{length};
-ghost use Rattle.index_rule.specs.Fronts.{HasFronts, KeptBelow};
+ghost use mathlib.Core.Path.{_≡_};
+ghost use mathlib.Core.Bool.{cond};
+ghost use Prim.Native.Nat.{_*_, _/_, _≤_, min};
+ghost use lib.Dec.{eqb};
+ghost use lib.ListN.{length, set};
+ghost use Rattle.index_rule.specs.Fronts.{HasFronts};
+ghost use Rattle.index_rule.specs.Ahead.{part-read, shares-read};
 
 // How many parts of 64 bytes of n bytes are among room bytes.
 fn parts_within(n: usize, room: usize) -> usize
-    ensures { λ r. ⌜ r * 64 ≤ room ⌝ }
+    ensures { λ r. ⌜ r ≡ min n room / 64 ⌝ }
 {
     if room < n {
         return room / 64;
@@ -16,16 +20,19 @@ fn parts_within(n: usize, room: usize) -> usize
 }
 
 // Reads a word of each 64 bytes of the n from index at on.
-fn read_part(s: &[u8], at: usize, n: usize) -> u64 {
+fn read_part(s: &[u8], at: usize, n: usize) -> u64
+    ensures { λ r. ⌜ r ≡ part-read (now (s .entry)) at n ⌝ }
+{
     if s.len() < at {
         return 0;
     }
-    let parts = parts_within(n, s.len() - at);
     let mut sum = 0;
-    let mut i = 0;
-    while i < parts {
-        sum = sum ^ words::get64(s, at + i * 64);
-        i += 1;
+    let mut p = at;
+    let mut left = parts_within(n, s.len() - at);
+    while 0 < left {
+        sum = sum ^ words::get64(s, p);
+        p += 64;
+        left -= 1;
     }
     sum
 }
@@ -34,6 +41,7 @@ fn read_part(s: &[u8], at: usize, n: usize) -> u64 {
 // which has the same byte.
 fn read_ahead(s: &[u8], byte: u8, fronts: &[usize], count: usize, at: usize) -> u64
     requires { ⌜ HasFronts (now s) (now fronts) 0 count × (count * 3 ≤ length (now fronts)) ⌝ }
+    ensures { λ r. ⌜ r ≡ shares-read (now (s .entry)) byte (now (fronts .entry)) count at ⌝ }
 {
     if count == 0 {
         return 0;
@@ -52,7 +60,7 @@ fn read_ahead(s: &[u8], byte: u8, fronts: &[usize], count: usize, at: usize) -> 
     sum
 }
 
-// Reads ahead for a child of the root; depth is its parent's. The number is put behind the lists.
+// Reads ahead for a child of the root; depth is its parent's. The number is put at the lists' end.
 pub fn look_ahead(
     s: &[u8],
     byte: u8,
@@ -63,7 +71,7 @@ pub fn look_ahead(
     lists: &mut [usize],
 )
     requires { ⌜ HasFronts (now s) (now fronts) (depth * 768) count × (13056 ≤ length (now fronts)) × (1024 ≤ length (now lists)) ⌝ }
-    ensures { λ _. ⌜ KeptBelow 1023 (now (lists .entry)) (now (lists .exit)) ⌝ }
+    ensures { λ _. ⌜ now (lists .exit) ≡ cond (eqb depth 0) (set (now (lists .entry)) 1023 (shares-read (now (s .entry)) byte (now (fronts .entry)) count at)) (now (lists .entry)) ⌝ }
 {
     if depth != 0 {
         return;

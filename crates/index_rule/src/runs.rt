@@ -5,9 +5,10 @@ ghost use mathlib.Core.Path.{_≡_};
 ghost use Prim.Native.Nat.{_+_, _≤_};
 ghost use lib.ListN.{length};
 ghost use Rattle.image_walk.specs.Parts.{parts-at};
+ghost use Rattle.image_walk.specs.Tables.{slot-in};
 ghost use Rattle.image_walk.specs.Here.{Laid};
 ghost use Rattle.index_rule.specs.Parts.{HasTable};
-ghost use Rattle.index_rule.specs.Runs.{BareAt, LoneTable, Bare, Thin, Down, RunTo};
+ghost use Rattle.index_rule.specs.Runs.{BareAt, LoneTable, Bare, Thin, byte-behind, Down, RunTo};
 
 // Whether the node at an index is of kind 3 and has neither prefix nor chunk.
 // Compared with 0 a word would be tested byte by byte, so the counts are compared with each other.
@@ -69,6 +70,24 @@ fn bare_table(s: &[u8], at: usize) -> usize
     lone_table(s, at + 25 + 24 * n)
 }
 
+// No byte.
+pub const NO_BYTE: usize = 256;
+
+// The byte of the only child in a table of one entry, if the child stands right behind it, or else no byte.
+pub fn byte_behind(s: &[u8], table: usize) -> usize
+    requires { ⌜ HasTable (now s) table 1 ⌝ }
+    ensures { λ r. ⌜ r ≡ byte-behind (slot-in (now (s .entry)) table 1 0) (table + 10) ⌝ }
+{
+    let slot = image_walk::slot_in(s, table, 1, 0);
+    let Slot::Taken { byte, at } = slot else {
+        return NO_BYTE;
+    };
+    if at != table + 10 {
+        return NO_BYTE;
+    }
+    byte as usize
+}
+
 // The tables of two nodes, if both is true.
 struct Pair {
     pub table: usize,
@@ -94,21 +113,11 @@ fn both_down(s: &[u8], table: usize, other: usize) -> Pair
     // The child stands behind the table. A sum, and not the offset, lets the next loads start before this one ends.
     let due = table + 10;
     let front_due = other + 10;
-    let slot = image_walk::slot_in(s, table, 1, 0);
-    let Slot::Taken { byte, at } = slot else {
-        return apart();
-    };
-    let front = image_walk::slot_in(s, other, 1, 0);
-    let Slot::Taken { byte: b, at: to } = front else {
-        return apart();
-    };
-    if byte != b {
+    let byte = byte_behind(s, table);
+    if byte == NO_BYTE {
         return apart();
     }
-    if at != due {
-        return apart();
-    }
-    if to != front_due {
+    if byte_behind(s, other) != byte {
         return apart();
     }
     if !is_thin(s, due) {

@@ -1,11 +1,9 @@
 // Runs of nodes that have one child and one suffix, and no front, as most of a block have whose bytes stand nowhere else.
 // A node whose only child has the same suffix and no chunk is right, so they are stepped over at once.
 use crate::runs;
-use image_walk::Slot;
 ghost use mathlib.Core.Bool.{true};
 ghost use mathlib.Core.Path.{_≡_};
-ghost use Prim.Native.Nat.{_+_, _≤_};
-ghost use lib.ListN.{length};
+ghost use Prim.Native.Nat.{_+_};
 ghost use Rattle.definitions.specs.Location.{location-at};
 ghost use Rattle.image_walk.specs.Parts.{parts-at};
 ghost use Rattle.image_walk.specs.Here.{Laid};
@@ -31,29 +29,10 @@ fn has_single(s: &[u8], table: usize) -> bool
     requires { ⌜ HasTable (now s) table 1 ⌝ }
     ensures { λ r. ⌜ (r ≡ true → SingleIn (now (s .entry)) table) ⌝ }
 {
-    let due = table + 10;
-    let slot = image_walk::slot_in(s, table, 1, 0);
-    let Slot::Taken { byte: _, at } = slot else {
-        return false;
-    };
-    if at != due {
+    if runs::byte_behind(s, table) == runs::NO_BYTE {
         return false;
     }
-    is_single(s, due)
-}
-
-// Whether the same location stands at two indices.
-fn is_same(s: &[u8], p: usize, q: usize) -> bool
-    requires { ⌜ (p + 24 ≤ length (now s)) × (q + 24 ≤ length (now s)) ⌝ }
-    ensures { λ r. ⌜ (r ≡ true → location-at (now (s .entry)) p ≡ location-at (now (s .entry)) q) ⌝ }
-{
-    if words::get64(s, p) != words::get64(s, q) {
-        return false;
-    }
-    if words::get64(s, p + 8) != words::get64(s, q + 8) {
-        return false;
-    }
-    words::get64(s, p + 16) == words::get64(s, q + 16)
+    is_single(s, table + 10)
 }
 
 // Whether the node in a table, which is such a node, has a child that is one too, with the same suffix.
@@ -64,7 +43,7 @@ fn goes_on(s: &[u8], table: usize) -> bool
     if !has_single(s, table + 67) {
         return false;
     }
-    is_same(s, table + 35, table + 102)
+    location_lists::is_at(s, table + 102, location::location_at(s, table + 35))
 }
 
 // How many levels such a run goes on, and the table where it ends.

@@ -66,7 +66,7 @@ pub fn add_list(lists: &mut [usize], count: usize, at: usize, n: usize) -> usize
 }
 
 // Whether the location at index p is key.
-fn is_at(s: &[u8], p: usize, key: location::SpacetimeLocation) -> bool
+pub fn is_at(s: &[u8], p: usize, key: location::SpacetimeLocation) -> bool
     requires { ⌜ p + 24 ≤ length (now s) ⌝ }
     ensures { λ r. ⌜ r ≡ isEq (order (location-at (now (s .entry)) p) (plain key)) ⌝ }
 {

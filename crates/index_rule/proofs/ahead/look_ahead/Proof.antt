@@ -1,7 +1,9 @@
--- `index_rule::ahead::look_ahead` reads ahead only where the fronts stand from the start on. Assumes nothing.
+-- `index_rule::ahead::look_ahead` meets its contract: it reads ahead only where the fronts stand from the start on. Assumes nothing.
 use Prim.Native.Nat.{ℕ, _*_}
 use native.Mathlib.Omega.{arith}
-use mathlib.Core.Path.{_≡_, subst}
+use mathlib.Core.Path.{_≡_, refl, ap, subst}
+use lib.ListN.{set}
+use borrow.Author.Tests.{eq-eqb, ne-eqb}
 use denote.Ref.{now}
 use Rattle.index_rule.specs.Fronts.{HasFronts}
 use borrow.Author.Needs.{needs}
@@ -9,7 +11,7 @@ use Rattle.index_rule.proofs.ahead.look_ahead.Statement.{statement}
 use Rattle.index_rule.proofs.ahead.look_ahead.Tie as tie
 
 returns : tie.Need-returns
-returns c = search needs
+returns c = rw (ne-eqb (c .before .before .before .before .args .depth) 0 (c .if1 .taken)) refl
 
 read-ahead-requires : tie.Need-read-ahead-requires
 read-ahead-requires c κs =
@@ -25,7 +27,7 @@ same-length : tie.Need-same-length
 same-length c = search needs
 
 returns-2 : tie.Need-returns-2
-returns-2 c = search needs
+returns-2 c = rw (eq-eqb (c .before .before .before .before .before .args .depth) 0 (c .before .if1 .left)) (ap (set (now (c .before .before .before .before .before .args .lists)) 1023) (c .read-ahead .ensures))
 
 pub look-ahead-spec : {M : Type 1} → statement M
 look-ahead-spec =

@@ -1,6 +1,8 @@
 -- `index_rule::singles::goes_on` meets its contract. Assumes nothing.
 use native.Mathlib.Omega.{arith}
+use mathlib.Core.Path.{sym, _∙_}
 use borrow.Author.Tests.{not-false}
+use Rattle.trie.proofs.Union.{same-true}
 use Rattle.index_rule.proofs.RunLaws.{not-so}
 use Rattle.index_rule.proofs.SingleLaws.{single-table}
 use borrow.Author.Needs.{needs}
@@ -16,17 +18,20 @@ has-single-requires c κs = single-table _ _ (c .before .pre .0) (c .before .pre
 returns : tie.Need-returns
 returns c = not-so
 
-add-is-same : tie.Need-add-is-same
-add-is-same c = search needs
+add-is-at : tie.Need-add-is-at
+add-is-at c = search needs
 
-add-is-same-2 : tie.Need-add-is-same-2
-add-is-same-2 c = search needs
+add-location-at : tie.Need-add-location-at
+add-location-at c = search needs
 
-is-same-requires : tie.Need-is-same-requires
-is-same-requires c κs = let x = c .before .has-single .ensures (not-false _ (c .if1 .left)) in (omega (arith, c .before .before .before .pre .1 .room), omega (arith, x .room))
+location-at-requires : tie.Need-location-at-requires
+location-at-requires c κs = search needs
+
+is-at-requires : tie.Need-is-at-requires
+is-at-requires c κs = let x = c .before .before .has-single .ensures (not-false _ (c .before .if1 .left)) in omega (arith, x .room)
 
 returns-2 : tie.Need-returns-2
-returns-2 c = λ e. (c .before .before .has-single .ensures (not-false _ (c .before .if1 .left)), c .is-same .ensures e)
+returns-2 c = λ e. (c .before .before .before .has-single .ensures (not-false _ (c .before .before .if1 .left)), sym (c .before .location-at .ensures) ∙ sym (same-true _ _ (sym (c .is-at .ensures) ∙ e)))
 
 pub goes-on-spec : {M : Type 1} → statement M
 goes-on-spec =
@@ -35,7 +40,8 @@ goes-on-spec =
     add-has-single
     has-single-requires
     returns
-    add-is-same
-    add-is-same-2
-    is-same-requires
+    add-is-at
+    add-location-at
+    location-at-requires
+    is-at-requires
     returns-2)
