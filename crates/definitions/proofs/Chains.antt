@@ -15,6 +15,7 @@ use Rattle.definitions.specs.Blocks.{Piece, tails}
 use Rattle.definitions.specs.Places.{Reach, misses, covers, onward, first-of, rest-of, reach, extend, by-piece, by-pieces, ends, places, table, Chain, last, link, T, NeverEmpty}
 use Rattle.definitions.specs.Rows.{combine-split-times, rows}
 use Rattle.definitions.specs.Runs.{Alive}
+pub use Rattle.definitions.specs.Promises.{SamePieces}
 use Rattle.definitions.proofs.Views.{Eq, eq, Overlaps, overlap-is, overlap-some}
 use Rattle.definitions.proofs.Order.{normal-mem, mem-normal, sorted-normal, same-lists}
 use Rattle.definitions.proofs.Tails.{Tail, tails-mem, mem-tails}
@@ -173,11 +174,6 @@ module _ (ps : List Piece) where
   table-sorted (b ∷ q) (suc i) = ends-sorted q i
 
 -- ── the set of pieces alone decides ──
-
--- the same pieces, whatever their order and however often
-pub record SamePieces (ps rs : List Piece) : Type 0 where
-  pub to : (p : Piece) → Mem p ps → Mem p rs
-  pub fro : (p : Piece) → Mem p rs → Mem p ps
 
 chain-more : {ps ps′ rs rs′ : List Piece} {q : List ℕ} {x : Location} → ((p : Piece) → Mem p ps → Mem p ps′) → ((p : Piece) → Mem p rs → Mem p rs′) → Chain ps rs q x → Chain ps′ rs′ q x
 chain-more f g (last p more h n e i) = last p more (g p h) n e i

@@ -16,4 +16,5 @@ pub mod Theorems
 pub mod Tallied
 pub mod Checks
 pub mod Taken
+pub mod Promised
 pub mod Instance

@@ -1,15 +1,23 @@
--- Document 01, "Causes and their numbers": the checks of each call stand in the order of the table. Assumes nothing.
-use Prim.Native.Nat.{ℕ}
+-- What a reader may conclude: the order of the checks of each call, and places, rows and recordings. Assumes nothing.
+use Prim.Native.Nat.{ℕ, _<_}
 use mathlib.Core.Path.{_≡_}
 use mathlib.Core.Bool.{Bool, cond}
-use mathlib.Core.List.{List, List·Memᴰ}
-use lib.ListN.{take}
+use mathlib.Core.Logic.{_↔_}
+use mathlib.Core.List.{List, List·Memᴰ, []}
+use lib.ListN.{take, length, getD}
 use lib.Dec.{eqb}
-use Rattle.definitions.specs.Blocks.{Block, memory-kind}
+use Rattle.definitions.specs.Location.{Location, Less, Sorted}
+use Rattle.definitions.specs.Blocks.{Block, memory-kind, Piece}
+use Rattle.definitions.specs.Places.{T, table}
+use Rattle.definitions.specs.Rows.{rows}
+use Rattle.definitions.specs.Runs.{RowsAreRuns, Consistent, SameRows, SameHeld}
 use Rattle.definitions.specs.Causes.{Cause, causes, checked, opening, record-call, finish-call, search-call, save-call, load-call, read-block-call, line-call}
 use Rattle.definitions.specs.Calls.{Capacity, Standing, open-checks, record-checks, finish-checks, search-checks, save-checks, load-checks}
+use Rattle.definitions.specs.Recording.{Call, taken, Sound}
 use Rattle.definitions.specs.BlockStream.{read-block-checks}
 use Rattle.definitions.specs.Program.{line-checks}
+
+-- ── the checks of each call stand in the order of the table ──
 
 -- a block that is not of kind Memory is put to the first three causes of record;
 -- in reading a block the fields' order decides between its causes
@@ -22,3 +30,33 @@ pub record ChecksInOrder : Type 0 where
   pub load-order : (s : Standing) (fault nodes entries : ℕ) → causes (load-checks s fault nodes entries) ≡ checked load-call
   pub read-block-order : (s : List ℕ) (at : ℕ) (c : Cause) → List·Memᴰ c (causes (read-block-checks s at)) → List·Memᴰ c (checked read-block-call)
   pub line-order : (is-form : Bool) → causes (line-checks is-form) ≡ checked line-call
+
+-- ── places, rows and recordings ──
+
+-- the table that is computed is T: the same places for each i, sorted, each once
+abbrev pub TableIsT : Type 0
+TableIsT = (ps : List Piece) (q : List ℕ) (i : ℕ) → i < length q → (x : Location) → List·Memᴰ x (getD (table ps q) i []) ↔ T ps q i x
+
+abbrev pub TableSorted : Type 0
+TableSorted = (ps : List Piece) (q : List ℕ) (i : ℕ) → Sorted Less (getD (table ps q) i [])
+
+-- the same pieces, whatever their order and however often
+pub record SamePieces (ps rs : List Piece) : Type 0 where
+  pub to : (p : Piece) → List·Memᴰ p ps → List·Memᴰ p rs
+  pub fro : (p : Piece) → List·Memᴰ p rs → List·Memᴰ p ps
+
+-- rows depend on the set of pieces alone
+abbrev pub RowsBySet : Type 0
+RowsBySet = (ps ps′ : List Piece) → SamePieces ps ps′ → (q : List ℕ) → rows ps q ≡ rows ps′ q
+
+-- what was taken passed the checks behind refusals 4, 5 and 6
+abbrev pub TakenSound : Type 0
+TakenSound = (c : Capacity) (ks : List Call) (b : Block) → List·Memᴰ b (taken c ks) → Sound b
+
+-- the rows of a consistent recording are exactly the longest runs, each once, in order
+abbrev pub RecordingRows : Type 0
+RecordingRows = (c : Capacity) (ks : List Call) → Consistent (taken c ks) → (q : List ℕ) → 0 < length q → RowsAreRuns (taken c ks) q
+
+-- two consistent recordings have the same rows exactly when they hold the same bytes
+abbrev pub RecordingsSame : Type 0
+RecordingsSame = (c c′ : Capacity) (ks ks′ : List Call) → Consistent (taken c ks) → Consistent (taken c′ ks′) → SameRows (taken c ks) (taken c′ ks′) ↔ SameHeld (taken c ks) (taken c′ ks′)

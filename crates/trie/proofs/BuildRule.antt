@@ -11,15 +11,11 @@ use Rattle.definitions.specs.Blocks.{Piece}
 use Rattle.trie.specs.Trie.{Node, IsNode, lists-at}
 use Rattle.trie.specs.Rule.{Absent, Apart, Has, OwedPrefix, OwedSuffix, OwedPath, Passes, NodeRule, Rule}
 use Rattle.trie.specs.Build.{Entry, entered-all, behind, grow, build, trie-of}
+pub use Rattle.trie.specs.Promises.{SoundPiece}
 use Rattle.trie.proofs.BuildBytes.{Distinct}
 use Rattle.trie.proofs.BuildPaths.{entry-of, put, onward, distinct-onward, Through, node-short, node-through}
 use Rattle.trie.proofs.BuildLists.{Below, Within, prefixes-at, chunks-at, suffixes-at, sorted-at}
 use Rattle.trie.proofs.BuildEntered.{as-piece, Part, EnteredBy, entered-mem}
-
--- a piece that the index takes
-pub record SoundPiece (p : Piece) : Type 0 where
-  pub short : length (p .bytes) ≤ 16
-  pub passes : Passes (length (p .bytes)) (p .at)
 
 -- ── sibling bytes differ ──
 

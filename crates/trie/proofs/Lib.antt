@@ -18,3 +18,4 @@ pub mod BuildCounts
 pub mod BuildOrder
 pub mod Along
 pub mod Find
+pub mod Promised

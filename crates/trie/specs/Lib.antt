@@ -4,4 +4,5 @@ pub mod Local
 pub mod Test
 pub mod Build
 pub mod Find
+pub mod Promises
 pub mod Example
