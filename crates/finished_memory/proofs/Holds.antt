@@ -65,7 +65,7 @@ module _ (m : List ℕ) (c : Capacity) (t : Trie) (r : Room m c) (w : Within c t
   same-number : (p : ℕ) → p + 8 ≤ 64 → le64 memory p ≡ le64 written p
   same-number p k = ap (λ (x : List ℕ). le64 x p) memory-is ∙ le64-sets-other rest written 64 p (inl k)
 
-  header : header-at memory ≡ h
+  pub header : header-at (finished-memory m c t) ≡ finished-header c t
   header =
       let w : header-at written ≡ h = header-written h m room fits in
       let a = same-number 0 (omega arith) in
