@@ -2,22 +2,27 @@
 use Prim.Native.Nat.{ℕ, _+_, _*_, _/_, _%_, _^_, _≤_, _<_, max}
 use native.Mathlib.Nat.{max-le, le-max-left, le-max-right}
 use native.Mathlib.Omega.{arith}
-use mathlib.Core.Path.{_≡_, refl, sym, ap, _∙_}
+use mathlib.Core.Path.{_≡_, refl, sym, ap, subst, _∙_}
 use mathlib.Core.Bool.{Bool, true, false, cond}
 use mathlib.Core.List.{List}
 use mathlib.Core.Option.{Option, none, some}
 use lib.Dec.{eqb}
 use lib.Bits.{bitOr, or-shr, or-step}
 use lib.Pow.{shl-exact, shl-shr}
-use borrow.Author.Tests.{ne-eqb}
+use borrow.Author.Tests.{eqb-true, eqb-false, ne-eqb}
 use Rattle.trie.specs.Trie.{Forest, leaf, more, Node, child}
 use Rattle.image.specs.Held.{Entry}
 use Rattle.image_walk.specs.Tables.{slot-in}
 use Rattle.index_rule.specs.Parts.{Ahead, TableOf}
-use Rattle.index_rule.specs.Masks.{bit, Absent, Adds, SaysMask}
+use Rattle.index_rule.specs.Masks.{bit, is-absent, with-byte, Absent, SaysMask}
 use Rattle.index_rule.proofs.Tables.{Next, slot-taken, slot-empty, slots-end}
 
 -- ── a bit more ──
+
+-- a mask with one byte more: a bit that is not set is not that byte's, and was not set
+pub record Adds (m c n : ℕ) : Type 0 where
+  pub other : (b : ℕ) → bit n b ≡ 0 → c ≡ b → ⊥
+  pub before : (b : ℕ) → bit n b ≡ 0 → bit m b ≡ 0
 
 -- what is not set in both together is set in neither
 or-bit : (a b j : ℕ) → bitOr a b / 2 ^ j % 2 ≡ 0 → (a / 2 ^ j % 2 ≡ 0) × (b / 2 ^ j % 2 ≡ 0)
@@ -30,7 +35,7 @@ or-bit a b j e =
     let v : max (x % 2) (y % 2) ≡ 0 = omega arith in
     (omega (arith, v, le-max-left (x % 2) (y % 2)), omega (arith, v, le-max-right (x % 2) (y % 2)))
 
-pub adds : (m c : ℕ) → Adds m c (bitOr m (1 * 2 ^ (c % 64) % 18446744073709551616))
+adds : (m c : ℕ) → Adds m c (with-byte m c)
 adds m c = record { other = other; before = λ b e. or-bit m (1 * 2 ^ (c % 64) % 18446744073709551616) (b % 64) e .0 }
   where
     other : (b : ℕ) → bit (bitOr m (1 * 2 ^ (c % 64) % 18446744073709551616)) b ≡ 0 → c ≡ b → ⊥
@@ -40,6 +45,16 @@ adds m c = record { other = other; before = λ b e. or-bit m (1 * 2 ^ (c % 64) %
         let y : 1 * 2 ^ (c % 64) / 2 ^ (b % 64) ≡ 1 = ap (λ (k : ℕ). 1 * 2 ^ (c % 64) / 2 ^ (k % 64)) (sym q) ∙ shl-shr 1 (c % 64) in
         let z : 1 % 2 ≡ 0 = ap (λ (k : ℕ). k % 2) (sym y) ∙ ap (λ (k : ℕ). k / 2 ^ (b % 64) % 2) (sym x) ∙ o in
         omega arith
+
+pub adds-byte : (m c n : ℕ) → n ≡ with-byte m c → Adds m c n
+adds-byte m c n e = subst (Adds m c) (sym e) (adds m c)
+
+pub absent : (m b : ℕ) → is-absent m b ≡ true → Absent m b
+absent m b e = go (eqb m 0) refl e
+  where
+    go : (o : Bool) → eqb m 0 ≡ o → cond o false (eqb (bit m b) 0) ≡ true → Absent m b
+    go true z f = absurd (let w : _≡_ {A = ℕ} 0 1 = cc in omega arith)
+    go false z f = record { some = eqb-false m 0 z; unset = eqb-true (bit m b) 0 f }
 
 -- ── the mask of a table ──
 

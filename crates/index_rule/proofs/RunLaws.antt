@@ -14,6 +14,7 @@ use Rattle.definitions.proofs.Views.{Eq, eq}
 use Rattle.definitions.specs.Location.{Location, location-at, locations-in}
 use Rattle.trie.specs.Trie.{Lists, Forest, leaf, more, Node}
 use Rattle.trie.specs.Test.{all-ended, and-list, child-lists, front-lists, is-union}
+use Rattle.trie.proofs.Union.{both}
 use Rattle.location_lists.specs.Lists.{Lists as ListsIn, lists-in, count-with}
 use Rattle.image.specs.Held.{Entry}
 use Rattle.image_walk.specs.Parts.{parts-at}
@@ -23,7 +24,7 @@ use Rattle.image_walk.specs.declared.Node.{Node as Parts}
 use Rattle.image_walk.proofs.Parts.{parts-are, room-last}
 use Rattle.index_rule.specs.Parts.{TableOf, PartsOf, HasTable}
 use Rattle.index_rule.specs.Says.{children-right, ChildLists, with-two}
-use Rattle.index_rule.specs.Runs.{BareAt, LoneTable, Bare, Thin, byte-behind, Down, RunAt, RunTo, SaysNone, LeafParts, LeafSays}
+use Rattle.index_rule.specs.Runs.{BareAt, LoneTable, Bare, Thin, byte-behind, Down, RunAt, RunTo, SaysNone, is-leaf, LeafSays}
 use Rattle.index_rule.proofs.Tables.{Next, slot-taken, slots-end}
 use Rattle.index_rule.proofs.Parts.{parts-of}
 use Rattle.index_rule.proofs.Children.{next-laid}
@@ -38,6 +39,19 @@ pub by-test : {P : Type 0} (n m : ℕ) → (n ≡ m → P) → eqb n m ≡ true 
 by-test n m f e = f (eqb-true n m e)
 
 -- ── one node ──
+
+pub record LeafParts (p : Parts) : Type 0 where
+  pub children : p .children ≡ 0
+  pub chunks : p .«chunk_count» ≡ 0
+  pub suffixes : p .«suffix_count» ≡ 0
+  pub prefixes : p .«prefix_count» ≡ 1
+
+pub leaf-parts : (p : Parts) → is-leaf p ≡ true → LeafParts p
+leaf-parts p e =
+    let x = both (eqb (p .children) 0) _ e in
+    let y = both (eqb (p .«chunk_count») 0) _ (x .1) in
+    let z = both (eqb (p .«suffix_count») 0) _ (y .1) in
+    record { children = eqb-true _ _ (x .0); chunks = eqb-true _ _ (y .0); suffixes = eqb-true _ _ (z .0); prefixes = eqb-true _ _ (z .1) }
 
 -- a node has room for its counts
 pub laid-room : (s : List ℕ) (at : ℕ) → Laid s at → at + 33 ≤ length s

@@ -99,11 +99,8 @@ abbrev pub SaysNone : List ℕ → ℕ → Bool → Type 0
 SaysNone s table r = (d : ℕ) (f : Forest) → TableOf s d table 1 f → r ≡ all-ended (child-lists f)
 
 -- a leaf with one prefix, and neither chunk nor suffix
-pub record LeafParts (p : Parts) : Type 0 where
-  pub children : p .children ≡ 0
-  pub chunks : p .«chunk_count» ≡ 0
-  pub suffixes : p .«suffix_count» ≡ 0
-  pub prefixes : p .«prefix_count» ≡ 1
+abbrev pub is-leaf : Parts → Bool
+is-leaf p = eqb (p .children) 0 && (eqb (p .«chunk_count») 0 && (eqb (p .«suffix_count») 0 && eqb (p .«prefix_count») 1))
 
 -- two tables of one entry lead to two leaves
 pub record LeafAt (s : List ℕ) (depth : ℕ) (right : Bool) (g : Forest) (front : Node) : Type 0 where

@@ -20,7 +20,7 @@ ghost use Rattle.image.specs.Reading.{RightImage};
 ghost use Rattle.index_rule.specs.Parts.{HasTable, HasParts};
 ghost use Rattle.index_rule.specs.Fronts.{HasFronts, with-front};
 ghost use Rattle.index_rule.specs.Says.{with-two, ChildLists, SaysOwed, SaysLists, SaysSuffixes, SaysNode, RootFronts, NextFronts, ChildAsked, ChildSays, ChildrenAsked, ChildrenSays};
-ghost use Rattle.index_rule.specs.Runs.{LeafParts, LeafSays, LoneSays, SaysNone};
+ghost use Rattle.index_rule.specs.Runs.{is-leaf, LeafSays, LoneSays, SaysNone};
 ghost use Rattle.index_rule.specs.Singles.{SinglesSay};
 ghost use Rattle.index_rule.specs.Check.{check-image};
 
@@ -233,7 +233,7 @@ fn owes_none(s: &[u8], table: usize, lists: &mut [usize]) -> bool
 
 // Whether a node is a leaf with one prefix, and neither chunk nor suffix.
 fn is_leaf(n: Node) -> bool
-    ensures { λ r. ⌜ (r ≡ true → LeafParts n) ⌝ }
+    ensures { λ r. ⌜ r ≡ is-leaf n ⌝ }
 {
     if n.children != 0 {
         return false;
@@ -254,7 +254,7 @@ struct Leaf {
 }
 
 fn no_leaf() -> Leaf
-    ensures { λ r. ⌜ r .found ≡ false ⌝ }
+    ensures { λ r. ⌜ (r .found ≡ false) × (r .right ≡ false) ⌝ }
 {
     Leaf {
         found: false,

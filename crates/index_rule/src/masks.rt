@@ -1,14 +1,13 @@
 // Masks of bytes: a number of 64 bits that has, for each of some bytes, the bit of what the byte leaves by 64. It tells at
 // once of most bytes that they are not among them. The mask 0 tells nothing.
 use image_walk::Slot;
-ghost use mathlib.Core.Bool.{true};
 ghost use mathlib.Core.Path.{_≡_};
 ghost use Rattle.index_rule.specs.Parts.{HasTable};
-ghost use Rattle.index_rule.specs.Masks.{Absent, Adds, SaysMask};
+ghost use Rattle.index_rule.specs.Masks.{is-absent, with-byte, SaysMask};
 
 // Whether a mask tells that a byte is not among its bytes.
 pub fn is_absent(mask: usize, byte: u8) -> bool
-    ensures { λ r. ⌜ (r ≡ true → Absent mask byte) ⌝ }
+    ensures { λ r. ⌜ r ≡ is-absent mask byte ⌝ }
 {
     if mask == 0 {
         return false;
@@ -18,7 +17,7 @@ pub fn is_absent(mask: usize, byte: u8) -> bool
 
 // The mask with one byte more.
 fn with_byte(mask: usize, byte: u8) -> usize
-    ensures { λ r. ⌜ Adds mask byte r ⌝ }
+    ensures { λ r. ⌜ r ≡ with-byte mask byte ⌝ }
 {
     mask | (1usize << (byte % 64))
 }

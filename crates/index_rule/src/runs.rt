@@ -96,7 +96,7 @@ struct Pair {
 }
 
 fn apart() -> Pair
-    ensures { λ r. ⌜ r .both ≡ false ⌝ }
+    ensures { λ r. ⌜ (r .both ≡ false) × (r .table ≡ 0) × (r .other ≡ 0) ⌝ }
 {
     Pair {
         table: 0,

@@ -7,6 +7,7 @@ use borrow.Author.Needs.{needs}
 use borrow.Author.Tests.{not-false}
 use denote.Ref.{now}
 use Rattle.image_walk.specs.Answers.{child-of-answer}
+use Rattle.index_rule.proofs.MaskLaws.{absent}
 use Rattle.index_rule.proofs.TwoLists.{length-two}
 use Rattle.index_rule.proofs.NextFronts.{Finding, finding-start, finding-here, finding-read, finding-none, finding-absent, finding-laid, finding-parts, finding-leads, finding-some, fronts-done, lists-done}
 use Rattle.index_rule.proofs.fronts_by.Statement.{statement}
@@ -164,7 +165,7 @@ loop-again-3 c =
     let o = c .before .before .before .before .loop in
     let l = c .before .before .before .loop-test .taken in
     let x = c .before .is-absent in
-    (finding-absent (now (a .s)) (a .byte) (a .depth * 768) ((a .depth + 1) * 768) (now (a .fronts)) (a .count) (o .i) (o .fronts) (o .met) (o .lists) (o .listed) (o .inv .0) l (omega (arith, u .pre .0 .is .few, l)) (x .ensures (not-false (x .result) (c .if1 .left))), o .inv .1)
+    (finding-absent (now (a .s)) (a .byte) (a .depth * 768) ((a .depth + 1) * 768) (now (a .fronts)) (a .count) (o .i) (o .fronts) (o .met) (o .lists) (o .listed) (o .inv .0) l (omega (arith, u .pre .0 .is .few, l)) (absent _ _ (sym (x .ensures) ∙ not-false (x .result) (c .if1 .left))), o .inv .1)
 
 same-length : tie.Need-same-length Inv-loop μ-loop
 same-length c = c .before .loop .inv .0 .kept .same-length

@@ -5,7 +5,7 @@ use mathlib.Core.Path.{sym, ap, _∙_}
 use borrow.Author.Needs.{needs}
 use denote.Ref.{now}
 use Rattle.image_walk.specs.Answers.{entry-of-answer}
-use Rattle.index_rule.proofs.MaskLaws.{no-mask, Masking, masking-start, masking-skip, masking-add, masking-done}
+use Rattle.index_rule.proofs.MaskLaws.{adds-byte, no-mask, Masking, masking-start, masking-skip, masking-add, masking-done}
 use Rattle.index_rule.proofs.masks.mask_of.Statement.{statement}
 use Rattle.index_rule.proofs.masks.mask_of.Tie as tie
 
@@ -40,7 +40,7 @@ loop-again : tie.Need-loop-again Inv-loop μ-loop
 loop-again c =
     let o = c .before .before .before .before .before .before .loop in
     let e = ap entry-of-answer (sym (c .before .before .slot .given .1)) ∙ c .before .before .before .before .slot-in .ensures in
-    masking-add _ _ _ (o .j) (o .mask) (o .inv) (c .before .before .before .before .before .loop-test .taken) _ e _ (c .with-byte .ensures)
+    masking-add _ _ _ (o .j) (o .mask) (o .inv) (c .before .before .before .before .before .loop-test .taken) _ e _ (adds-byte _ _ _ (c .with-byte .ensures))
 
 enum-told : tie.Need-enum-told Inv-loop μ-loop
 enum-told c = search needs

@@ -1,6 +1,6 @@
 -- `index_rule::masks::with_byte` meets its contract. Assumes nothing.
+use mathlib.Core.Path.{refl}
 use borrow.Author.Needs.{needs}
-use Rattle.index_rule.proofs.MaskLaws.{adds}
 use Rattle.index_rule.proofs.masks.with_byte.Statement.{statement}
 use Rattle.index_rule.proofs.masks.with_byte.Tie as tie
 
@@ -11,7 +11,7 @@ shl-result : tie.Need-shl-result
 shl-result c = search needs
 
 returns : tie.Need-returns
-returns c = adds (c .args .mask) (c .args .byte)
+returns c = refl
 
 pub with-byte-spec : {M : Type 1} → statement M
 with-byte-spec = tie.close (tie.spec cast-result shl-result returns)
