@@ -123,23 +123,3 @@ by-handed (finished c t) q scratch buffer = pieces-handed (first-cause (room-che
 pub search-is-find : (m q : List ℕ) (scratch : ℕ) (buffer : List ℕ) → search-memory m q scratch buffer ≡ handed-over (find-memory m q scratch (length buffer / 3)) buffer
 unfolding search-memory find-memory
 search-is-find m q scratch buffer = by-handed (read-index m) q scratch buffer
-
-refused-pieces : (o : Option Cause) (rs : List Location) → (rows-or-refused o rs .refusal ≡ 0 → ⊥) → rows-or-refused o rs .rows ≡ []
-refused-pieces none rs h = absurd (h refl)
-refused-pieces (some c) rs h = refl
-
-refused-by : (i : Index) (q : List ℕ) (scratch room : ℕ) → (find-by i q scratch room .refusal ≡ 0 → ⊥) → find-by i q scratch room .rows ≡ []
-refused-by broken q scratch room h = refl
-refused-by (opened c ps) q scratch room h = refl
-refused-by (finished c t) q scratch room h = refused-pieces (first-cause (room-checks (trie-pieces t) q scratch room)) (rows (trie-pieces t) q) h
-
--- a refusal has no rows
-pub refused-none : (m q : List ℕ) (scratch room : ℕ) → (find-memory m q scratch room .refusal ≡ 0 → ⊥) → find-memory m q scratch room .rows ≡ []
-unfolding find-memory
-refused-none m q scratch room h = refused-by (read-index m) q scratch room h
-
--- a search that is refused counts none
-pub none-counted : (m q : List ℕ) (scratch : ℕ) (buffer : List ℕ) → (search-memory m q scratch buffer .refusal ≡ 0 → ⊥) → search-memory m q scratch buffer .count ≡ 0
-none-counted m q scratch buffer h =
-    let w = search-is-find m q scratch buffer in
-    ap (λ (f : Found). f .count) w ∙ ap length (refused-none m q scratch (length buffer / 3) (λ e. h (ap (λ (f : Found). f .refusal) w ∙ e)))
