@@ -11,7 +11,7 @@ use lib.Dec.{eqb}
 use borrow.Author.Tests.{ltb-false, leb-false}
 use Rattle.definitions.specs.Blocks.{Block, nodes-charged, entries-charged}
 use Rattle.definitions.specs.Runs.{Holds, RowsAreRuns, Consistent, Alive, SameRows, SameHeld}
-use Rattle.definitions.specs.Causes.{Cause, Check, first-cause, causes, checked, opening, record-call, search-call, save-call}
+use Rattle.definitions.specs.Causes.{Cause, scratch-too-small, too-many-rows, Check, first-cause, causes, checked, opening, record-call, search-call, save-call, scratch-kept}
 use Rattle.definitions.specs.Calls.{Capacity, Recorded, fresh, added, data-limit, last-number, open-checks, memory-checks, record-checks, record-answer, unless-refused, recorded, search-checks, save-checks}
 use Rattle.definitions.specs.Recording.{Call, record-block, finish, search, after, after-all, taken, Finished, Sound}
 use Rattle.definitions.proofs.Theorems.{rows-are-runs, same-rows-same-held}
@@ -23,6 +23,10 @@ record-order c s b = refl
 
 search-order : (s : Recorded) (q : List ℕ) (scratch room : ℕ) → causes (search-checks s q scratch room) ≡ drop 1 (checked search-call)
 search-order s q scratch room = refl
+
+-- and those that leave scratch as it was are the ones up to check 9
+kept-order : checked search-call ≡ scratch-kept ++ (scratch-too-small ∷ too-many-rows ∷ [])
+kept-order = refl
 
 save-order : (finished : Bool) (image buffer : ℕ) → causes (save-checks finished image buffer) ≡ drop 1 (checked save-call)
 save-order finished image buffer = refl

@@ -182,23 +182,18 @@ load-refused m s i f = by-index i f
     by-index (opened c ps) f = by-layout c (check-image s) f
     by-index (finished c t) f = by-layout c (check-image s) f
 
-save-refused : (buffer : List ℕ) (i : Index) → (save-by i buffer .refusal ≡ 0 → ⊥) → (save-by i buffer .buffer ≡ buffer) × (save-by i buffer .size ≡ 0)
+save-refused : (buffer : List ℕ) (i : Index) → (save-by i buffer .refusal ≡ 0 → ⊥) → save-by i buffer .buffer ≡ buffer
 save-refused buffer i f = by-index i f
   where
-    by-cause : (o : Option Cause) (s : List ℕ) → (saved-or-refused o s buffer .refusal ≡ 0 → ⊥) → (saved-or-refused o s buffer .buffer ≡ buffer) × (saved-or-refused o s buffer .size ≡ 0)
+    by-cause : (o : Option Cause) (s : List ℕ) → (saved-or-refused o s buffer .refusal ≡ 0 → ⊥) → saved-or-refused o s buffer .buffer ≡ buffer
     by-cause none s f = absurd (f refl)
-    by-cause (some x) s f = (refl, refl)
+    by-cause (some x) s f = refl
 
-    by-index : (i : Index) → (save-by i buffer .refusal ≡ 0 → ⊥) → (save-by i buffer .buffer ≡ buffer) × (save-by i buffer .size ≡ 0)
-    by-index broken f = (refl, refl)
-    by-index (opened c ps) f = (refl, refl)
+    by-index : (i : Index) → (save-by i buffer .refusal ≡ 0 → ⊥) → save-by i buffer .buffer ≡ buffer
+    by-index broken f = refl
+    by-index (opened c ps) f = refl
     by-index (finished c t) f = by-cause (first-cause (save-checks true (length (image t)) (length buffer))) (image t) f
 
 pub refused-leaves : RefusedLeaves
 unfolding load-memory save-memory
-refused-leaves m s = (load-refused m s (read-index m), λ f. save-refused s (read-index m) f .0)
-
--- a save that is refused has no bytes
-pub none-saved : (m buffer : List ℕ) → (save-memory m buffer .refusal ≡ 0 → ⊥) → save-memory m buffer .size ≡ 0
-unfolding save-memory
-none-saved m buffer f = save-refused buffer (read-index m) f .1
+refused-leaves m s = (load-refused m s (read-index m), save-refused s (read-index m))
