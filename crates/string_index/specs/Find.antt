@@ -1,11 +1,10 @@
--- What a search finds, as a function on memory, and how its rows stand in scratch. Assumes nothing.
-use Prim.Native.Nat.{ℕ, _+_, _*_, _/_, _≤_}
-use mathlib.Core.Path.{_≡_}
+-- What a search finds, as a function on memory. Assumes nothing.
+use Prim.Native.Nat.{ℕ, _/_}
 use mathlib.Core.List.{List, [], _∷_}
 use mathlib.Core.Option.{Option, none, some}
 use lib.ListN.{length}
 use lib.Dec.{ltb}
-use Rattle.definitions.specs.Location.{Location, locations-in}
+use Rattle.definitions.specs.Location.{Location}
 use Rattle.definitions.specs.Blocks.{Piece}
 use Rattle.definitions.specs.Places.{places-counted}
 use Rattle.definitions.specs.Rows.{rows}
@@ -39,12 +38,3 @@ find-by (finished c t) q scratch room = find-pieces (trie-pieces t) q scratch ro
 -- scratch has so many bytes, and so many rows have room
 unfoldable pub find-memory : List ℕ → List ℕ → ℕ → ℕ → Rows-found
 find-memory m q scratch room = find-by (read-index m) q scratch room
-
--- they stand in scratch s, count of them from byte at on
-pub record Finds (m q : List ℕ) (scratch room : ℕ) (s : List ℕ) (refusal at count : ℕ) : Type 0 where
-  pub refused : refusal ≡ find-memory m q scratch room .refusal
-  pub counted : count ≡ length (find-memory m q scratch room .rows)
-  pub fit : count ≤ room
-  pub within : at + count * 24 ≤ length s
-  pub stand : locations-in s count at ≡ find-memory m q scratch room .rows
-  pub kept : length s ≡ scratch

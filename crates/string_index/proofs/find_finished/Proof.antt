@@ -1,13 +1,13 @@
 -- `string_index::find_finished` meets its contract: the image passed the test, so what is found is that by its pieces. Assumes nothing.
 use native.Mathlib.Omega.{arith}
-use lib.ListN.{length}
 use borrow.Author.Needs.{needs}
+use borrow.Author.Tests.{lt-ltb}
 use denote.Ref.{now}
 use Rattle.trie.specs.Trie.{trie-pieces}
 use Rattle.image.specs.Held.{trie-in}
 use Rattle.index_memory.specs.Index.{image-part}
 use Rattle.index_memory.specs.Answers.{header-of}
-use Rattle.string_index.proofs.Finding.{too-long}
+use Rattle.string_index.proofs.Finding.{none-front, unchanged}
 use Rattle.string_index.proofs.Calling.{searchable, answered-part}
 use Rattle.string_index.proofs.find_finished.Statement.{statement}
 use Rattle.string_index.proofs.find_finished.Tie as tie
@@ -17,8 +17,8 @@ no-rows-requires c κs = search needs
 
 returns : tie.Need-returns
 returns c =
-    let a = c .before .before .before .before .before .args in
-    too-long (trie-pieces (trie-in (image-part (now (a .mem)) (header-of (a .h))))) (now (a .q)) (length (now (a .scratch))) (a .room) _ (c .before .if1 .taken) (c .no-rows .ensures)
+    let long = c .before .if1 .taken in
+    (rw (lt-ltb 256 _ long) (c .no-rows .ensures), (rw (lt-ltb 256 _ long) (none-front _), unchanged _ _))
 
 add-search-image : tie.Need-add-search-image
 add-search-image c = search needs
@@ -50,7 +50,7 @@ returns-2 c =
     let known = test .before .before .before in
     let start = known .before in
     let a = start .args in
-    answered-part (now (a .mem)) (header-of (a .h)) (λ j. omega (arith, known .shared-slice-known .given j)) (omega arith) (start .pre) (now (a .q)) _ _ (omega (arith, test .if1 .left)) (c .before .before .search-image .ensures)
+    answered-part (now (a .mem)) (header-of (a .h)) (λ j. omega (arith, known .shared-slice-known .given j)) (omega arith) (start .pre) (now (a .q)) (now (a .scratch)) _ _ (omega (arith, test .if1 .left)) (search needs) (c .before .before .search-image .ensures)
 
 pub find-finished-spec : {M : Type 1} → statement M
 find-finished-spec =
