@@ -14,23 +14,25 @@ use Rattle.definitions.specs.Blocks.{Piece}
 use Rattle.definitions.specs.Places.{places-counted}
 use Rattle.definitions.specs.Rows.{rows}
 use Rattle.definitions.specs.Causes.{Cause, number, query-too-long, scratch-too-small, too-many-rows, first-cause, numbered, scratch-kept, ScratchAfter}
+use Rattle.definitions.specs.Calls.{Capacity, Standing, search-checks}
+use Rattle.definitions.proofs.Checks.{none-applies}
 use Rattle.trie.specs.Trie.{Trie, trie-pieces}
 use Rattle.trie.specs.Rule.{Rule}
 use Rattle.row_buffer.specs.Numbers.{row-numbers}
-use Rattle.index_memory.specs.Index.{Index, broken, opened, finished, read-index}
+use Rattle.index_memory.specs.Index.{Index, finished, standing-of, read-index}
 use Rattle.searching.specs.Search.{refused, finding-of, AtFront, rows-answer, search-answer}
 use Rattle.searching.specs.declared.Finding.{Finding}
 use Rattle.searching.proofs.Answering.{Answers, none-answers}
 use Rattle.searching.proofs.Equations.{answer-by-pieces}
-use Rattle.string_index.specs.Find.{Rows-found, rows-or-refused, room-checks, find-pieces, find-by, find-memory}
-use Rattle.string_index.specs.Finish.{Found, found-or-refused, search-by, search-memory}
+use Rattle.string_index.specs.Find.{Rows-found, rows-or-refused, find-by, find-memory}
+use Rattle.string_index.specs.Finish.{Found, found-or-refused, search-memory}
 
 -- ── by the nodes and by the pieces ──
 
 -- a search by the nodes finds what one by the pieces does
-pub by-pieces : (t : Trie) → Rule t → (q : List ℕ) (scratch room : ℕ) → length q ≤ 256 → search-answer t q scratch room ≡ find-pieces (trie-pieces t) q scratch room
+pub by-pieces : (c : Capacity) (t : Trie) → Rule t → (q : List ℕ) (scratch room : ℕ) → length q ≤ 256 → search-answer t q scratch room ≡ find-by (finished c t) q scratch room
 unfolding rows-answer
-by-pieces t rule q scratch room h =
+by-pieces c t rule q scratch room h =
     answer-by-pieces t rule q scratch room ∙ rw (le-ltb 256 (length q) h) (go (ltb (scratch / 24) (places-counted ps q)) (ltb room (length (rows ps q))))
   where
     ps : List Piece
@@ -47,12 +49,8 @@ by-pieces t rule q scratch room h =
 abbrev pub Finds : Rows-found → List ℕ → List ℕ → Finding → Type 0
 Finds o x s f = (f ≡ finding-of o) × (AtFront (o .rows) s × ScratchAfter (o .refusal) x s)
 
--- no rows stand in any scratch
-pub none-front : (s : List ℕ) → AtFront [] s
-none-front s = none-answers {o = refused 0} s 0 refl refl .1
-
 -- scratch that nothing was written to
-pub unchanged : (n : ℕ) (x : List ℕ) → ScratchAfter n x x
+unchanged : (n : ℕ) (x : List ℕ) → ScratchAfter n x x
 unchanged n x = record { same-length = refl; untouched = λ _. refl }
 
 -- what is refused before anything is found
@@ -61,17 +59,21 @@ none-finds {o} x n e g =
     let w = none-answers x n e g in
     (w .0, (w .1, unchanged (o .refusal) x))
 
--- a query that is not too long is refused only past check 9
-past-nine : (ps : List Piece) (q : List ℕ) (scratch room : ℕ) → length q ≤ 256 → numbered (find-pieces ps q scratch room .refusal) scratch-kept ≡ false
-past-nine ps q scratch room h = rw (le-ltb 256 (length q) h) (go (ltb (scratch / 24) (places-counted ps q)) (ltb room (length (rows ps q))))
+-- a query that is too long is refused before that
+pub too-long : (c : Capacity) (t : Trie) (q : List ℕ) (scratch room : ℕ) → 256 < length q → find-by (finished c t) q scratch room ≡ refused (number query-too-long)
+too-long c t q scratch room h = rw (lt-ltb 256 (length q) h)
+
+-- one that is not is refused only past check 9
+past-nine : (c : Capacity) (t : Trie) (q : List ℕ) (scratch room : ℕ) → length q ≤ 256 → numbered (find-by (finished c t) q scratch room .refusal) scratch-kept ≡ false
+past-nine c t q scratch room h = rw (le-ltb 256 (length q) h) (go (ltb (scratch / 24) (places-counted (trie-pieces t) q)) (ltb room (length (rows (trie-pieces t) q))))
   where
-    go : (o₁ o₂ : Bool) → numbered (rows-or-refused (cond o₁ (some scratch-too-small) (cond o₂ (some too-many-rows) none)) (rows ps q) .refusal) scratch-kept ≡ false
+    go : (o₁ o₂ : Bool) → numbered (rows-or-refused (cond o₁ (some scratch-too-small) (cond o₂ (some too-many-rows) none)) (rows (trie-pieces t) q) .refusal) scratch-kept ≡ false
     go true o₂ = refl
     go false true = refl
     go false false = refl
 
-pub searched : (ps : List Piece) (q x s : List ℕ) (room : ℕ) {f : Finding} → length q ≤ 256 → length s ≡ length x → Answers (find-pieces ps q (length x) room) s f → Finds (find-pieces ps q (length x) room) x s f
-searched ps q x s room h l w = (w .0, (w .1, record { same-length = l; untouched = λ k. absurd (different (sym (past-nine ps q (length x) room h) ∙ k)) }))
+pub searched : (c : Capacity) (t : Trie) (q x s : List ℕ) (room : ℕ) {f : Finding} → length q ≤ 256 → length s ≡ length x → Answers (find-by (finished c t) q (length x) room) s f → Finds (find-by (finished c t) q (length x) room) x s f
+searched c t q x s room h l w = (w .0, (w .1, record { same-length = l; untouched = λ k. absurd (different (sym (past-nine c t q (length x) room h) ∙ k)) }))
   where
     different : false ≡ true → ⊥
     different e = let z : _≡_ {A = ℕ} 0 1 = cc in omega arith
@@ -79,24 +81,16 @@ searched ps q x s room h l w = (w .0, (w .1, record { same-length = l; untouched
 -- ── what a memory holds decides ──
 
 -- the rows that are found have room
-pieces-fit : (ps : List Piece) (q : List ℕ) (scratch room : ℕ) → length (find-pieces ps q scratch room .rows) ≤ room
-pieces-fit ps q scratch room = go (ltb 256 (length q)) (ltb (scratch / 24) (places-counted ps q)) (ltb room (length (rows ps q))) refl
+rows-have-room : (s : Standing) (q : List ℕ) (scratch room : ℕ) → length (rows-or-refused (first-cause (search-checks s q scratch room)) (rows (s .pieces) q) .rows) ≤ room
+rows-have-room s q scratch room = go (first-cause (search-checks s q scratch room)) refl
   where
-    go : (o₁ o₂ o₃ : Bool) → ltb room (length (rows ps q)) ≡ o₃
-        → length (rows-or-refused (cond o₁ (some query-too-long) (cond o₂ (some scratch-too-small) (cond o₃ (some too-many-rows) none))) (rows ps q) .rows) ≤ room
-    go true o₂ o₃ e = omega arith
-    go false true o₃ e = omega arith
-    go false false true e = omega arith
-    go false false false e = ltb-false room (length (rows ps q)) e
-
-rows-have-room : (i : Index) (q : List ℕ) (scratch room : ℕ) → length (find-by i q scratch room .rows) ≤ room
-rows-have-room broken q scratch room = omega arith
-rows-have-room (opened c ps) q scratch room = omega arith
-rows-have-room (finished c t) q scratch room = pieces-fit (trie-pieces t) q scratch room
+    go : (o : Option Cause) → first-cause (search-checks s q scratch room) ≡ o → length (rows-or-refused o (rows (s .pieces) q) .rows) ≤ room
+    go none e = ltb-false room (length (rows (s .pieces) q)) (none-applies (search-checks s q scratch room) e .1 .1 .1 .1 .0)
+    go (some c) e = omega arith
 
 pub found-fit : (m q : List ℕ) (scratch room : ℕ) → length (find-memory m q scratch room .rows) ≤ room
 unfolding find-memory
-found-fit m q scratch room = rows-have-room (read-index m) q scratch room
+found-fit m q scratch room = rows-have-room (standing-of (read-index m)) q (scratch / 24) room
 
 pub finds : (m q x : List ℕ) (room : ℕ) {s : List ℕ} {f : Finding} (i : Index) → read-index m ≡ i → Finds (find-by i q (length x) room) x s f → Finds (find-memory m q (length x) room) x s f
 unfolding find-memory
@@ -113,13 +107,8 @@ unfolding row-numbers
 pieces-handed none rs buffer = refl
 pieces-handed (some c) rs buffer = refl
 
-by-handed : (i : Index) (q : List ℕ) (scratch : ℕ) (buffer : List ℕ) → search-by i q scratch buffer ≡ handed-over (find-by i q scratch (length buffer / 3)) buffer
-unfolding row-numbers
-by-handed broken q scratch buffer = refl
-by-handed (opened c ps) q scratch buffer = refl
-by-handed (finished c t) q scratch buffer = pieces-handed (first-cause (room-checks (trie-pieces t) q scratch (length buffer / 3))) (rows (trie-pieces t) q) buffer
-
 -- a search with a row buffer finds what has room there, and hands it over
 pub search-is-find : (m q : List ℕ) (scratch : ℕ) (buffer : List ℕ) → search-memory m q scratch buffer ≡ handed-over (find-memory m q scratch (length buffer / 3)) buffer
 unfolding search-memory find-memory
-search-is-find m q scratch buffer = by-handed (read-index m) q scratch buffer
+search-is-find m q scratch buffer =
+    pieces-handed (first-cause (search-checks (standing-of (read-index m)) q (scratch / 24) (length buffer / 3))) (rows (standing-of (read-index m) .pieces) q) buffer
