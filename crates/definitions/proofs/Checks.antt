@@ -39,6 +39,7 @@ checks-in-order = record {
   record-order = by-kind;
   finish-order = λ s. refl;
   search-order = λ s q scratch room. refl;
+  scratch-order = refl;
   save-order = λ s image buffer. refl;
   load-order = λ s fault nodes entries. refl;
   read-block-order = λ s at c h. fields s at h;

@@ -1,9 +1,12 @@
 -- Document 01, "Causes and their numbers": each cause, its number, and the order in which each call checks them.
 -- Assumes nothing.
 use Prim.Native.Nat.{ℕ}
-use mathlib.Core.Bool.{Bool, cond}
+use mathlib.Core.Path.{_≡_}
+use mathlib.Core.Bool.{Bool, true, false, _||_, cond}
 use mathlib.Core.List.{List, [], _∷_}
 use mathlib.Core.Option.{Option, none, some}
+use lib.ListN.{length}
+use lib.Dec.{eqb}
 
 pub data Cause : Type 0 where
   -- opening with 0 or over 1,048,576 nodes or entries, or with more than the lent memory holds
@@ -102,3 +105,19 @@ refusal-of (some c) = number c
 abbrev pub causes : List Check → List Cause
 causes [] = []
 causes (c ∷ cs) = c .cause ∷ causes cs
+
+-- ── what a search leaves of scratch ──
+
+-- causes that leave scratch as it was; scratch contents are free after a search past check 9
+abbrev pub scratch-kept : List Cause
+scratch-kept = index-rule-broken ∷ before-finish ∷ query-too-long ∷ []
+
+-- whether a number is that of one of these causes
+abbrev pub numbered : ℕ → List Cause → Bool
+numbered n [] = false
+numbered n (c ∷ cs) = eqb n (number c) || numbered n cs
+
+-- scratch after a search with this refusal's number (0 for none): as long as it was, and untouched by those causes
+pub record ScratchAfter (refusal : ℕ) (before after : List ℕ) : Type 0 where
+  pub same-length : length after ≡ length before
+  pub untouched : numbered refusal scratch-kept ≡ true → after ≡ before

@@ -2,7 +2,8 @@
 use Prim.Native.Nat.{ℕ}
 use mathlib.Core.Path.{_≡_, refl, sym}
 use mathlib.Core.Bool.{Bool, true, false, cond}
-use mathlib.Core.List.{[]}
+use mathlib.Core.List.{List}
+use lib.ListN.{set}
 use lib.Dec.{eqb}
 use Rattle.definitions.proofs.Views.{Eq, eq}
 use Rattle.index_memory.specs.Answers.{opened-as, opened-number, recorded-as, recorded-number}
@@ -14,16 +15,17 @@ use Rattle.saving.specs.declared.Loaded.the-variants as L
 use Rattle.saving.specs.Answers.{saved-as, loaded-as, loaded-number}
 use Rattle.string_index.specs.declared.Finished.the-variants as F
 use Rattle.string_index.specs.declared.Answer.the-variants as A
-use Rattle.string_index.specs.Answers.{finished-as, finished-number, answer-as, found-by}
+use Rattle.string_index.specs.Answers.{finished-as, finished-number, answer-as, answer-number}
+use Rattle.helmapricot.specs.Counts.{put-unless-refused, count-after}
 
--- the number and the size that a save's answer is handed over as
+-- the number that a save's answer is handed over as, and the place of the size
 abbrev pub saved-number : Saved → ℕ
 saved-number (S.Bytes n) = 0
 saved-number (S.Refused n) = n
 
-abbrev pub saved-size : Saved → ℕ
-saved-size (S.Bytes n) = n
-saved-size (S.Refused n) = 0
+abbrev pub size-after : Saved → List ℕ → List ℕ
+size-after (S.Bytes n) xs = set xs 0 n
+size-after (S.Refused n) xs = xs
 
 module _ (n : ℕ) where
   pub opened-back : opened-number (opened-as n) ≡ n
@@ -54,18 +56,18 @@ module _ (n : ℕ) where
       go true e = sym e
       go false h = refl
 
-  -- with a number beside it that is 0 where there is a refusal
-  module _ (k : ℕ) (none : (n ≡ 0 → ⊥) → k ≡ 0) where
-    pub saved-back : (saved-number (saved-as n k) ≡ n) × (saved-size (saved-as n k) ≡ k)
+  -- with a number beside it, in a place that a refusal leaves
+  module _ (k : ℕ) (xs : List ℕ) where
+    pub saved-back : (saved-number (saved-as n k) ≡ n) × (size-after (saved-as n k) xs ≡ put-unless-refused n k xs)
     saved-back = go (eqb n 0) (eq n 0)
       where
-        go : (o : Bool) → Eq o n 0 → (saved-number (cond o (S.Bytes k) (S.Refused n)) ≡ n) × (saved-size (cond o (S.Bytes k) (S.Refused n)) ≡ k)
+        go : (o : Bool) → Eq o n 0 → (saved-number (cond o (S.Bytes k) (S.Refused n)) ≡ n) × (size-after (cond o (S.Bytes k) (S.Refused n)) xs ≡ cond o (set xs 0 k) xs)
         go true e = (sym e, refl)
-        go false h = (refl, sym (none h))
+        go false h = (refl, refl)
 
-    pub answer-back : (found-by (answer-as n k) [] .refusal ≡ n) × (found-by (answer-as n k) [] .count ≡ k)
+    pub answer-back : (answer-number (answer-as n k) ≡ n) × (count-after (answer-as n k) xs ≡ put-unless-refused n k xs)
     answer-back = go (eqb n 0) (eq n 0)
       where
-        go : (o : Bool) → Eq o n 0 → (found-by (cond o (A.Rows k) (A.Refused n)) [] .refusal ≡ n) × (found-by (cond o (A.Rows k) (A.Refused n)) [] .count ≡ k)
+        go : (o : Bool) → Eq o n 0 → (answer-number (cond o (A.Rows k) (A.Refused n)) ≡ n) × (count-after (cond o (A.Rows k) (A.Refused n)) xs ≡ cond o (set xs 0 k) xs)
         go true e = (sym e, refl)
-        go false h = (refl, sym (none h))
+        go false h = (refl, refl)

@@ -10,17 +10,20 @@ use saving::Saved;
 use string_index::Answer;
 use string_index::Finished;
 ghost use mathlib.Core.Path.{_≡_};
-ghost use lib.ListN.{length, set};
+ghost use Prim.Native.Nat.{_-_, _≤_};
+ghost use lib.ListN.{length};
 ghost use lib.Seq.{sets};
 ghost use mathlib.Core.List.{[], _∷_};
 ghost use Rattle.definitions.specs.BlockStream.{read-block};
+ghost use Rattle.definitions.specs.Causes.{ScratchAfter};
 ghost use Rattle.index_memory.specs.Answers.{opened-number, recorded-number};
 ghost use Rattle.index_memory.specs.Record.{open-memory, record-memory};
 ghost use Rattle.rows.specs.Rows.{numbers-of};
 ghost use Rattle.string_index.specs.Finish.{finish-memory, search-memory};
-ghost use Rattle.string_index.specs.Answers.{finished-number, found-by};
+ghost use Rattle.string_index.specs.Answers.{finished-number, answer-number};
 ghost use Rattle.saving.specs.Saving.{save-memory, load-memory};
 ghost use Rattle.saving.specs.Answers.{loaded-number};
+ghost use Rattle.helmapricot.specs.Counts.{put-unless-refused, count-after};
 ghost use Rattle.helmapricot.specs.Stream.{stream-number, with-fields};
 
 fn opened_number(r: Opened) -> u64
@@ -94,23 +97,20 @@ pub extern "C" fn helmapricot_finish(mem: &mut [u8]) -> u64
     finished_number(string_index::finish(mem))
 }
 
-// Writes how many rows there are, 0 where a search is refused, and answers the refusal's number.
+// Writes how many rows there are, unless the search is refused, and answers the refusal's number.
 fn put_count(count: &mut [u64; 1], a: Answer) -> u64
-    ensures { λ r. ⌜ (r ≡ found-by a [] .refusal) × (now (count .exit) ≡ set (now (count .entry)) 0 (found-by a [] .count)) ⌝ }
+    ensures { λ r. ⌜ (r ≡ answer-number a) × (now (count .exit) ≡ count-after a (now (count .entry))) ⌝ }
 {
     match a {
         Answer::Rows(n) => {
             count[0] = n as u64;
             0
         }
-        Answer::Refused(n) => {
-            count[0] = 0;
-            n
-        }
+        Answer::Refused(n) => n,
     }
 }
 
-// How many rows there are goes into count; 0 where the search is refused.
+// How many rows there are goes into count; a search that is refused leaves it.
 #[no_mangle]
 pub extern "C" fn helmapricot_search(
     mem: &[u8],
@@ -121,28 +121,26 @@ pub extern "C" fn helmapricot_search(
 ) -> u64
     ensures answer { λ r. ⌜ r ≡ search-memory (now (mem .entry)) (now (q .entry)) (length (now (scratch .entry))) (numbers-of (now (rows .entry))) .refusal ⌝ }
     ensures rows { λ _. ⌜ numbers-of (now (rows .exit)) ≡ search-memory (now (mem .entry)) (now (q .entry)) (length (now (scratch .entry))) (numbers-of (now (rows .entry))) .buffer ⌝ }
-    ensures count { λ _. ⌜ now (count .exit) ≡ set (now (count .entry)) 0 (search-memory (now (mem .entry)) (now (q .entry)) (length (now (scratch .entry))) (numbers-of (now (rows .entry))) .count) ⌝ }
+    ensures count { λ _. ⌜ now (count .exit) ≡ put-unless-refused (search-memory (now (mem .entry)) (now (q .entry)) (length (now (scratch .entry))) (numbers-of (now (rows .entry))) .refusal) (search-memory (now (mem .entry)) (now (q .entry)) (length (now (scratch .entry))) (numbers-of (now (rows .entry))) .count) (now (count .entry)) ⌝ }
+    ensures scratch { λ _. ⌜ ScratchAfter (search-memory (now (mem .entry)) (now (q .entry)) (length (now (scratch .entry))) (numbers-of (now (rows .entry))) .refusal) (now (scratch .entry)) (now (scratch .exit)) ⌝ }
 {
     let a = string_index::search(mem, q, scratch, rows);
     put_count(count, a)
 }
 
-// How many bytes the image has goes into size; 0 where saving is refused.
+// How many bytes the image has goes into size; a save that is refused leaves it.
 #[no_mangle]
 pub extern "C" fn helmapricot_save(mem: &[u8], out: &mut [u8], size: &mut [u64; 1]) -> u64
     ensures answer { λ r. ⌜ r ≡ save-memory (now (mem .entry)) (now (out .entry)) .refusal ⌝ }
     ensures out { λ _. ⌜ now (out .exit) ≡ save-memory (now (mem .entry)) (now (out .entry)) .buffer ⌝ }
-    ensures size { λ _. ⌜ now (size .exit) ≡ set (now (size .entry)) 0 (save-memory (now (mem .entry)) (now (out .entry)) .size) ⌝ }
+    ensures size { λ _. ⌜ now (size .exit) ≡ put-unless-refused (save-memory (now (mem .entry)) (now (out .entry)) .refusal) (save-memory (now (mem .entry)) (now (out .entry)) .size) (now (size .entry)) ⌝ }
 {
     match string_index::save(mem, out) {
         Saved::Bytes(n) => {
             size[0] = n as u64;
             0
         }
-        Saved::Refused(n) => {
-            size[0] = 0;
-            n
-        }
+        Saved::Refused(n) => n,
     }
 }
 
@@ -156,38 +154,35 @@ pub extern "C" fn helmapricot_load(mem: &mut [u8], img: &[u8]) -> u64
 }
 
 // Writes what is known of a block, with the length of its data.
-fn put_fields(fields: &mut [u64; 7], b: Block, length: u64)
-    ensures { λ _. ⌜ now (fields .exit) ≡ sets (now (fields .entry)) 0 (1 ∷ b .kind ∷ b .address ∷ length ∷ b .«created_at» ∷ b .«destroyed_at» ∷ b .next ∷ []) ⌝ }
+fn put_fields(fields: &mut [u64; 7], b: Block)
+    requires { ⌜ b .start ≤ b .next ⌝ }
+    ensures { λ _. ⌜ now (fields .exit) ≡ sets (now (fields .entry)) 0 (1 ∷ b .kind ∷ b .address ∷ (b .next - b .start) ∷ b .«created_at» ∷ b .«destroyed_at» ∷ b .next ∷ []) ⌝ }
 {
     fields[0] = 1;
     fields[1] = b.kind as u64;
     fields[2] = b.address;
-    fields[3] = length;
+    fields[3] = (b.next - b.start) as u64;
     fields[4] = b.created_at;
     fields[5] = b.destroyed_at;
     fields[6] = b.next as u64;
 }
 
 // The block of a stream at a cursor: 1, its kind, address, length, ticks, and the cursor behind it go into fields.
-// The data are the bytes before that cursor. Where there is no block, the first field is 0.
+// The data are the bytes before that cursor. At the stream's end the first field is 0; a refusal leaves them all.
 #[no_mangle]
 pub extern "C" fn helmapricot_read_block(s: &[u8], at: usize, fields: &mut [u64; 7]) -> u64
     ensures answer { λ r. ⌜ r ≡ stream-number (read-block (now (s .entry)) at) ⌝ }
     ensures fields { λ _. ⌜ now (fields .exit) ≡ with-fields (read-block (now (s .entry)) at) (now (fields .entry)) ⌝ }
 {
-    let length = block_stream::block_data(s, at).len() as u64;
     match block_stream::read_block(s, at) {
         Read::Block(b) => {
-            put_fields(fields, b, length);
+            put_fields(fields, b);
             0
         }
         Read::End => {
             fields[0] = 0;
             0
         }
-        Read::Refused(n) => {
-            fields[0] = 0;
-            n
-        }
+        Read::Refused(n) => n,
     }
 }

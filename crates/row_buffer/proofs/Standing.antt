@@ -1,4 +1,4 @@
--- Rows written over the places that they were made of: they fit there, and are read back. Assumes nothing.
+-- Rows written to the front of the bytes that their places stand in: they fit there, and are read back. Assumes nothing.
 use Prim.Native.Nat.{ℕ, zero, suc, _+_, _*_, _≤_, _<_}
 use native.Mathlib.Omega.{arith}
 use mathlib.Core.Path.{_≡_, refl, ap, _∙_}
@@ -70,15 +70,15 @@ stand (l ∷ ls) s at f h =
     rw (e, first, rest)
 
 module _ (s : List ℕ) (n at : ℕ) (h : at + n * 24 ≤ length s) where
-  -- the rows have room where the places stand
-  pub rows-fit : at + length (combine-split-times (locations-in s n at)) * 24 ≤ length s
+  -- the rows have room at the front
+  pub rows-fit : length (combine-split-times (locations-in s n at)) * 24 ≤ length s
   rows-fit = omega (arith, rows-few (locations-in s n at), length-locations n s at)
 
   -- once they are written there, they are read back
   pub rows-stand : ((k : ℕ) → getD s k 0 < 256)
-      → locations-in (sets s at (locations-bytes (combine-split-times (locations-in s n at)))) (length (combine-split-times (locations-in s n at))) at ≡ combine-split-times (locations-in s n at)
-  rows-stand b = stand (combine-split-times (locations-in s n at)) s at (rows-all-fit (locations-in s n at) (read-fit n s at b)) rows-fit
+      → locations-in (sets s 0 (locations-bytes (combine-split-times (locations-in s n at)))) (length (combine-split-times (locations-in s n at))) 0 ≡ combine-split-times (locations-in s n at)
+  rows-stand b = stand (combine-split-times (locations-in s n at)) s 0 (rows-all-fit (locations-in s n at) (read-fit n s at b)) (omega (arith, rows-fit))
 
   -- and the length stays
-  pub rows-kept : length (sets s at (locations-bytes (combine-split-times (locations-in s n at)))) ≡ length s
-  rows-kept = length-sets s at (locations-bytes (combine-split-times (locations-in s n at)))
+  pub rows-kept : length (sets s 0 (locations-bytes (combine-split-times (locations-in s n at)))) ≡ length s
+  rows-kept = length-sets s 0 (locations-bytes (combine-split-times (locations-in s n at)))

@@ -1,4 +1,4 @@
-// Rows: places with lives that touch, joined. They are counted, or joined where they stand.
+// Rows: places with lives that touch, joined.
 use location::SpacetimeLocation;
 ghost use mathlib.Core.Path.{_≡_};
 ghost use Prim.Native.Nat.{_+_, _*_, _≤_, _<_};
@@ -40,23 +40,6 @@ fn row_end(scratch: &[u8], at: usize, n: usize) -> usize
     u
 }
 
-// How many rows the n places from byte at on make.
-pub fn count_rows(scratch: &[u8], at: usize, n: usize) -> usize
-    requires { ⌜ at + n * 24 ≤ length (now scratch) ⌝ }
-    ensures { λ r. ⌜ r ≡ length (combine-split-times (locations-in (now (scratch .entry)) n at)) ⌝ }
-{
-    let mut p = at;
-    let mut left = n;
-    let mut count = 0;
-    while 0 < left {
-        let k = row_end(scratch, p, left);
-        p += k * 24;
-        left -= k;
-        count += 1;
-    }
-    count
-}
-
 // Writes the row of the places from byte p to byte q on to byte w: the first one's address and creation, and the last one's end.
 fn put_row(scratch: &mut [u8], p: usize, q: usize, w: usize)
     requires { ⌜ (p + 24 ≤ length (now scratch)) × (q + 24 ≤ length (now scratch)) × (w + 24 ≤ length (now scratch)) ⌝ }
@@ -70,18 +53,19 @@ fn put_row(scratch: &mut [u8], p: usize, q: usize, w: usize)
     location::put_location(scratch, w, row);
 }
 
-// Joins the n places from byte at on where they stand: their rows come to stand from byte at on. Answers how many they are.
+// Joins the n places from byte at on: their rows come to stand at the front of scratch. Answers how many they are.
+// A row is written where a place was read before: there are never more rows than places passed.
 pub fn combine_split_times(scratch: &mut [u8], at: usize, n: usize) -> usize
     requires { ⌜ at + n * 24 ≤ length (now scratch) ⌝ }
     ensures count { λ r. ⌜ r ≡ length (combine-split-times (locations-in (now (scratch .entry)) n at)) ⌝ }
-    ensures bytes { λ _. ⌜ now (scratch .exit) ≡ sets (now (scratch .entry)) at (locations-bytes (combine-split-times (locations-in (now (scratch .entry)) n at))) ⌝ }
+    ensures bytes { λ _. ⌜ now (scratch .exit) ≡ sets (now (scratch .entry)) 0 (locations-bytes (combine-split-times (locations-in (now (scratch .entry)) n at))) ⌝ }
 {
     let mut p = at;
     let mut left = n;
     let mut count = 0;
     while 0 < left {
         let k = row_end(scratch, p, left);
-        put_row(scratch, p, p + (k - 1) * 24, at + count * 24);
+        put_row(scratch, p, p + (k - 1) * 24, count * 24);
         p += k * 24;
         left -= k;
         count += 1;

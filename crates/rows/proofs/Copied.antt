@@ -13,18 +13,18 @@ use Rattle.rows.specs.Rows.{row-of, rows-of}
 pub row-path : {a b d x y z : ℕ} → a ≡ x → b ≡ y → d ≡ z → _≡_ {A = Row} (record { address = a; «created_at» = b; «destroyed_at» = d }) (record { address = x; «created_at» = y; «destroyed_at» = z })
 row-path e f g = λ i. record { address = e i; «created_at» = f i; «destroyed_at» = g i }
 
--- row i of those that stand in bytes from index at on
-abbrev pub row-in : List ℕ → ℕ → ℕ → Row
-row-in s at i = row-of (location-at s (at + i * 24))
+-- row i of those at the front of bytes
+abbrev pub row-in : List ℕ → ℕ → Row
+row-in s i = row-of (location-at s (i * 24))
 
 -- the first n rows replaced
-abbrev pub copied : List Row → List ℕ → ℕ → ℕ → List Row
-copied rows s at zero = rows
-copied rows s at (suc n) = set (copied rows s at n) n (row-in s at n)
+abbrev pub copied : List Row → List ℕ → ℕ → List Row
+copied rows s zero = rows
+copied rows s (suc n) = set (copied rows s n) n (row-in s n)
 
-pub length-copied : (rows : List Row) (s : List ℕ) (at n : ℕ) → length (copied rows s at n) ≡ length rows
-length-copied rows s at zero = refl
-length-copied rows s at (suc n) = length-set (copied rows s at n) n (row-in s at n) ∙ length-copied rows s at n
+pub length-copied : (rows : List Row) (s : List ℕ) (n : ℕ) → length (copied rows s n) ≡ length rows
+length-copied rows s zero = refl
+length-copied rows s (suc n) = length-set (copied rows s n) n (row-in s n) ∙ length-copied rows s n
 
 module _ (s : List ℕ) where
   length-rows : (n at : ℕ) → length (rows-of (locations-in s n at)) ≡ n
@@ -33,7 +33,7 @@ module _ (s : List ℕ) where
   length-rows (suc n) at = ap suc (length-rows n (at + 24))
 
   -- one row more
-  rows-more : (n at : ℕ) → rows-of (locations-in s (suc n) at) ≡ rows-of (locations-in s n at) ++ (row-in s at n ∷ [])
+  rows-more : (n at : ℕ) → rows-of (locations-in s (suc n) at) ≡ rows-of (locations-in s n at) ++ (row-of (location-at s (at + n * 24)) ∷ [])
   unfolding rows-of locations-in
   rows-more zero at =
       let e : at + 0 * 24 ≡ at = omega arith in
@@ -42,13 +42,14 @@ module _ (s : List ℕ) where
       let e : at + 24 + n * 24 ≡ at + suc n * 24 = omega arith in
       ap (λ (rs : List Row). row-of (location-at s at) ∷ rs) (rows-more n (at + 24) ∙ rw e refl)
 
-  pub copied-is : (rows : List Row) (at n : ℕ) → n ≤ length rows → copied rows s at n ≡ rows-of (locations-in s n at) ++ drop n rows
+  pub copied-is : (rows : List Row) (n : ℕ) → n ≤ length rows → copied rows s n ≡ rows-of (locations-in s n 0) ++ drop n rows
   unfolding rows-of locations-in
-  copied-is rows at zero h = refl
-  copied-is rows at (suc n) h =
-      let first : List Row = rows-of (locations-in s n at) in
-      let y : Row = row-in s at n in
-      ap (λ (l : List Row). set l n y) (copied-is rows at n (omega arith) ∙ ap (λ (l : List Row). first ++ l) (drop-cons rows n y (omega arith)))
-      ∙ set-at first _ (drop (suc n) rows) y n (length-rows n at)
+  copied-is rows zero h = refl
+  copied-is rows (suc n) h =
+      let first : List Row = rows-of (locations-in s n 0) in
+      let y : Row = row-in s n in
+      let e : 0 + n * 24 ≡ n * 24 = omega arith in
+      ap (λ (l : List Row). set l n y) (copied-is rows n (omega arith) ∙ ap (λ (l : List Row). first ++ l) (drop-cons rows n y (omega arith)))
+      ∙ set-at first _ (drop (suc n) rows) y n (length-rows n 0)
       ∙ sym (append-snoc first y (drop (suc n) rows))
-      ∙ ap (λ (l : List Row). l ++ drop (suc n) rows) (sym (rows-more n at))
+      ∙ ap (λ (l : List Row). l ++ drop (suc n) rows) (sym (rows-more n 0 ∙ ap (λ (p : ℕ). first ++ (row-of (location-at s p) ∷ [])) e))

@@ -26,14 +26,14 @@ fn row_at(s: &[u8], p: usize) -> Row
     }
 }
 
-// Hands over the n rows that stand in bytes from index at on. Rows after the last are left as they are.
-pub fn put_rows(rows: &mut [Row], from: &[u8], at: usize, n: usize)
-    requires { ⌜ (n ≤ length (now rows)) × (at + n * 24 ≤ length (now from)) ⌝ }
-    ensures { λ _. ⌜ now (rows .exit) ≡ rows-of (locations-in (now (from .entry)) n at) ++ drop n (now (rows .entry)) ⌝ }
+// Hands over the n rows at the front of bytes. Rows after the last are left as they are.
+pub fn put_rows(rows: &mut [Row], from: &[u8], n: usize)
+    requires { ⌜ (n ≤ length (now rows)) × (n * 24 ≤ length (now from)) ⌝ }
+    ensures { λ _. ⌜ now (rows .exit) ≡ rows-of (locations-in (now (from .entry)) n 0) ++ drop n (now (rows .entry)) ⌝ }
 {
     let mut i = 0;
     while i < n {
-        rows[i] = row_at(from, at + i * 24);
+        rows[i] = row_at(from, i * 24);
         i = i + 1;
     }
 }

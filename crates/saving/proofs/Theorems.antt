@@ -145,9 +145,9 @@ load-of-saved m m′ buffer c c′ t l e r h w =
 pub image-refusal : ImageRefusal
 image-refusal s n e = subst InLayout e (check-in s)
 
-save-refused : (o : Option Cause) (s buffer : List ℕ) → (saved-or-refused o s buffer .refusal ≡ 0 → ⊥) → (saved-or-refused o s buffer .buffer ≡ buffer) × (saved-or-refused o s buffer .size ≡ 0)
+save-refused : (o : Option Cause) (s buffer : List ℕ) → (saved-or-refused o s buffer .refusal ≡ 0 → ⊥) → saved-or-refused o s buffer .buffer ≡ buffer
 save-refused none s buffer f = absurd (f refl)
-save-refused (some x) s buffer f = (refl, refl)
+save-refused (some x) s buffer f = refl
 
 -- a save's checks on what a memory holds
 abbrev save-cause : Index → List ℕ → Option Cause
@@ -160,11 +160,7 @@ load-leaves m s f =
     refused-leaves (first-cause (load-checks (standing-of (read-index m)) (fault-of (check-image s)) (nodes-in (check-image s)) (entries-in (check-image s)))) m
     (finished-memory m (standing-of (read-index m) .capacity) (trie-in s)) f
 
--- a save that is refused leaves the buffer, and has no bytes
+-- a save that is refused leaves the buffer
 pub save-leaves : (m buffer : List ℕ) → (save-memory m buffer .refusal ≡ 0 → ⊥) → save-memory m buffer .buffer ≡ buffer
 unfolding save-memory
-save-leaves m buffer f = save-refused (save-cause (read-index m) buffer) (image-of (read-index m)) buffer f .0
-
-pub none-saved : (m buffer : List ℕ) → (save-memory m buffer .refusal ≡ 0 → ⊥) → save-memory m buffer .size ≡ 0
-unfolding save-memory
-none-saved m buffer f = save-refused (save-cause (read-index m) buffer) (image-of (read-index m)) buffer f .1
+save-leaves m buffer f = save-refused (save-cause (read-index m) buffer) (image-of (read-index m)) buffer f

@@ -10,6 +10,7 @@ use borrow.Author.Tests.{lt-ltb, le-ltb, eq-eqb}
 use Rattle.definitions.specs.Location.{Location, locations-in, locations-bytes}
 use Rattle.definitions.specs.Places.{first-of, sizes}
 use Rattle.definitions.specs.Rows.{combine-split-times}
+use Rattle.definitions.specs.Causes.{number, scratch-too-small, too-many-rows, cut-short}
 use Rattle.trie.specs.Trie.{Trie, empty, root}
 use Rattle.trie.specs.Rule.{Rule}
 use Rattle.trie.specs.Find.{table-found}
@@ -23,37 +24,35 @@ use Rattle.image.specs.Reading.{RightImage}
 use Rattle.searching.specs.declared.Finding.{Finding}
 use Rattle.searching.specs.Found.{root-of, rooted}
 use Rattle.searching.specs.Layout.{Sound, TableFound}
-use Rattle.searching.specs.Search.{Rows-found, refused, no-rows, Answers, rows-answer, search-answer}
+use Rattle.searching.specs.Search.{Rows-found, refused, finding-of, AtFront, rows-answer, search-answer}
+
+-- what is said of what was found: the finding, and where its rows stand
+abbrev pub Answers : Rows-found → List ℕ → Finding → Type 0
+Answers o s f = (f ≡ finding-of o) × AtFront (o .rows) s
 
 -- nothing is found, or a refusal says why
-pub none-answers : {o : Rows-found} {f : Finding} (s : List ℕ) (n : ℕ) → o ≡ refused n → f ≡ no-rows n → Answers o s f
+pub none-answers : {o : Rows-found} {f : Finding} (s : List ℕ) (n : ℕ) → o ≡ refused n → f ≡ finding-of (refused n) → Answers o s f
 unfolding locations-in
-none-answers {o} {f} s n e g =
-    subst (λ (x : Rows-found). Answers x s f) (sym e)
-    (subst (Answers (refused n) s) (sym g) (record { refused = refl; counted = refl; within = omega arith; stand = refl }))
+none-answers {o} {f} s n e g = subst (λ (x : Rows-found). Answers x s f) (sym e) (g, record { within = omega arith; stand = refl })
 
 -- ── the rows of places ──
 
-pub rows-refused : (rs : List Location) (room : ℕ) (s : List ℕ) {count : ℕ} {f : Finding} → count ≡ length rs → room < count → f ≡ no-rows 11 → Answers (rows-answer rs room) s f
+pub rows-refused : (rs : List Location) (room : ℕ) (s : List ℕ) {count : ℕ} {f : Finding} → count ≡ length rs → room < count → f ≡ finding-of (refused (number too-many-rows)) → Answers (rows-answer rs room) s f
 unfolding rows-answer
-rows-refused rs room s e h g = none-answers s 11 (rw (lt-ltb room (length rs) (omega arith)) refl) g
+rows-refused rs room s e h g = none-answers s (number too-many-rows) (rw (lt-ltb room (length rs) (omega arith)) refl) g
 
--- they are written where the places stood
-pub rows-written : (s : List ℕ) (n at room : ℕ) {count r : ℕ} {s′ : List ℕ} → at + n * 24 ≤ length s → AllBytes s
-    → count ≡ length (combine-split-times (locations-in s n at)) → count ≤ room → r ≡ length (combine-split-times (locations-in s n at))
-    → s′ ≡ sets s at (locations-bytes (combine-split-times (locations-in s n at)))
-    → Answers (rows-answer (combine-split-times (locations-in s n at)) room) s′ (record { refusal = 0; at = at; count = r })
+counted : {c n : ℕ} → c ≡ n → _≡_ {A = Finding} (record { refusal = 0; count = c }) (record { refusal = 0; count = n })
+counted e = λ i. record { refusal = 0; count = e i }
+
+-- they are written to the front
+pub rows-written : (s : List ℕ) (n at room : ℕ) {count : ℕ} {s′ : List ℕ} → at + n * 24 ≤ length s → AllBytes s
+    → count ≡ length (combine-split-times (locations-in s n at)) → count ≤ room → s′ ≡ sets s 0 (locations-bytes (combine-split-times (locations-in s n at)))
+    → Answers (rows-answer (combine-split-times (locations-in s n at)) room) s′ (record { refusal = 0; count = count })
 unfolding rows-answer
-rows-written s n at room {s′ = s′} h b e k f g =
+rows-written s n at room {s′ = s′} h b e k g =
     let rs : List Location = combine-split-times (locations-in s n at) in
     let kept : length s′ ≡ length s = ap length g ∙ rows-kept s n at h in
-    rw (le-ltb room (length rs) (omega arith))
-    (record {
-      refused = refl;
-      counted = f;
-      within = omega (arith, rows-fit s n at h);
-      stand = rw (f, g) (rows-stand s n at h b);
-    })
+    rw (le-ltb room (length rs) (omega arith)) (counted e, record { within = omega (arith, rows-fit s n at h); stand = rw g (rows-stand s n at h b) })
 
 -- ── nothing to find ──
 
@@ -66,7 +65,7 @@ query-empty : (t : Trie) → table-found t [] ≡ []
 query-empty empty = refl
 query-empty (root n) = refl
 
-pub no-query : (t : Trie) (q : List ℕ) (k room : ℕ) (s : List ℕ) {f : Finding} → length q ≡ 0 → f ≡ no-rows 0 → Answers (search-answer t q k room) s f
+pub no-query : (t : Trie) (q : List ℕ) (k room : ℕ) (s : List ℕ) {f : Finding} → length q ≡ 0 → f ≡ finding-of (refused 0) → Answers (search-answer t q k room) s f
 no-query t [] k room s h g = none-answers s 0 (none-answer t [] k room (ap sizes (query-empty t)) (ap first-of (query-empty t))) g
 no-query t (b ∷ q) k room s h g = absurd (omega arith)
 
@@ -83,13 +82,13 @@ zero-empty : (img : List ℕ) → getD img 0 0 ≡ 0 → trie-in img ≡ empty
 unfolding trie-in
 zero-empty img z = rw (eq-eqb (getD img 0 0) 0 z) refl
 
-pub no-index : (img q : List ℕ) (k room : ℕ) (s : List ℕ) {f : Finding} → getD img 0 0 ≡ 0 → f ≡ no-rows 0 → Answers (search-answer (trie-in img) q k room) s f
+pub no-index : (img q : List ℕ) (k room : ℕ) (s : List ℕ) {f : Finding} → getD img 0 0 ≡ 0 → f ≡ finding-of (refused 0) → Answers (search-answer (trie-in img) q k room) s f
 no-index img q k room s z g =
     none-answers s 0 (ap (λ (t : Trie). search-answer t q k room) (zero-empty img z) ∙ none-answer empty q k room (sizes-empty q) (first-empty q)) g
 
 -- ── an image that is right ──
 
-no-bytes : (img : List ℕ) → length img ≡ 0 → R.read-image img ≡ R.refused 13
+no-bytes : (img : List ℕ) → length img ≡ 0 → R.read-image img ≡ R.refused (number cut-short)
 unfolding R.read-image R.read-root
 no-bytes img e = rw (eq-eqb (length img) 0 e) refl
 
@@ -99,7 +98,7 @@ right-long {img} h = go (length img) refl
   where
     go : (k : ℕ) → length img ≡ k → 0 < length img
     go zero e =
-        let f : R.refused 13 ≡ R.right (h .nodes) (h .entries) = sym (no-bytes img e) ∙ h .read in
+        let f : R.refused (number cut-short) ≡ R.right (h .nodes) (h .entries) = sym (no-bytes img e) ∙ h .read in
         absurd (let z : _≡_ {A = ℕ} 0 1 = cc in omega arith)
     go (suc k) e = omega arith
 
@@ -113,9 +112,9 @@ sound-image {img} a l h rule z =
 -- ── the places are found, or have no room ──
 
 module _ {img q s ends s′ : List ℕ} {o : Bool} (sound : Sound img) (f : TableFound (rooted img) q s ends s′ o) where
-  pub places-over : (room : ℕ) (s″ : List ℕ) {g : Finding} → o ≡ true → g ≡ no-rows 10 → Answers (search-answer (trie-in img) q (length s) room) s″ g
+  pub places-over : (room : ℕ) (s″ : List ℕ) {g : Finding} → o ≡ true → g ≡ finding-of (refused (number scratch-too-small)) → Answers (search-answer (trie-in img) q (length s) room) s″ g
   unfolding search-answer
-  places-over room s″ e g = none-answers s″ 10 (rw (sound .trie, lt-ltb (length s / 24) (sizes (table-found (root (rooted img)) q)) (f .over e)) refl) g
+  places-over room s″ e g = none-answers s″ (number scratch-too-small) (rw (sound .trie, lt-ltb (length s / 24) (sizes (table-found (root (rooted img)) q)) (f .over e)) refl) g
 
   module _ (e : o ≡ false) (h : 0 < length q) where
     pub hand-order : getD ends 1 0 ≤ getD ends 0 0

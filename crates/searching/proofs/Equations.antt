@@ -7,6 +7,7 @@ use lib.Dec.{ltb}
 use Rattle.definitions.specs.Blocks.{Piece}
 use Rattle.definitions.specs.Places.{first-of, table, places, sizes, places-counted}
 use Rattle.definitions.specs.Rows.{combine-split-times, rows}
+use Rattle.definitions.specs.Causes.{number, scratch-too-small}
 use Rattle.trie.specs.Trie.{Trie, trie-pieces}
 use Rattle.trie.specs.Rule.{Rule}
 use Rattle.trie.specs.Find.{table-found}
@@ -27,6 +28,6 @@ module _ (t : Trie) (r : Rule t) (q : List ℕ) where
   places-found-counted = ap sizes (table-found-is t r q)
 
   pub answer-by-pieces : (scratch room : ℕ)
-      → search-answer t q scratch room ≡ cond (ltb (scratch / 24) (places-counted (trie-pieces t) q)) (refused 10) (rows-answer (rows (trie-pieces t) q) room)
+      → search-answer t q scratch room ≡ cond (ltb (scratch / 24) (places-counted (trie-pieces t) q)) (refused (number scratch-too-small)) (rows-answer (rows (trie-pieces t) q) room)
   unfolding search-answer
   answer-by-pieces scratch room = rw (places-found-counted, rows-found-are) refl

@@ -18,24 +18,19 @@ ghost use Rattle.place_buffer.specs.Buffer.{Valid, Taken};
 ghost use Rattle.image.specs.Reading.{RightImage};
 ghost use Rattle.searching.specs.Found.{rooted, last-of, ended-lists, ending-lists, along-from};
 ghost use Rattle.searching.specs.Layout.{Sound, lists-of, Listed, EndsNothing, Ending, Reached, starting, LaidOut, EndFound, AllFound, Tabled, TableFound};
-ghost use Rattle.searching.specs.Search.{no-rows, Answers, rows-answer, search-answer};
+ghost use Rattle.searching.specs.Search.{refused, finding-of, AtFront, rows-answer, search-answer};
 
-// What is found: the number of a refusal (0 for none), and count rows, which stand in scratch from byte at on.
+// What is found: the number of a refusal (0 for none), and how many rows stand at the front of scratch.
 pub struct Finding {
     pub refusal: u64,
-    pub at: usize,
     pub count: usize,
 }
 
 // No rows, because of a refusal or, where its number is 0, because there are none.
 pub fn no_rows(refusal: u64) -> Finding
-    ensures { λ r. ⌜ r ≡ no-rows refusal ⌝ }
+    ensures { λ r. ⌜ r ≡ finding-of (refused refusal) ⌝ }
 {
-    Finding {
-        refusal,
-        at: 0,
-        count: 0,
-    }
+    Finding { refusal, count: 0 }
 }
 
 // Joins what ends at the node n, k bytes long, with the places number from to to - 1, which stand before the set.
@@ -312,30 +307,25 @@ fn find_all(img: &[u8], q: &[u8], ends: &mut [usize], scratch: &mut [u8]) -> boo
     find_exactly(img, q, last, ends, scratch)
 }
 
-// The rows of the places number from to to - 1, where those stood. They are counted before one is written.
+// The rows of the places number from to to - 1, at the front of scratch.
 fn hand_over(scratch: &mut [u8], from: usize, to: usize, room: usize) -> Finding
     requires { ⌜ (from ≤ to) × (to * 24 ≤ length (now scratch)) ⌝ }
-    ensures { λ r. ⌜ Answers (rows-answer (combine-split-times (locations-in (now (scratch .entry)) (to - from) (from * 24))) room) (now (scratch .exit)) r ⌝ }
+    ensures found { λ r. ⌜ r ≡ finding-of (rows-answer (combine-split-times (locations-in (now (scratch .entry)) (to - from) (from * 24))) room) ⌝ }
+    ensures rows { λ _. ⌜ AtFront (rows-answer (combine-split-times (locations-in (now (scratch .entry)) (to - from) (from * 24))) room .rows) (now (scratch .exit)) ⌝ }
 {
-    let at = from * 24;
-    let n = to - from;
-    let count = row_buffer::count_rows(scratch, at, n);
+    let count = row_buffer::combine_split_times(scratch, from * 24, to - from);
     if room < count {
         return no_rows(definitions::TOO_MANY_ROWS);
     }
-    let written = row_buffer::combine_split_times(scratch, at, n);
-    Finding {
-        refusal: 0,
-        at,
-        count: written,
-    }
+    Finding { refusal: 0, count }
 }
 
 // The rows of a query of at most 256 bytes in a sound image, where so many rows have room.
 // An empty query has none, nor has an empty index.
 pub fn search_image(img: &[u8], q: &[u8], scratch: &mut [u8], room: usize) -> Finding
     requires { ⌜ RightImage (now img) × Rule (trie-in (now img)) × (length (now q) ≤ 256) ⌝ }
-    ensures { λ r. ⌜ Answers (search-answer (trie-in (now (img .entry))) (now (q .entry)) (length (now (scratch .entry))) room) (now (scratch .exit)) r ⌝ }
+    ensures found { λ r. ⌜ r ≡ finding-of (search-answer (trie-in (now (img .entry))) (now (q .entry)) (length (now (scratch .entry))) room) ⌝ }
+    ensures rows { λ _. ⌜ AtFront (search-answer (trie-in (now (img .entry))) (now (q .entry)) (length (now (scratch .entry))) room .rows) (now (scratch .exit)) ⌝ }
 {
     if q.len() == 0 {
         return no_rows(0);

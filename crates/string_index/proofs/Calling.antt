@@ -3,22 +3,22 @@ use Prim.Native.Nat.{ℕ, _+_, _-_, _≤_, _<_, _^_}
 use mathlib.Core.Path.{_≡_, sym, ap, _∙_, subst}
 use mathlib.Core.List.{List}
 use lib.ListN.{length, take, drop}
-use Rattle.trie.specs.Trie.{trie-pieces}
 use Rattle.trie.specs.Rule.{Rule}
 use Rattle.image.specs.Held.{trie-in}
 use Rattle.image.specs.Reading.{read-image, right, RightImage}
 use Rattle.image.specs.Savable.{AllBytes}
 use Rattle.index_rule.proofs.Theorems.{check-image-is}
 use Rattle.index_memory.specs.Layout.{Header}
-use Rattle.index_memory.specs.Index.{Index, image-part, read-index}
+use Rattle.index_memory.specs.Index.{Index, finished, image-part, read-index}
 use Rattle.finished_memory.proofs.Holds.{part-bytes, part-small}
 use Rattle.inspecting.specs.Held.{RightImage as Tested, ImageIn}
 use Rattle.inspecting.proofs.Facts.{same-part}
-use Rattle.searching.specs.Search.{Answers, search-answer}
+use Rattle.searching.specs.Search.{search-answer}
 use Rattle.searching.specs.declared.Finding.{Finding}
-use Rattle.string_index.specs.Find.{Rows-found, find-pieces}
+use Rattle.searching.proofs.Answering.{Answers}
+use Rattle.string_index.specs.Find.{Rows-found, find-by}
 use Rattle.string_index.specs.Finish.{finish-by, finish-memory}
-use Rattle.string_index.proofs.Finding.{by-pieces}
+use Rattle.string_index.proofs.Finding.{by-pieces, Finds, searched}
 
 -- ── what a memory holds decides ──
 
@@ -50,9 +50,10 @@ module _ (m : List ℕ) (h : Header) (a : AllBytes m) (l : length m < 2 ^ 64) (w
   pub searchable : RightImage (take (64 + h .payload - 64) (drop 64 m)) × Rule (trie-in (take (64 + h .payload - 64) (drop 64 m)))
   searchable = subst (λ (s : List ℕ). RightImage s × Rule (trie-in s)) (sym (same-part m (h .payload))) (right-part, rule-part)
 
-  pub answered-part : (q : List ℕ) (scratch room : ℕ) {s : List ℕ} {f : Finding} → length q ≤ 256
-      → Answers (search-answer (trie-in (take (64 + h .payload - 64) (drop 64 m))) q scratch room) s f → Answers (find-pieces (trie-pieces (trie-in (image-part m h))) q scratch room) s f
-  answered-part q scratch room {s} {f} k e =
-      subst (λ (o : Rows-found). Answers o s f)
-      (ap (λ (x : List ℕ). search-answer (trie-in x) q scratch room) (same-part m (h .payload)) ∙ by-pieces (trie-in (image-part m h)) rule-part q scratch room k)
-      e
+  pub answered-part : (q x s : List ℕ) (room : ℕ) {f : Finding} → length q ≤ 256 → length s ≡ length x
+      → Answers (search-answer (trie-in (take (64 + h .payload - 64) (drop 64 m))) q (length x) room) s f → Finds (find-by (finished (h .capacity) (trie-in (image-part m h))) q (length x) room) x s f
+  answered-part q x s room {f} k e w =
+      searched (h .capacity) (trie-in (image-part m h)) q x s room k e
+      (subst (λ (o : Rows-found). Answers o s f)
+      (ap (λ (y : List ℕ). search-answer (trie-in y) q (length x) room) (same-part m (h .payload)) ∙ by-pieces (h .capacity) (trie-in (image-part m h)) rule-part q (length x) room k)
+      w)

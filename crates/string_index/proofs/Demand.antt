@@ -15,21 +15,22 @@ use Rattle.definitions.specs.Blocks.{Block, Piece, pieces, pieces-of}
 use Rattle.definitions.specs.Places.{places-counted}
 use Rattle.definitions.specs.Rows.{rows}
 use Rattle.definitions.specs.Runs.{RowsAreRuns, Consistent, Query, SameRows, SameHeld}
-use Rattle.definitions.specs.Causes.{Cause, number, query-too-long, scratch-too-small, too-many-rows, Check, first-cause}
-use Rattle.definitions.specs.Calls.{Capacity, Recorded, fresh, query-limit, block-checks}
+use Rattle.definitions.specs.Causes.{Cause, number, scratch-too-small, too-many-rows, Check, first-cause}
+use Rattle.definitions.specs.Calls.{Capacity, Recorded, fresh, query-limit, block-checks, search-checks}
 use Rattle.definitions.specs.Recording.{Sound, after-all, taken}
 use Rattle.definitions.proofs.Chains.{SamePieces, rows-by-set}
+use Rattle.definitions.proofs.Checks.{none-applies, none-refused}
 use Rattle.definitions.proofs.Cutting.{FromBlock, pieces-mem}
 use Rattle.definitions.proofs.Taken.{Right, right-recording, finished-recording, taken-sound, recording-rows, recordings-same}
 use Rattle.trie.specs.Trie.{Trie, trie-pieces}
 use Rattle.trie.specs.Build.{trie-of}
 use Rattle.trie.proofs.BuildRule.{SoundPiece}
 use Rattle.trie.proofs.BuildPieces.{trie-of-pieces}
-use Rattle.index_memory.specs.Index.{Index, opened, finished, read-index}
+use Rattle.index_memory.specs.Index.{Index, opened, finished, standing-of, read-index}
 use Rattle.index_memory.specs.Record.{open-memory, appended}
 use Rattle.row_buffer.specs.Numbers.{row-numbers}
 use Rattle.finished_memory.specs.Finished.{finished-memory}
-use Rattle.string_index.specs.Finish.{Found, query-checks, found-or-refused, search-by, search-memory}
+use Rattle.string_index.specs.Finish.{Found, found-or-refused, search-by, search-memory}
 use Rattle.string_index.specs.Demand.{Fits, Recording, final, taken-in, searched, HandsOver, Exactly, RowsExact, EmptyQuery, OnlyBuffers, Answers, SameAnswers, Demand3}
 use Rattle.string_index.proofs.Follow.{AllFit, holds, Follows, follow-all}
 
@@ -72,37 +73,40 @@ same-numbers (r ∷ rs) (r′ ∷ rs′) e =
 
 -- ── a search of a finished index ──
 
-answered : (ps : List Piece) (q : List ℕ) (scratch : ℕ) (buffer : List ℕ) → length q ≤ query-limit
-    → (found-or-refused (first-cause (query-checks ps q scratch (length buffer))) (rows ps q) buffer .refusal ≡ 0)
-    ⊎ ((found-or-refused (first-cause (query-checks ps q scratch (length buffer))) (rows ps q) buffer .refusal ≡ 10) ⊎ (found-or-refused (first-cause (query-checks ps q scratch (length buffer))) (rows ps q) buffer .refusal ≡ 11))
-answered ps q scratch buffer h = go (ltb query-limit (length q)) (le-ltb query-limit (length q) h) (ltb (scratch / 24) (places-counted ps q)) (ltb (length buffer / 3) (length (rows ps q)))
+-- refused by nothing but the two buffers
+abbrev ByBuffers : ℕ → Type 0
+ByBuffers n = (n ≡ 0) ⊎ ((n ≡ number scratch-too-small) ⊎ (n ≡ number too-many-rows))
+
+answered : (c : Capacity) (t : Trie) (q : List ℕ) (scratch : ℕ) (buffer : List ℕ) → length q ≤ query-limit → ByBuffers (search-by (finished c t) q scratch buffer .refusal)
+answered c t q scratch buffer h = rw (le-ltb query-limit (length q) h) (go (ltb (scratch / 24) (places-counted (trie-pieces t) q)) (ltb (length buffer / 3) (length (rows (trie-pieces t) q))))
   where
-    go : (o₁ : Bool) → o₁ ≡ false → (o₂ o₃ : Bool)
-        → (found-or-refused (cond o₁ (some query-too-long) (cond o₂ (some scratch-too-small) (cond o₃ (some too-many-rows) none))) (rows ps q) buffer .refusal ≡ 0)
-        ⊎ ((found-or-refused (cond o₁ (some query-too-long) (cond o₂ (some scratch-too-small) (cond o₃ (some too-many-rows) none))) (rows ps q) buffer .refusal ≡ 10) ⊎ (found-or-refused (cond o₁ (some query-too-long) (cond o₂ (some scratch-too-small) (cond o₃ (some too-many-rows) none))) (rows ps q) buffer .refusal ≡ 11))
-    go true e o₂ o₃ = absurd (let z : _≡_ {A = ℕ} 0 1 = cc in omega arith)
-    go false e true o₃ = inr (inl refl)
-    go false e false true = inr (inr refl)
-    go false e false false = inl refl
+    go : (o₁ o₂ : Bool) → ByBuffers (found-or-refused (cond o₁ (some scratch-too-small) (cond o₂ (some too-many-rows) none)) (rows (trie-pieces t) q) buffer .refusal)
+    go true o₂ = inr (inl refl)
+    go false true = inr (inr refl)
+    go false false = inl refl
 
 -- an answer: the row count fits, and the rows are handed over
 record Answered (ps : List Piece) (q : List ℕ) (buffer : List ℕ) (f : Found) : Type 0 where
   fits : length (rows ps q) ≤ length buffer / 3
   is : f ≡ record { refusal = 0; count = length (rows ps q); buffer = sets buffer 0 (row-numbers (rows ps q)) }
 
-answer-is : (ps : List Piece) (q : List ℕ) (scratch : ℕ) (buffer : List ℕ) → found-or-refused (first-cause (query-checks ps q scratch (length buffer))) (rows ps q) buffer .refusal ≡ 0 → Answered ps q buffer (found-or-refused (first-cause (query-checks ps q scratch (length buffer))) (rows ps q) buffer)
-answer-is ps q scratch buffer e = go (ltb query-limit (length q)) (ltb (scratch / 24) (places-counted ps q)) (ltb (length buffer / 3) (length (rows ps q))) refl e
+answer-is : (c : Capacity) (t : Trie) (q : List ℕ) (scratch : ℕ) (buffer : List ℕ) → search-by (finished c t) q scratch buffer .refusal ≡ 0 → Answered (trie-pieces t) q buffer (search-by (finished c t) q scratch buffer)
+answer-is c t q scratch buffer e = go (first-cause checks) refl e
   where
-    go : (o₁ o₂ o₃ : Bool) → ltb (length buffer / 3) (length (rows ps q)) ≡ o₃
-        → found-or-refused (cond o₁ (some query-too-long) (cond o₂ (some scratch-too-small) (cond o₃ (some too-many-rows) none))) (rows ps q) buffer .refusal ≡ 0
-        → Answered ps q buffer (found-or-refused (cond o₁ (some query-too-long) (cond o₂ (some scratch-too-small) (cond o₃ (some too-many-rows) none))) (rows ps q) buffer)
-    go true o₂ o₃ i k = absurd (omega arith)
-    go false true o₃ i k = absurd (omega arith)
-    go false false true i k = absurd (omega arith)
-    go false false false i k = record { fits = ltb-false (length buffer / 3) (length (rows ps q)) i; is = refl }
+    ps : List Piece
+    ps = trie-pieces t
 
-room-answers : (ps : List Piece) (q : List ℕ) (scratch : ℕ) (buffer : List ℕ) → length q ≤ query-limit → 24 * places-counted ps q ≤ scratch → 3 * length (rows ps q) ≤ length buffer → found-or-refused (first-cause (query-checks ps q scratch (length buffer))) (rows ps q) buffer .refusal ≡ 0
-room-answers ps q scratch buffer h k l = rw (le-ltb query-limit (length q) h, le-ltb (scratch / 24) (places-counted ps q) (omega arith), le-ltb (length buffer / 3) (length (rows ps q)) (omega arith))
+    checks : List Check
+    checks = search-checks (standing-of (finished c t)) q (scratch / 24) (length buffer / 3)
+
+    go : (o : Option Cause) → first-cause checks ≡ o → found-or-refused o (rows ps q) buffer .refusal ≡ 0 → Answered ps q buffer (found-or-refused o (rows ps q) buffer)
+    go none i k = record { fits = ltb-false (length buffer / 3) (length (rows ps q)) (none-applies checks i .1 .1 .1 .1 .0); is = refl }
+    go (some x) i k =
+        let n : some x ≡ none = none-refused (some x) k in
+        absurd (let z : _≡_ {A = ℕ} 0 1 = cc in omega arith)
+
+room-answers : (c : Capacity) (t : Trie) (q : List ℕ) (scratch : ℕ) (buffer : List ℕ) → length q ≤ query-limit → 24 * places-counted (trie-pieces t) q ≤ scratch → 3 * length (rows (trie-pieces t) q) ≤ length buffer → search-by (finished c t) q scratch buffer .refusal ≡ 0
+room-answers c t q scratch buffer h k l = rw (le-ltb query-limit (length q) h, le-ltb (scratch / 24) (places-counted (trie-pieces t) q) (omega arith), le-ltb (length buffer / 3) (length (rows (trie-pieces t) q)) (omega arith))
 
 module _
     (opened-fresh : (m : List ℕ) (c : Capacity) → open-memory m c .refusal ≡ 0 → read-index (open-memory m c .memory) ≡ opened c [])
@@ -121,9 +125,12 @@ module _
       w : Follows c (read-appended c) (read-finished c) (after-all c fresh (r .calls)) (final r)
       w = follow-all c (read-appended c) (read-finished c) fresh (open-memory (r .memory) c .memory) (r .calls) (r .fit) start
 
-  -- the pieces of that trie
+  -- that trie, and its pieces
+  abbrev ended : Recording → Trie
+  ended r = trie-of (pieces-of (taken-in r))
+
   abbrev held : Recording → List Piece
-  held r = trie-pieces (trie-of (pieces-of (taken-in r)))
+  held r = trie-pieces (ended r)
 
   held-same : (r : Recording) → SamePieces (held r) (pieces-of (taken-in r))
   held-same r = trie-of-pieces (pieces-of (taken-in r)) (piece-sound (taken-in r) (λ b h. taken-sound (r .capacity) (r .calls) b h))
@@ -131,14 +138,14 @@ module _
   rows-same : (r : Recording) (q : List ℕ) → rows (held r) q ≡ rows (pieces-of (taken-in r)) q
   rows-same r q = rows-by-set (held r) (pieces-of (taken-in r)) (held-same r) q
 
-  searched-is : (r : Recording) (q : List ℕ) (scratch : ℕ) (buffer : List ℕ) → searched r q scratch buffer ≡ found-or-refused (first-cause (query-checks (held r) q scratch (length buffer))) (rows (held r) q) buffer
+  searched-is : (r : Recording) (q : List ℕ) (scratch : ℕ) (buffer : List ℕ) → searched r q scratch buffer ≡ search-by (finished (r .capacity) (ended r)) q scratch buffer
   unfolding search-memory
   searched-is r q scratch buffer = ap (λ (x : Index). search-by x q scratch buffer) (final-holds r)
 
   hands-over : (r : Recording) (q : List ℕ) (scratch : ℕ) (buffer : List ℕ) → searched r q scratch buffer .refusal ≡ 0 → HandsOver (searched r q scratch buffer) (rows (pieces-of (taken-in r)) q)
   hands-over r q scratch buffer e =
       let i = searched-is r q scratch buffer in
-      let a = answer-is (held r) q scratch buffer (sym (ap (λ (f : Found). f .refusal) i) ∙ e) in
+      let a = answer-is (r .capacity) (ended r) q scratch buffer (sym (ap (λ (f : Found). f .refusal) i) ∙ e) in
       let j : searched r q scratch buffer ≡ record { refusal = 0; count = length (rows (held r) q); buffer = sets buffer 0 (row-numbers (rows (held r) q)) } = i ∙ a .is in
       let h : HandsOver (searched r q scratch buffer) (rows (held r) q) = record {
         count = ap (λ (f : Found). f .count) j;
@@ -161,14 +168,14 @@ module _
   unfolding row-numbers
   empty-query r scratch buffer =
       let i = searched-is r [] scratch buffer in
-      let z : _≡_ {A = Found} (found-or-refused (first-cause (query-checks (held r) [] scratch (length buffer))) (rows (held r) []) buffer) (record { refusal = 0; count = 0; buffer = buffer }) = rw (le-ltb (scratch / 24) 0 (omega arith), le-ltb (length buffer / 3) 0 (omega arith)) in
+      let z : _≡_ {A = Found} (search-by (finished (r .capacity) (ended r)) [] scratch buffer) (record { refusal = 0; count = 0; buffer = buffer }) = rw (le-ltb (scratch / 24) 0 (omega arith), le-ltb (length buffer / 3) 0 (omega arith)) in
       (ap (λ (f : Found). f .refusal) (i ∙ z), ap (λ (f : Found). f .count) (i ∙ z), ap (λ (f : Found). f .buffer) (i ∙ z))
 
   only-buffers : (r : Recording) → OnlyBuffers r
-  only-buffers r q w scratch buffer = subst (λ (f : Found). (f .refusal ≡ 0) ⊎ ((f .refusal ≡ 10) ⊎ (f .refusal ≡ 11))) (sym (searched-is r q scratch buffer)) (answered (held r) q scratch buffer (w .short))
+  only-buffers r q w scratch buffer = subst (λ (f : Found). ByBuffers (f .refusal)) (sym (searched-is r q scratch buffer)) (answered (r .capacity) (ended r) q scratch buffer (w .short))
 
   answers : (r : Recording) → Answers r
-  answers r q w = (24 * places-counted (held r) q, 3 * length (rows (held r) q), λ scratch buffer h k. ap (λ (f : Found). f .refusal) (searched-is r q scratch buffer) ∙ room-answers (held r) q scratch buffer (w .short) h k)
+  answers r q w = (24 * places-counted (held r) q, 3 * length (rows (held r) q), λ scratch buffer h k. ap (λ (f : Found). f .refusal) (searched-is r q scratch buffer) ∙ room-answers (r .capacity) (ended r) q scratch buffer (w .short) h k)
 
   same-rows : (r r′ : Recording) → Consistent (taken-in r) → Consistent (taken-in r′) → SameAnswers r r′ ↔ SameHeld (taken-in r) (taken-in r′)
   same-rows r r′ c c′ = ((λ s. main .0 (to s)), λ h. fro (main .1 h))

@@ -2,7 +2,7 @@
 -- The walk is over the MIR of `search` with the engine's name for a parameter. All that it knows of the three is that each meets its contract.
 -- Assumes nothing.
 use mathlib.Core.Path.{_≡_, refl, sym, ap, subst}
-use Prim.Native.Nat.{ℕ, _+_, _*_, _≤_}
+use Prim.Native.Nat.{ℕ, _*_, _≤_}
 use mathlib.Core.List.{List, [], _∷_}
 use lib.Dec.{T as Holds}
 use lib.ListN.{length}
@@ -16,7 +16,7 @@ use prog.Memory.{Memory}
 use prog.Routine.{Routine}
 use prog.Wp.{Heap, Calls, Loops, WpFn, Tables}
 use ghost.Atoms.{Atoms, sem}
-use contract.Monad.{Fun, fact, factI}
+use contract.Monad.{Fun, fact, factI, fact-mono, fact-use}
 use contract.Lifetimes.{AllOutlive, Lfts}
 use sound.WpLaws.{FmC, fmOf, WpFn-mono}
 use types.Kit.{Given, Item, prop, Step, step, ‵, raw, some, later, _⊛_, ⋆, _$_, _∵_, !, qed, by, move, keep, drop, group, use0, use1, use2, use3, split, join, pick, rewrite, fsplit, fjoin, feqL, suffices, frame, await, done}
@@ -73,9 +73,9 @@ ER = E.the-row
 
 -- ── the engine, and what a call says by it ──
 
--- the rows after a call: those that stand in bytes s from index at on over the first ones
-abbrev pub rows-after : List ℕ → ℕ → ℕ → List Row → List Row
-rows-after s count at rows = rows-of (locations-in s count at) ++ dropped count rows
+-- the rows after a call: those at the front of bytes s over the first ones
+abbrev pub rows-after : List ℕ → ℕ → List Row → List Row
+rows-after s count rows = rows-of (locations-in s count 0) ++ dropped count rows
 
 -- ── the MIR, with the engine's name for a parameter ──
 
@@ -95,7 +95,7 @@ body engine =
     seq (assign (place 11 []) (aggregate (copy (place 10 []) ∷ copy (place 4 (field 1 ∷ [])) ∷ []))) (
     seq (assign (place 12 []) (addrOf (place 3 (field 0 ∷ deref (tyInt w8) ∷ [])))) (
     seq (assign (place 13 []) (aggregate (copy (place 12 []) ∷ copy (place 3 (field 1 ∷ [])) ∷ []))) (
-    seq (call #rows·put-rows (copy (place 11 []) ∷ copy (place 13 []) ∷ copy (place 5 (field 1 ∷ [])) ∷ copy (place 5 (field 2 ∷ [])) ∷ []) (place 9 [])) (
+    seq (call #rows·put-rows (copy (place 11 []) ∷ copy (place 13 []) ∷ copy (place 5 (field 1 ∷ [])) ∷ []) (place 9 [])) (
     seq (call #string-index·answer-of (copy (place 5 []) ∷ []) (place 0 [])) return)))))))))
 
 abbrev pub function : Name → Fn
@@ -133,22 +133,24 @@ ended = record {
   kept = (yes, (yes, (yes, (yes, tt))));
 }
 
--- the engine's name, and what it ensures of memory, query, the count of scratch, the room, scratch afterwards and what it found;
--- what the call ensures, as its own contract has it, and that the one gives the other
+-- the engine's name; what it ensures of memory, query, scratch before, the room, scratch afterwards and what it found, as its own
+-- contract has it and as a fact; what the call ensures, as its own contract has it, and that the one gives the other
 pub record Engine {M : Type 1} (𝓤 : URA M) : Type 2 where
   pub name : Name
-  pub Found : List ℕ → List ℕ → ℕ → ℕ → List ℕ → Finding → Type 0
-  pub able : (m q : List ℕ) (n room : ℕ) (s : List ℕ) (h : Finding) → Found m q n room s h → (h .count ≤ room) × (h .at + h .count * 24 ≤ length s)
+  pub Says : List ℕ → List ℕ → List ℕ → ℕ → List ℕ → Finding → SProp 𝓤
+  pub Found : List ℕ → List ℕ → List ℕ → ℕ → List ℕ → Finding → Type 0
+  pub meant : (m q x : List ℕ) (room : ℕ) (s : List ℕ) (h : Finding) → ent 𝓤 (Says m q x room s h) (fact 𝓤 (Found m q x room s h))
+  pub able : (m q x : List ℕ) (rows : List Row) (s : List ℕ) (h : Finding) → Found m q x (length rows) s h → (h .count ≤ length rows) × (h .count * 24 ≤ length s)
   pub Ensures : (κs : Lfts 4) → Args (ended .signature) κs → Answer → AtExit ended κs → SProp 𝓤
-  pub told : (κs : Lfts 4) (m q x : RefT (List ℕ)) (w : RefT (List Row)) (s : List ℕ) (h : Finding) → Found (m .now) (q .now) (length (x .now)) (length (w .now)) s h
-      → ent 𝓤 (emp 𝓤) (Ensures κs (m, (q, (x, (w, tt)))) (answer-as (h .refusal) (h .count)) (atExit ended κs (m, (q, (x, (w, tt)))) (tt, (tt, (s, (rows-after s (h .count) (h .at) (w .now), tt))))))
+  pub told : (κs : Lfts 4) (m q x : RefT (List ℕ)) (w : RefT (List Row)) (s : List ℕ) (h : Finding) → Found (m .now) (q .now) (x .now) (length (w .now)) s h
+      → ent 𝓤 (emp 𝓤) (Ensures κs (m, (q, (x, (w, tt)))) (answer-as (h .refusal) (h .count)) (atExit ended κs (m, (q, (x, (w, tt)))) (tt, (tt, (s, (rows-after s (h .count) (w .now), tt))))))
 
 module _ {M : Type 1} (𝓤 : URA M) (𝓔 : Engine 𝓤) where
   abbrev pub engine-clauses : Clauses 𝓤 engine-ended
   engine-clauses κs a = record {
     ghost = Unit {0};
     requires = λ _. emp 𝓤;
-    ensures = λ _ h e. fact 𝓤 (𝓔 .Found (a .0 .now) (a .1 .0 .now) (length (a .1 .1 .0 .now)) (a .1 .1 .1 .0) (e .1 .1 .0 .now) h);
+    ensures = λ _ h e. 𝓔 .Says (a .0 .now) (a .1 .0 .now) (a .1 .1 .0 .now) (a .1 .1 .1 .0) (e .1 .1 .0 .now) h;
   }
 
   abbrev pub clauses : Clauses 𝓤 ended
@@ -162,11 +164,15 @@ module _ {M : Type 1} (𝓤 : URA M) (𝓔 : Engine 𝓤) where
 abbrev stayed : Stays (ended .signature .params) (ended .kept)
 stayed = (stay-dropped (shrSliceOf (0 ∷ []) tt (plain (λ _. u8))) yes, (stay-dropped (shrSliceOf (1 ∷ []) tt (plain (λ _. u8))) yes, (stay-slice (2 ∷ []) tt (plain (λ _. u8)), (gave-slice (3 ∷ []) tt (plain (λ _. R)), tt))))
 
--- two clauses that hold
-pub both : {M : Type 1} (𝓤 : URA M) {φ ψ : Type 0} → φ → ψ → ent 𝓤 (emp 𝓤) (sep 𝓤 (fact 𝓤 φ) (fact 𝓤 ψ))
-both 𝓤 {φ} {ψ} x y =
+-- a clause that holds, beside others
+pub beside : {M : Type 1} (𝓤 : URA M) {φ : Type 0} {P : SProp 𝓤} → φ → ent 𝓤 (emp 𝓤) P → ent 𝓤 (emp 𝓤) (sep 𝓤 (fact 𝓤 φ) P)
+beside 𝓤 {φ} x p =
     let E : SProp 𝓤 = emp 𝓤 in
-    via 𝓤 (sep 𝓤 E E) (emp∗ 𝓤 E) (via 𝓤 (sep 𝓤 (fact 𝓤 φ) E) (monoL 𝓤 E (factI 𝓤 φ E x)) (monoR 𝓤 (fact 𝓤 φ) (factI 𝓤 ψ E y)))
+    via 𝓤 (sep 𝓤 E E) (emp∗ 𝓤 E) (via 𝓤 (sep 𝓤 (fact 𝓤 φ) E) (monoL 𝓤 E (factI 𝓤 φ E x)) (monoR 𝓤 (fact 𝓤 φ) p))
+
+-- two clauses as one, the second perhaps of several
+pub together : {M : Type 1} (𝓤 : URA M) {φ ψ : Type 0} {P : SProp 𝓤} → ent 𝓤 P (fact 𝓤 ψ) → ent 𝓤 (sep 𝓤 (fact 𝓤 φ) P) (fact 𝓤 (φ × ψ))
+together 𝓤 {φ} {ψ} {P} p = fact-use 𝓤 φ (fst∗ 𝓤 (fact 𝓤 φ) P) (λ x. via 𝓤 P (snd∗ 𝓤 (fact 𝓤 φ) P) (via 𝓤 (fact 𝓤 ψ) p (fact-mono 𝓤 ψ (φ × ψ) (λ y. (x, y)))))
 
 -- `says` for any contract
 say-all : {M : Type 1} {𝓤 : URA M} {H : Heap 𝓤} {A : Atoms 𝓤} {K : Type 0} {W : Given 𝓤 H A} {Γ : List (Item 𝓤)} → K → {P Q : SProp 𝓤} → ent 𝓤 (emp 𝓤) Q → Step K W Γ (prop P) Γ (prop (sep 𝓤 P Q))
@@ -261,18 +267,18 @@ module _ {M : Type 1} (𝓤 : URA M) (H : Heap 𝓤) (A : Atoms 𝓤) (W : Given
       nothing ! $ move ! (2 ∷ 3 ∷ 4 ∷ 0 ∷ []) $ group ! 4 $ join ! $ frame ! $ nothing ! $ done !
 
   -- `put_rows`, for what was found in the bytes zs
-  abbrev put-arg : GName → List ℕ → Finding → RefT (List Row) × (RefT (List ℕ) × (ℕ × (ℕ × Unit {0})))
-  put-arg δ zs h = (rows, (scratch δ zs, (h .at, (h .count, tt))))
+  abbrev put-arg : GName → List ℕ → Finding → RefT (List Row) × (RefT (List ℕ) × (ℕ × Unit {0}))
+  put-arg δ zs h = (rows, (scratch δ zs, (h .count, tt)))
 
   abbrev to-put : ℕ → GName → List ℕ → Finding → PutRows 𝓤 H A mem run 𝓔 .Ghost
-  to-put ν δ zs h = (((κr, (ν ∷ [], tt)), (qr, (fullShare, tt)), tt, put-arg δ zs h, (vr ∷ [], (vs ∷ [], (vint w64 (h .at) ∷ [], (vint w64 (h .count) ∷ [], tt))))), tt)
+  to-put ν δ zs h = (((κr, (ν ∷ [], tt)), (qr, (fullShare, tt)), tt, put-arg δ zs h, (vr ∷ [], (vs ∷ [], (vint w64 (h .count) ∷ [], tt)))), tt)
 
-  asks-put : (ν : ℕ) (δ : GName) (zs : List ℕ) (h : Finding) → Is FR h (mach h ∷ []) → (h .count ≤ length ys) × (h .at + h .count * 24 ≤ length zs)
+  asks-put : (ν : ℕ) (δ : GName) (zs : List ℕ) (h : Finding) → Is FR h (mach h ∷ []) → (h .count ≤ length ys) × (h .count * 24 ≤ length zs)
       → ent 𝓤 (sep 𝓤 (A .lft κr qr) (sep 𝓤 (A .lft (ν ∷ []) fullShare) (sep 𝓤 (sem 𝓤 H A Rws) (sem 𝓤 H A (Read (ν ∷ []) δ zs (length xs)))))) (PutRows 𝓤 H A mem run 𝓔 .pre (to-put ν δ zs h))
   asks-put ν δ zs h is able =
       let fields = LL.owed F.the-type F′.the-laws h _ is in
       qed W (‵ (flft κr qr) ∷ ‵ (flft (ν ∷ []) fullShare) ∷ ‵ Rws ∷ ‵ (Read (ν ∷ []) δ zs (length xs)) ∷ []) ∵ says ! able $ nothing ! $ move ! (1 ∷ 2 ∷ 0 ∷ []) $ group ! 3 $ frame ! $
-      nothing ! $ owned ! usize (Is usize) (uint-makes 𝓤 H A W w64) (h .count) _ (refl, fields .1 .1 .0 .1) $ fjoin ! $ owned ! usize (Is usize) (uint-makes 𝓤 H A W w64) (h .at) _ (refl, fields .1 .0 .1) $ fjoin ! $
+      nothing ! $ owned ! usize (Is usize) (uint-makes 𝓤 H A W w64) (h .count) _ (refl, fields .1 .0 .1) $ fjoin ! $
       move ! (2 ∷ 0 ∷ []) $ fjoin ! $ move ! (1 ∷ 0 ∷ []) $ fjoin ! $ done !
 
   -- `answer_of`
@@ -283,10 +289,10 @@ module _ {M : Type 1} (𝓤 : URA M) (H : Heap 𝓤) (A : Atoms 𝓤) (W : Given
   asks-answer h is = qed W [] ∵ nothing ! $ owned ! FR (Is FR) ((LL.makes F.the-type F′.the-plain) 𝓤 H A) h _ is $ fjoin ! $ nothing ! $ join ! $ frame ! $ nothing ! $ done !
 
   -- the exit, where h was found, zs is what scratch holds, and the rows are handed over
-  exits : (h : Finding) (u : Val) (zs : List ℕ) → 𝓔 .Found (z .now) (y .now) (length xs) (length ys) zs h → length zs ≡ length xs → length (rows-after zs (h .count) (h .at) ys) ≡ length ys
-      → ent 𝓤 (⋆ 𝓤 H A (‵ (ER .own (answer-as (h .refusal) (h .count)) (u ∷ [])) ∷ ‵ (Scr κs γ zs (length xs)) ∷ ‵ (flft κs qs) ∷ ‵ (flft κr qr) ∷ ‵ (finally R ε (rows-after zs (h .count) (h .at) ys)) ∷ ‵ (flft κq qq) ∷ ‵ (flft κm qm) ∷ [])) (Post u)
+  exits : (h : Finding) (u : Val) (zs : List ℕ) → 𝓔 .Found (z .now) (y .now) xs (length ys) zs h → length zs ≡ length xs → length (rows-after zs (h .count) ys) ≡ length ys
+      → ent 𝓤 (⋆ 𝓤 H A (‵ (ER .own (answer-as (h .refusal) (h .count)) (u ∷ [])) ∷ ‵ (Scr κs γ zs (length xs)) ∷ ‵ (flft κs qs) ∷ ‵ (flft κr qr) ∷ ‵ (finally R ε (rows-after zs (h .count) ys)) ∷ ‵ (flft κq qq) ∷ ‵ (flft κm qm) ∷ [])) (Post u)
   exits h u zs found len len′ =
-      let ys′ : List Row = rows-after zs (h .count) (h .at) ys in
+      let ys′ : List Row = rows-after zs (h .count) ys in
       qed W (‵ (ER .own (answer-as (h .refusal) (h .count)) (u ∷ [])) ∷ ‵ (Scr κs γ zs (length xs)) ∷ ‵ (flft κs qs) ∷ ‵ (flft κr qr) ∷ ‵ (finally R ε ys′) ∷ ‵ (flft κq qq) ∷ ‵ (flft κm qm) ∷ []) ∵
       suffices ! _ (ends-at 𝓤 H A ended stayed (clauses 𝓤 𝓔) W bound u (answer-as (h .refusal) (h .count)) (tt, (tt, (zs, (ys′, tt)))) (tt, (tt, (len, (len′, tt))))) $ say-all ! (𝓔 .told (κm, (κq, (κs, (κr, tt)))) z y (scratch γ xs) rows zs h found) $
       nothing ! $ move ! (7 ∷ 6 ∷ 3 ∷ 4 ∷ 0 ∷ []) $ group ! 5 $ frame ! $
@@ -320,8 +326,8 @@ module _ {M : Type 1} (𝓤 : URA M) (H : Heap 𝓤) (A : Atoms 𝓤) (W : Given
         -- [its pre; what is kept of scratch; _13; …; _0; …; rows; rows' token]
         calls-at ! fm (Find 𝓤 H A mem run 𝓔) known-find (to-find ν δ) (and-then ! (load ! (from ! (stop !)) (look ! 26 refl)) (and-then ! (load ! (from ! (stop !)) (look ! 24 refl)) (and-then ! (load ! (from ! (stop !)) (look ! 14 refl)) (and-then ! (load ! (from ! (stop !)) (look ! 12 refl)) (no-more !))))) (λ v.
         use1 W (later (some (λ (h : Finding). ((‵ (flft κm qm) ⊛ ‵ (flft κq qq) ⊛ ‵ (flft (ν ∷ []) fullShare) ⊛ ‵ ftrue) ⊛ ‵ (FR .own h (v ∷ []))) ⊛ raw (ensured 𝓤 H A engine-ended (engine-clauses 𝓤 𝓔) (κm, (κq, (ν ∷ [], tt))) (find-arg δ) tt h)))) (id⊢ 𝓤 _) $ await ! tt $ pick ! (λ h.
-        split ! $ move ! (1 ∷ []) $ use1 W (some (λ (ws : Unit {0} × (Unit {0} × (List ℕ × (Unit {0} × Unit {0})))). ‵ (lasts engine-ended (κm, (κq, (ν ∷ [], tt))) (find-arg δ) ws) ⊛ raw (fact 𝓤 (𝓔 .Found (z .now) (y .now) (length xs) (length ys) (ws .1 .1 .0) h)))) (id⊢ 𝓤 _) $ pick ! (λ ws.
-        split ! $ move ! (1 ∷ []) $ heard ! (𝓔 .Found (z .now) (y .now) (length xs) (length ys) (ws .1 .1 .0) h) (λ found.
+        split ! $ move ! (1 ∷ []) $ use1 W (some (λ (ws : Unit {0} × (Unit {0} × (List ℕ × (Unit {0} × Unit {0})))). ‵ (lasts engine-ended (κm, (κq, (ν ∷ [], tt))) (find-arg δ) ws) ⊛ raw (𝓔 .Says (z .now) (y .now) xs (length ys) (ws .1 .1 .0) h))) (id⊢ 𝓤 _) $ pick ! (λ ws.
+        split ! $ move ! (1 ∷ []) $ use1 W (raw (fact 𝓤 (𝓔 .Found (z .now) (y .now) xs (length ys) (ws .1 .1 .0) h))) (𝓔 .meant (z .now) (y .now) xs (length ys) (ws .1 .1 .0) h) $ heard ! (𝓔 .Found (z .now) (y .now) xs (length ys) (ws .1 .1 .0) h) (λ found.
         fsplit ! $ drop ! $ fsplit ! $ drop ! $ fsplit ! $ fsplit ! $ move ! (1 ∷ []) $ feqL ! (λ len.
         -- [the last bytes; …; the tokens and the result; what is kept of scratch; _13; …; _0; …; rows; rows' token]
         move ! (2 ∷ []) $ split ! $ move ! (1 ∷ []) $ peeks ! FR (Is FR) (shows 𝓤 H A FR) h (v ∷ []) (λ is. drop ! $
@@ -341,12 +347,12 @@ module _ {M : Type 1} (𝓤 : URA M) (H : Heap 𝓤) (A : Atoms 𝓤) (W : Given
         use2 W (later (some (λ (δ′ : GName). ‵ (Read (ν′ ∷ []) δ′ (ws .1 .1 .0) (length (ws .1 .1 .0))) ⊛ ‵ (LentToRead u8 κs (ν′ ∷ []) qs γ b o (ws .1 .1 .0))))) (lends-to-read u8 κs (ν′ ∷ []) qs γ b o 𝓤 H A W (named 2) (named 1) (ws .1 .1 .0)) $ await ! tt $ pick ! (λ δ′. split ! $
         rewrite ! 0 (λ (m : ℕ). ‵ (Read (ν′ ∷ []) δ′ (ws .1 .1 .0) m)) len refl $
         -- [scratch as lent; what is kept of it; its token; query's; memory's; _13; …; _0; …; rows; rows' token]
-        move ! (34 ∷ 2 ∷ 33 ∷ 0 ∷ []) $ group ! 4 $ use1 W (raw (PutRows 𝓤 H A mem run 𝓔 .pre (to-put ν′ δ′ (ws .1 .1 .0) h))) (asks-put ν′ δ′ (ws .1 .1 .0) h (subst (λ (us : List Val). Is FR h us) (LL.tells F.the-type F′.the-laws h (v ∷ []) is) is) (𝓔 .able _ _ _ _ _ h found)) $
+        move ! (34 ∷ 2 ∷ 33 ∷ 0 ∷ []) $ group ! 4 $ use1 W (raw (PutRows 𝓤 H A mem run 𝓔 .pre (to-put ν′ δ′ (ws .1 .1 .0) h))) (asks-put ν′ δ′ (ws .1 .1 .0) h (subst (λ (us : List Val). Is FR h us) (LL.tells F.the-type F′.the-laws h (v ∷ []) is) is) (𝓔 .able (z .now) (y .now) xs ys (ws .1 .1 .0) h found)) $
         -- [its pre; what is kept of scratch; query's token; memory's; _13; …; _0; …]
-        calls-at ! fm (PutRows 𝓤 H A mem run 𝓔) known-put (to-put ν′ δ′ (ws .1 .1 .0) h) (and-then ! (load ! (from ! (stop !)) (look ! 8 refl)) (and-then ! (load ! (from ! (stop !)) (look ! 4 refl)) (and-then ! (load ! (from ! (fld ! refl (stop !))) (look-in ! 20 (sub ! 1 refl (whole !)))) (and-then ! (load ! (from ! (fld ! refl (stop !))) (look-in ! 20 (sub ! 2 refl (whole !)))) (no-more !))))) (λ w.
+        calls-at ! fm (PutRows 𝓤 H A mem run 𝓔) known-put (to-put ν′ δ′ (ws .1 .1 .0) h) (and-then ! (load ! (from ! (stop !)) (look ! 8 refl)) (and-then ! (load ! (from ! (stop !)) (look ! 4 refl)) (and-then ! (load ! (from ! (fld ! refl (stop !))) (look-in ! 20 (sub ! 1 refl (whole !)))) (no-more !)))) (λ w.
         use1 W (later (some (λ (u : Unit {0}). ((‵ (flft κr qr) ⊛ ‵ (flft (ν′ ∷ []) fullShare) ⊛ ‵ ftrue) ⊛ ‵ (unit .own u (w ∷ []))) ⊛ raw (ensured 𝓤 H A p.ended (p.clauses 𝓤 H A mem run) (κr, (ν′ ∷ [], tt)) (put-arg δ′ (ws .1 .1 .0) h) tt u)))) (id⊢ 𝓤 _) $ await ! tt $ pick ! (λ u.
-        split ! $ move ! (1 ∷ []) $ use1 W (some (λ (ws′ : List Row × (Unit {0} × (Unit {0} × (Unit {0} × Unit {0})))). ‵ (lasts p.ended (κr, (ν′ ∷ [], tt)) (put-arg δ′ (ws .1 .1 .0) h) ws′) ⊛ raw (fact 𝓤 (ws′ .0 ≡ rows-after (ws .1 .1 .0) (h .count) (h .at) ys)))) (id⊢ 𝓤 _) $ pick ! (λ ws′.
-        split ! $ move ! (1 ∷ []) $ heard ! (ws′ .0 ≡ rows-after (ws .1 .1 .0) (h .count) (h .at) ys) (λ e. fsplit ! $ fsplit ! $ move ! (1 ∷ []) $ feqL ! (λ len′. rewrite ! 0 (λ (l : List Row). ‵ (finally R ε l)) e refl $
+        split ! $ move ! (1 ∷ []) $ use1 W (some (λ (ws′ : List Row × (Unit {0} × (Unit {0} × Unit {0}))). ‵ (lasts p.ended (κr, (ν′ ∷ [], tt)) (put-arg δ′ (ws .1 .1 .0) h) ws′) ⊛ raw (fact 𝓤 (ws′ .0 ≡ rows-after (ws .1 .1 .0) (h .count) ys)))) (id⊢ 𝓤 _) $ pick ! (λ ws′.
+        split ! $ move ! (1 ∷ []) $ heard ! (ws′ .0 ≡ rows-after (ws .1 .1 .0) (h .count) ys) (λ e. fsplit ! $ fsplit ! $ move ! (1 ∷ []) $ feqL ! (λ len′. rewrite ! 0 (λ (l : List Row). ‵ (finally R ε l)) e refl $
         -- [the last rows; …; the tokens and the result; what is kept of scratch; query's token; memory's; _13; …]
         move ! (2 ∷ []) $ split ! $ move ! (1 ∷ []) $ feqL ! (λ is-unit.
         land ! (from ! (stop !)) (init ! 14 refl (subst (λ (t : Val). Holds (hasTy tyUnit t) × WT t) (sym (ap only is-unit)) (tt, tt))) $ split ! $ move ! (1 ∷ []) $ split ! $

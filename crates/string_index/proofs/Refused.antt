@@ -1,5 +1,5 @@
 -- A call that is refused leaves all as it was. Assumes nothing.
-use Prim.Native.Nat.{ℕ}
+use Prim.Native.Nat.{ℕ, _/_}
 use mathlib.Core.Path.{_≡_, refl}
 use mathlib.Core.Bool.{cond}
 use mathlib.Core.List.{List}
@@ -11,14 +11,13 @@ use Rattle.definitions.specs.Location.{Location}
 use Rattle.definitions.specs.Blocks.{Block, pieces, memory-kind}
 use Rattle.definitions.specs.Rows.{rows}
 use Rattle.definitions.specs.Causes.{Cause, first-cause}
-use Rattle.definitions.specs.Calls.{Capacity, open-checks, record-checks, finish-checks}
-use Rattle.trie.specs.Trie.{trie-pieces}
+use Rattle.definitions.specs.Calls.{Capacity, open-checks, record-checks, finish-checks, search-checks}
 use Rattle.index_memory.specs.Layout.{header-bytes}
-use Rattle.index_memory.specs.Index.{Index, broken, opened, finished, standing-of, read-index}
+use Rattle.index_memory.specs.Index.{standing-of, read-index}
 use Rattle.index_memory.specs.Record.{fresh-header, open-memory, appended, record-memory}
 use Rattle.index_memory.proofs.Opening.{refused-leaves}
 use Rattle.saving.proofs.Theorems.{save-leaves, load-leaves}
-use Rattle.string_index.specs.Finish.{finished-by, finish-memory, query-checks, found-or-refused, search-by, search-memory}
+use Rattle.string_index.specs.Finish.{finished-by, finish-memory, found-or-refused, search-memory}
 use Rattle.string_index.specs.Promises.{RefusedLeaves}
 
 open-leaves : (m : List ℕ) (c : Capacity) → (open-memory m c .refusal ≡ 0 → ⊥) → open-memory m c .memory ≡ m
@@ -41,12 +40,8 @@ found-leaves (some c) rs buffer f = refl
 
 search-leaves : (m q : List ℕ) (scratch : ℕ) (buffer : List ℕ) → (search-memory m q scratch buffer .refusal ≡ 0 → ⊥) → search-memory m q scratch buffer .buffer ≡ buffer
 unfolding search-memory
-search-leaves m q scratch buffer = by (read-index m)
-  where
-    by : (i : Index) → (search-by i q scratch buffer .refusal ≡ 0 → ⊥) → search-by i q scratch buffer .buffer ≡ buffer
-    by broken f = refl
-    by (opened c ps) f = refl
-    by (finished c t) f = found-leaves (first-cause (query-checks (trie-pieces t) q scratch (length buffer))) (rows (trie-pieces t) q) buffer f
+search-leaves m q scratch buffer =
+    found-leaves (first-cause (search-checks (standing-of (read-index m)) q (scratch / 24) (length buffer / 3))) (rows (standing-of (read-index m) .pieces) q) buffer
 
 pub all-leave : RefusedLeaves
 all-leave = record { open-leaves = open-leaves; record-leaves = record-leaves; finish-leaves = finish-leaves; search-leaves = search-leaves; save-leaves = save-leaves; load-leaves = load-leaves }

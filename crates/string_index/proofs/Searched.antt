@@ -1,46 +1,66 @@
 -- What a search hands over is what `search-memory` says: from what was found, and the rows put over the first ones. Assumes nothing.
-use Prim.Native.Nat.{ℕ, _/_}
+use Prim.Native.Nat.{ℕ, _*_, _/_, _≤_}
 use native.Mathlib.Omega.{arith}
-use mathlib.Core.Path.{_≡_, sym, ap, _∙_}
+use mathlib.Core.Path.{_≡_, sym, ap, _∙_, subst}
 use mathlib.Core.List.{List, _++_}
 use lib.ListN.{length, drop}
 use lib.Seq.{sets}
 use Rattle.definitions.specs.Location.{Location, locations-in}
+use Rattle.definitions.specs.Causes.{ScratchAfter}
 use Rattle.row_buffer.specs.Numbers.{row-numbers}
 use Rattle.rows.specs.declared.Row.{Row}
 use Rattle.rows.specs.Rows.{rows-of, numbers-of}
 use Rattle.rows.proofs.Numbers.{length-numbers, numbers-put}
-use Rattle.string_index.specs.Find.{Finds, find-memory}
+use Rattle.searching.specs.declared.Finding.{Finding}
+use Rattle.string_index.specs.Find.{find-memory}
 use Rattle.string_index.specs.Finish.{Found, search-memory}
 use Rattle.string_index.specs.Answers.{answer-as}
-use Rattle.string_index.proofs.Finding.{handed-over, search-is-find}
+use Rattle.string_index.proofs.Finding.{Finds, found-fit, handed-over, search-is-find}
 
--- the rows after a search: those that stand in bytes s from index at on over the first ones
-abbrev pub rows-after : List ℕ → ℕ → ℕ → List Row → List Row
-rows-after s count at rows = rows-of (locations-in s count at) ++ drop count rows
+-- the rows after a search: those at the front of bytes s over the first ones
+abbrev pub rows-after : List ℕ → ℕ → List Row → List Row
+rows-after s count rows = rows-of (locations-in s count 0) ++ drop count rows
 
-module _ {m q s : List ℕ} {scratch : ℕ} (rows : List Row) {refusal at count : ℕ} (found : Finds m q scratch (length rows) s refusal at count) where
+module _ (m q x : List ℕ) (rows : List Row) {s : List ℕ} {f : Finding} (found : Finds (find-memory m q (length x) (length rows)) x s f) where
+  ls : List Location
+  ls = find-memory m q (length x) (length rows) .rows
+
+  refused : f .refusal ≡ find-memory m q (length x) (length rows) .refusal
+  refused = ap (λ (g : Finding). g .refusal) (found .0)
+
+  counted : f .count ≡ length ls
+  unfolding ls
+  counted = ap (λ (g : Finding). g .count) (found .0)
+
+  -- the rows have room, and stand in scratch
+  pub able : (f .count ≤ length rows) × (f .count * 24 ≤ length s)
+  unfolding ls
+  able = (omega (arith, counted, found-fit m q (length x) (length rows)), omega (arith, counted, found .1 .0 .within))
+
   buffer : List ℕ
-  buffer = numbers-of (rows-after s count at rows)
+  buffer = numbers-of (rows-after s (f .count) rows)
 
-  handed : numbers-of (rows-after s count at rows) ≡ sets (numbers-of rows) 0 (row-numbers (find-memory m q scratch (length rows) .rows))
+  handed : buffer ≡ sets (numbers-of rows) 0 (row-numbers ls)
+  unfolding ls buffer
   handed =
-      let ls : List Location = find-memory m q scratch (length rows) .rows in
-      ap (λ (l : List Location). numbers-of (rows-of l ++ drop count rows)) (found .stand)
-      ∙ ap (λ (n : ℕ). numbers-of (rows-of ls ++ drop n rows)) (found .counted)
-      ∙ numbers-put ls rows (omega (arith, found .counted, found .fit))
+      ap (λ (n : ℕ). numbers-of (rows-after s n rows)) counted
+      ∙ ap (λ (l : List Location). numbers-of (rows-of l ++ drop (length ls) rows)) (found .1 .0 .stand)
+      ∙ numbers-put ls rows (found-fit m q (length x) (length rows))
 
-  told : search-memory m q scratch (numbers-of rows) ≡ record { refusal = refusal; count = count; buffer = buffer }
-  unfolding buffer
+  told : search-memory m q (length x) (numbers-of rows) ≡ record { refusal = f .refusal; count = f .count; buffer = buffer }
+  unfolding ls
   told =
       let e : length (numbers-of rows) / 3 ≡ length rows = omega (arith, length-numbers rows) in
-      search-is-find m q scratch (numbers-of rows)
-      ∙ ap (λ (room : ℕ). handed-over (find-memory m q scratch room) (numbers-of rows)) e
-      ∙ (λ i. record { refusal = sym (found .refused) i; count = sym (found .counted) i; buffer = sym handed i })
+      search-is-find m q (length x) (numbers-of rows)
+      ∙ ap (λ (room : ℕ). handed-over (find-memory m q (length x) room) (numbers-of rows)) e
+      ∙ (λ i. record { refusal = sym refused i; count = sym counted i; buffer = sym handed i })
 
-  pub answered : answer-as refusal count ≡ answer-as (search-memory m q scratch (numbers-of rows) .refusal) (search-memory m q scratch (numbers-of rows) .count)
-  answered = ap (λ (f : Found). answer-as (f .refusal) (f .count)) (sym told)
+  pub answered : answer-as (f .refusal) (f .count) ≡ answer-as (search-memory m q (length x) (numbers-of rows) .refusal) (search-memory m q (length x) (numbers-of rows) .count)
+  answered = ap (λ (g : Found). answer-as (g .refusal) (g .count)) (sym told)
 
-  pub left : numbers-of (rows-after s count at rows) ≡ search-memory m q scratch (numbers-of rows) .buffer
+  pub left : numbers-of (rows-after s (f .count) rows) ≡ search-memory m q (length x) (numbers-of rows) .buffer
   unfolding buffer
-  left = ap (λ (f : Found). f .buffer) (sym told)
+  left = ap (λ (g : Found). g .buffer) (sym told)
+
+  pub scratch-left : ScratchAfter (search-memory m q (length x) (numbers-of rows) .refusal) x s
+  scratch-left = subst (λ (n : ℕ). ScratchAfter n x s) (sym refused ∙ ap (λ (g : Found). g .refusal) (sym told)) (found .1 .1)

@@ -1,13 +1,11 @@
 -- What the answers of the calls mean. Assumes nothing.
 use Prim.Native.Nat.{ℕ}
 use mathlib.Core.Bool.{cond}
-use mathlib.Core.List.{List}
 use lib.Dec.{eqb}
 use Rattle.string_index.specs.declared.Answer.{Answer}
 use Rattle.string_index.specs.declared.Answer.the-variants.{Rows, Refused}
 use Rattle.string_index.specs.declared.Finished.{Finished}
 use Rattle.string_index.specs.declared.Finished.the-variants.{Done as Finished·Done, Refused as Finished·Refused}
-use Rattle.string_index.specs.Finish.{Found}
 
 -- what finish answers for the number of its refusal, which is 0 where it is not refused
 abbrev pub finished-as : ℕ → Finished
@@ -22,7 +20,7 @@ finished-number (Finished·Refused n) = n
 abbrev pub answer-as : ℕ → ℕ → Answer
 answer-as refusal count = cond (eqb refusal 0) (Rows count) (Refused refusal)
 
--- a search's answer with the row buffer that it leaves
-abbrev pub found-by : Answer → List ℕ → Found
-found-by (Rows n) buffer = record { refusal = 0; count = n; buffer = buffer }
-found-by (Refused n) buffer = record { refusal = n; count = 0; buffer = buffer }
+-- a search's answer as a number; 0 where it was not refused
+abbrev pub answer-number : Answer → ℕ
+answer-number (Rows n) = 0
+answer-number (Refused n) = n

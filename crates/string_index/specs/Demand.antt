@@ -8,6 +8,7 @@ use Rattle.definitions.specs.Location.{Location, Sorted}
 use Rattle.definitions.specs.Blocks.{Block}
 use Rattle.definitions.specs.Rows.{Before}
 use Rattle.definitions.specs.Runs.{LongestRun, Consistent, Query, SameHeld}
+use Rattle.definitions.specs.Causes.{number, scratch-too-small, too-many-rows}
 use Rattle.definitions.specs.Calls.{Capacity, last-number}
 use Rattle.definitions.specs.Recording.{Call, record-block, finish, search, taken, Finished}
 use Rattle.index_memory.specs.Record.{open-memory, record-memory}
@@ -77,7 +78,7 @@ EmptyQuery r = (scratch : ℕ) (buffer : List ℕ) → (searched r [] scratch bu
 
 -- a search of up to 256 bytes is refused by nothing but 10 and 11
 abbrev pub OnlyBuffers : Recording → Type 0
-OnlyBuffers r = (q : List ℕ) → Query q → (scratch : ℕ) (buffer : List ℕ) → (searched r q scratch buffer .refusal ≡ 0) ⊎ ((searched r q scratch buffer .refusal ≡ 10) ⊎ (searched r q scratch buffer .refusal ≡ 11))
+OnlyBuffers r = (q : List ℕ) → Query q → (scratch : ℕ) (buffer : List ℕ) → (searched r q scratch buffer .refusal ≡ 0) ⊎ ((searched r q scratch buffer .refusal ≡ number scratch-too-small) ⊎ (searched r q scratch buffer .refusal ≡ number too-many-rows))
 
 -- there are sizes of buffers with which it answers, and larger ones answer too
 abbrev pub Answers : Recording → Type 0

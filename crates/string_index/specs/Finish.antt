@@ -5,18 +5,14 @@ use mathlib.Core.Option.{Option, none, some}
 use lib.ListN.{length}
 use lib.Seq.{sets}
 use Rattle.definitions.specs.Location.{Location}
-use Rattle.definitions.specs.Blocks.{Piece}
 use Rattle.definitions.specs.Rows.{rows}
-use Rattle.definitions.specs.Causes.{Cause, number, index-rule-broken, before-finish, Check, first-cause}
-use Rattle.definitions.specs.Calls.{finish-checks}
-use Rattle.trie.specs.Trie.{trie-pieces}
+use Rattle.definitions.specs.Causes.{Cause, number, first-cause}
+use Rattle.definitions.specs.Calls.{finish-checks, search-checks}
 use Rattle.trie.specs.Build.{trie-of}
-use Rattle.image.specs.Image.{image}
 use Rattle.row_buffer.specs.Numbers.{row-numbers}
 use Rattle.finished_memory.specs.Finished.{finished-memory}
 use Rattle.index_memory.specs.Index.{Index, broken, opened, finished, standing-of, read-index}
 use Rattle.index_memory.specs.Record.{Done, unless-refused}
-use Rattle.string_index.specs.Find.{room-checks}
 
 -- ── finish: the log becomes an image ──
 
@@ -40,22 +36,14 @@ pub record Found : Type 0 where
   pub count : ℕ
   pub buffer : List ℕ
 
--- a row takes three numbers of the row buffer
-abbrev pub query-checks : List Piece → List ℕ → ℕ → ℕ → List Check
-query-checks ps q scratch buffer = room-checks ps q scratch (buffer / 3)
-
 abbrev pub found-or-refused : Option Cause → List Location → List ℕ → Found
 found-or-refused none rs buffer = record { refusal = 0; count = length rs; buffer = sets buffer 0 (row-numbers rs) }
 found-or-refused (some c) rs buffer = record { refusal = number c; count = 0; buffer = buffer }
 
-abbrev pub search-pieces : List Piece → List ℕ → ℕ → List ℕ → Found
-search-pieces ps q scratch buffer = found-or-refused (first-cause (query-checks ps q scratch (length buffer))) (rows ps q) buffer
-
--- scratch has so many bytes; rows are handed over in the buffer, numbers after the last row stay
+-- a place takes 24 bytes of scratch, a row three numbers of the row buffer; numbers after the last row stay
 abbrev pub search-by : Index → List ℕ → ℕ → List ℕ → Found
-search-by broken q scratch buffer = record { refusal = number index-rule-broken; count = 0; buffer = buffer }
-search-by (opened c ps) q scratch buffer = record { refusal = number before-finish; count = 0; buffer = buffer }
-search-by (finished c t) q scratch buffer = search-pieces (trie-pieces t) q scratch buffer
+search-by i q scratch buffer = found-or-refused (first-cause (search-checks (standing-of i) q (scratch / 24) (length buffer / 3))) (rows (standing-of i .pieces) q) buffer
 
+-- scratch has so many bytes
 unfoldable pub search-memory : List ℕ → List ℕ → ℕ → List ℕ → Found
 search-memory m q scratch buffer = search-by (read-index m) q scratch buffer

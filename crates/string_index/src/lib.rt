@@ -12,18 +12,18 @@ pub use saving::Saved;
 pub use searching::Finding;
 ghost use mathlib.Core.Path.{_≡_};
 ghost use lib.ListN.{length};
+ghost use Rattle.definitions.specs.Causes.{ScratchAfter};
 ghost use Rattle.location.specs.Plain.{plain};
-ghost use Rattle.trie.specs.Trie.{trie-pieces};
 ghost use Rattle.image.specs.Held.{trie-in};
 ghost use Rattle.index_memory.specs.Record.{record-memory};
-ghost use Rattle.index_memory.specs.Index.{image-part};
+ghost use Rattle.index_memory.specs.Index.{finished, image-part, read-index};
 ghost use Rattle.index_memory.specs.Answers.{header-of, recorded-as};
 ghost use Rattle.inspecting.specs.Held.{ImageIn};
 ghost use Rattle.rows.specs.Rows.{numbers-of};
 ghost use Rattle.saving.specs.Saving.{save-memory, load-memory};
 ghost use Rattle.saving.specs.Answers.{saved-as, loaded-as};
-ghost use Rattle.searching.specs.Search.{Answers};
-ghost use Rattle.string_index.specs.Find.{find-pieces, Finds};
+ghost use Rattle.searching.specs.Search.{finding-of, AtFront};
+ghost use Rattle.string_index.specs.Find.{find-memory};
 ghost use Rattle.string_index.specs.Finish.{finish-memory, search-memory};
 ghost use Rattle.string_index.specs.Answers.{finished-as, answer-as};
 
@@ -68,8 +68,10 @@ pub enum Answer {
 
 // Finds the rows of a query in a finished index, where so many rows have room: h is the header of its memory.
 fn find_finished(mem: &[u8], h: Header, q: &[u8], scratch: &mut [u8], room: usize) -> Finding
-    requires { ⌜ ImageIn (now mem) (header-of h) ⌝ }
-    ensures { λ r. ⌜ Answers (find-pieces (trie-pieces (trie-in (image-part (now (mem .entry)) (header-of h)))) (now (q .entry)) (length (now (scratch .entry))) room) (now (scratch .exit)) r ⌝ }
+    requires { ⌜ ImageIn (now mem) (header-of h) × (read-index (now mem) ≡ finished (header-of h .capacity) (trie-in (image-part (now mem) (header-of h)))) ⌝ }
+    ensures found { λ r. ⌜ r ≡ finding-of (find-memory (now (mem .entry)) (now (q .entry)) (length (now (scratch .entry))) room) ⌝ }
+    ensures rows { λ _. ⌜ AtFront (find-memory (now (mem .entry)) (now (q .entry)) (length (now (scratch .entry))) room .rows) (now (scratch .exit)) ⌝ }
+    ensures scratch { λ _. ⌜ ScratchAfter (find-memory (now (mem .entry)) (now (q .entry)) (length (now (scratch .entry))) room .refusal) (now (scratch .entry)) (now (scratch .exit)) ⌝ }
 {
     if definitions::QUERY_LIMIT < q.len() {
         return searching::no_rows(definitions::QUERY_TOO_LONG);
@@ -77,9 +79,11 @@ fn find_finished(mem: &[u8], h: Header, q: &[u8], scratch: &mut [u8], room: usiz
     searching::search_image(&mem[HEADER_SIZE..HEADER_SIZE + h.payload], q, scratch, room)
 }
 
-// Finds the rows of a query, where so many rows have room; they stand in scratch.
+// Finds the rows of a query, where so many rows have room; they stand at the front of scratch.
 pub fn find(mem: &[u8], q: &[u8], scratch: &mut [u8], room: usize) -> Finding
-    ensures { λ r. ⌜ Finds (now (mem .entry)) (now (q .entry)) (length (now (scratch .entry))) room (now (scratch .exit)) (r .refusal) (r .at) (r .count) ⌝ }
+    ensures found { λ r. ⌜ r ≡ finding-of (find-memory (now (mem .entry)) (now (q .entry)) (length (now (scratch .entry))) room) ⌝ }
+    ensures rows { λ _. ⌜ AtFront (find-memory (now (mem .entry)) (now (q .entry)) (length (now (scratch .entry))) room .rows) (now (scratch .exit)) ⌝ }
+    ensures scratch { λ _. ⌜ ScratchAfter (find-memory (now (mem .entry)) (now (q .entry)) (length (now (scratch .entry))) room .refusal) (now (scratch .entry)) (now (scratch .exit)) ⌝ }
 {
     match inspecting::inspect(mem) {
         Held::Broken => searching::no_rows(definitions::INDEX_RULE_BROKEN),
@@ -103,9 +107,10 @@ fn answer_of(f: Finding) -> Answer
 pub fn search(mem: &[u8], q: &[u8], scratch: &mut [u8], rows: &mut [Row]) -> Answer
     ensures answer { λ r. ⌜ r ≡ answer-as (search-memory (now (mem .entry)) (now (q .entry)) (length (now (scratch .entry))) (numbers-of (now (rows .entry))) .refusal) (search-memory (now (mem .entry)) (now (q .entry)) (length (now (scratch .entry))) (numbers-of (now (rows .entry))) .count) ⌝ }
     ensures rows { λ _. ⌜ numbers-of (now (rows .exit)) ≡ search-memory (now (mem .entry)) (now (q .entry)) (length (now (scratch .entry))) (numbers-of (now (rows .entry))) .buffer ⌝ }
+    ensures scratch { λ _. ⌜ ScratchAfter (search-memory (now (mem .entry)) (now (q .entry)) (length (now (scratch .entry))) (numbers-of (now (rows .entry))) .refusal) (now (scratch .entry)) (now (scratch .exit)) ⌝ }
 {
     let f = find(mem, q, scratch, rows.len());
-    rows::put_rows(rows, scratch, f.at, f.count);
+    rows::put_rows(rows, scratch, f.count);
     answer_of(f)
 }
 

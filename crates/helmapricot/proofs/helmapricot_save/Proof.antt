@@ -2,9 +2,8 @@
 use mathlib.Core.Path.{sym, ap, _∙_}
 use borrow.Author.Needs.{needs}
 use denote.Ref.{now}
-use lib.ListN.{set}
-use Rattle.saving.proofs.Theorems.{none-saved}
-use Rattle.helmapricot.proofs.Numbers.{saved-number, saved-size, saved-back}
+use Rattle.saving.specs.declared.Saved.{Saved}
+use Rattle.helmapricot.proofs.Numbers.{saved-number, size-after, saved-back}
 use Rattle.helmapricot.proofs.helmapricot_save.Statement.{statement}
 use Rattle.helmapricot.proofs.helmapricot_save.Tie as tie
 
@@ -20,9 +19,6 @@ element-write-size c = search needs
 enum-known-n-2 : tie.Need-enum-known-n-2
 enum-known-n-2 c = search needs
 
-element-write-size-2 : tie.Need-element-write-size-2
-element-write-size-2 c = search needs
-
 same-length : tie.Need-same-length
 same-length c = search needs
 
@@ -32,8 +28,8 @@ returns c =
     let a = c₅ .before .before .before .before .args in
     let r = c₅ .save in
     let x = sym (c .before .n .given .1) ∙ r .ensures .0 in
-    let back = saved-back _ _ (none-saved (now (a .mem)) (now (a .out))) in
-    (ap saved-number x ∙ back .0, (r .ensures .1, ap (set (now (a .size)) 0) (ap saved-size x ∙ back .1)))
+    let back = saved-back _ _ (now (a .size)) in
+    (ap saved-number x ∙ back .0, (r .ensures .1, ap (λ (y : Saved). size-after y (now (a .size))) x ∙ back .1))
 
 same-length-2 : tie.Need-same-length-2
 same-length-2 c = search needs
@@ -44,8 +40,8 @@ returns-2 c =
     let a = c₅ .before .before .before .before .args in
     let r = c₅ .save in
     let x = sym (c .before .n2 .given .1) ∙ r .ensures .0 in
-    let back = saved-back _ _ (none-saved (now (a .mem)) (now (a .out))) in
-    (ap saved-number x ∙ back .0, (r .ensures .1, ap (set (now (a .size)) 0) (ap saved-size x ∙ back .1)))
+    let back = saved-back _ _ (now (a .size)) in
+    (ap saved-number x ∙ back .0, (r .ensures .1, ap (λ (y : Saved). size-after y (now (a .size))) x ∙ back .1))
 
 pub helmapricot-save-spec : {M : Type 1} → statement M
 helmapricot-save-spec =
@@ -55,7 +51,6 @@ helmapricot-save-spec =
     enum-known-n
     element-write-size
     enum-known-n-2
-    element-write-size-2
     same-length
     returns
     same-length-2

@@ -1,6 +1,5 @@
 -- `helmapricot_search` keeps the contract of the call that it exports: `HandsOut`'s walk at `search`. Assumes nothing.
 use Rattle.string_index.specs.Finish.{search-memory}
-use Rattle.string_index.proofs.Finding.{none-counted}
 use contract.Running.{givenOf, tables, tablesOf}
 use denote.Triple.Spec.{tripleOf}
 use denote.Triple.Table.{entered, cited}
@@ -15,7 +14,7 @@ use Rattle.helmapricot.proofs.helmapricot_search.Statement as stated
 use Rattle.helmapricot.proofs.helmapricot_search.Code as code
 
 abbrev 𝓔 : Call
-𝓔 = record { name = g-def.name; found = search-memory; none-counted = none-counted }
+𝓔 = record { name = g-def.name; found = search-memory }
 
 pub helmapricot-search-spec : {M : Type 1} → stated.statement M
 unfolding code.routine tablesOf

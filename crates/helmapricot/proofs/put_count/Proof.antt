@@ -1,11 +1,11 @@
 -- `helmapricot::put_count` meets its contract: the answer's variant says the number and the count. Assumes nothing.
 use mathlib.Core.Path.{sym, ap}
 use Prim.Native.Nat.{ℕ}
-use mathlib.Core.List.{List, []}
-use lib.ListN.{set}
+use mathlib.Core.List.{List}
 use borrow.Author.Needs.{needs}
 use Rattle.string_index.specs.declared.Answer.{Answer}
-use Rattle.string_index.specs.Answers.{found-by}
+use Rattle.string_index.specs.Answers.{answer-number}
+use Rattle.helmapricot.specs.Counts.{count-after}
 use Rattle.helmapricot.proofs.put_count.Statement.{statement}
 use Rattle.helmapricot.proofs.put_count.Tie as tie
 
@@ -18,20 +18,17 @@ element-write-count c = search needs
 enum-known-a-2 : tie.Need-enum-known-a-2
 enum-known-a-2 c = search needs
 
-element-write-count-2 : tie.Need-element-write-count-2
-element-write-count-2 c = search needs
-
 returns : tie.Need-returns
 returns c =
     let cs : List ℕ = c .before .before .before .args .count .now in
     let e = sym (c .before .a .given .1) in
-    (ap (λ (x : Answer). found-by x [] .refusal) e, ap (λ (x : Answer). set cs 0 (found-by x [] .count)) e)
+    (ap answer-number e, ap (λ (x : Answer). count-after x cs) e)
 
 returns-2 : tie.Need-returns-2
 returns-2 c =
     let cs : List ℕ = c .before .before .before .args .count .now in
     let e = sym (c .before .a2 .given .1) in
-    (ap (λ (x : Answer). found-by x [] .refusal) e, ap (λ (x : Answer). set cs 0 (found-by x [] .count)) e)
+    (ap answer-number e, ap (λ (x : Answer). count-after x cs) e)
 
 pub put-count-spec : {M : Type 1} → statement M
-put-count-spec = tie.close (tie.spec enum-known-a element-write-count enum-known-a-2 element-write-count-2 returns returns-2)
+put-count-spec = tie.close (tie.spec enum-known-a element-write-count enum-known-a-2 returns returns-2)

@@ -82,7 +82,7 @@ abbrev from-ty : Ty
 from-ty = sliceTy (tyRef (named 1) imm (tyInt w8))
 
 abbrev stayed : Stays (f.ended .signature .params) (f.ended .kept)
-stayed = (stay-slice (0 ∷ []) tt (plain (λ _. R)), (stay-none-slice (1 ∷ []) tt (plain (λ _. u8)) yes, (stay-none (λ _. usize) yes, (stay-none (λ _. usize) yes, tt))))
+stayed = (stay-slice (0 ∷ []) tt (plain (λ _. R)), (stay-none-slice (1 ∷ []) tt (plain (λ _. u8)) yes, (stay-none (λ _. usize) yes, tt)))
 
 one-more : (i : ℕ) → i + 1 ≡ suc i
 one-more i = add-suc i zero ∙ ap suc (add-zero i)
@@ -96,7 +96,7 @@ module _ {M : Type 1} (𝓤 : URA M) (H : Heap 𝓤) (A : Atoms 𝓤) (mem : Mem
   said-of κ x p r = exE 𝓤 _ (λ ws. snd∗ 𝓤 (sem 𝓤 H A (lasts g.ended (κ, tt) (x, (p, tt)) ws)) (fact 𝓤 (r ≡ row-of (location-at (x .now) p))))
 
 module _ {M : Type 1} (𝓤 : URA M) (H : Heap 𝓤) (A : Atoms 𝓤) (W : Given 𝓤 H A) (mem : Memory → SProp 𝓤) (run : Routine → Fun 𝓤) (κ κ′ : Lft) (bounds : AllOutlive 2 (f.signature .outlives) (κ, (κ′, tt))) (q q′ : Share) (b o : ℕ) (γ : GName) (ys : List Row)
-    (z : RefT (List ℕ)) (at n : ℕ) (at-fits : at < 2 ^ 64) (n-fits : n < 2 ^ 64) (room : Room R (length ys)) (room′ : Room u8 (length (z .now))) (short : n ≤ length ys) (enough : at + n * 24 ≤ length (z .now)) where
+    (z : RefT (List ℕ)) (n : ℕ) (n-fits : n < 2 ^ 64) (room : Room R (length ys)) (room′ : Room u8 (length (z .now))) (short : n ≤ length ys) (enough : n * 24 ≤ length (z .now)) where
   abbrev x : List Row → RefT (List Row)
   x l = record { ptr = (b, o); name = γ; now = l }
 
@@ -109,22 +109,22 @@ module _ {M : Type 1} (𝓤 : URA M) (H : Heap 𝓤) (A : Atoms 𝓤) (W : Given
 
   -- the rows where i are handed over, the place of the next one, and that row
   abbrev made : ℕ → List Row
-  made i = copied ys (z .now) at i
+  made i = copied ys (z .now) i
 
   abbrev place : ℕ → ℕ
-  place i = at + i * 24
+  place i = i * 24
 
   abbrev y : ℕ → Row
-  y i = row-in (z .now) at i
+  y i = row-in (z .now) i
 
   abbrev Arg : Type 0
-  Arg = RefT (List Row) × (RefT (List ℕ) × (ℕ × (ℕ × Unit {0})))
+  Arg = RefT (List Row) × (RefT (List ℕ) × (ℕ × Unit {0}))
 
   abbrev arg : Arg
-  arg = (x ys, (z, (at, (n, tt))))
+  arg = (x ys, (z, (n, tt)))
 
-  abbrev vals : List Val × (List Val × (List Val × (List Val × Unit {0})))
-  vals = (s ∷ [], (s′ ∷ [], (vint w64 at ∷ [], (vint w64 n ∷ [], tt))))
+  abbrev vals : List Val × (List Val × (List Val × Unit {0}))
+  vals = (s ∷ [], (s′ ∷ [], (vint w64 n ∷ [], tt)))
 
   abbrev bound : walkOf 𝓤 H A f.ended stayed (f.clauses 𝓤 H A mem run) .Ghost
   bound = (((κ, (κ′, tt)), (q, (q′, tt)), bounds, arg, vals), tt)
@@ -136,34 +136,31 @@ module _ {M : Type 1} (𝓤 : URA M) (H : Heap 𝓤) (A : Atoms 𝓤) (W : Given
   From = ShrSlice (named 1) κ′ u8 .own z (s′ ∷ [])
 
   same : (i : ℕ) → length (made i) ≡ length ys
-  same i = length-copied ys (z .now) at i
+  same i = length-copied ys (z .now) i
 
   exits : ent 𝓤 (⋆ 𝓤 H A (‵ (fobs γ (codedHoleys R .code (heres R (made n)))) ∷ ‵ (fbor κ (Held R (length (made n)) b o γ)) ∷ ‵ (flft κ q) ∷ ‵ (flft κ′ q′) ∷ ‵ From ∷ [])) (Post vunit)
   exits =
       qed W (‵ (fobs γ (codedHoleys R .code (heres R (made n)))) ∷ ‵ (fbor κ (Held R (length (made n)) b o γ)) ∷ ‵ (flft κ q) ∷ ‵ (flft κ′ q′) ∷ ‵ From ∷ []) ∵
-      suffices ! _ (ends-at 𝓤 H A f.ended stayed (f.clauses 𝓤 H A mem run) W bound vunit tt (made n, (tt, (tt, (tt, tt)))) (same n, (tt, (tt, (tt, tt))))) $ says ! (copied-is (z .now) ys at n short) $
+      suffices ! _ (ends-at 𝓤 H A f.ended stayed (f.clauses 𝓤 H A mem run) W bound vunit tt (made n, (tt, (tt, tt))) (same n, (tt, (tt, tt)))) $ says ! (copied-is (z .now) ys n short) $
       nothing ! $ move ! (4 ∷ 0 ∷ []) $ join ! $ move ! (3 ∷ 0 ∷ []) $ join ! $ frame ! $
       fjoin ! $ pureI ! (at-slice R (x (made n)) (s ∷ [])) (tt, (tt, tt)) (ap (λ (m : ℕ). sliceVal (b, o) m ∷ []) (sym (same n)), subst (Room R) (sym (same n)) room) $ fjoin ! $
-      nothing ! $ owned ! usize (Is usize) (uint-makes 𝓤 H A W w64) n _ (refl, n-fits) $ fjoin ! $ owned ! usize (Is usize) (uint-makes 𝓤 H A W w64) at _ (refl, at-fits) $ fjoin ! $ move ! (2 ∷ 0 ∷ []) $ fjoin ! $ move ! (1 ∷ 0 ∷ []) $ fjoin ! $
+      nothing ! $ owned ! usize (Is usize) (uint-makes 𝓤 H A W w64) n _ (refl, n-fits) $ fjoin ! $ move ! (2 ∷ 0 ∷ []) $ fjoin ! $ move ! (1 ∷ 0 ∷ []) $ fjoin ! $
       feqI ! (List Val) (vunit ∷ []) (vunit ∷ []) refl $ move ! (1 ∷ 0 ∷ []) $ done !
 
   -- what `row_at`'s triple binds outside, and that the caller has what it asks
   abbrev to-row-at : ℕ → RowAt 𝓤 H A mem run .Ghost
   to-row-at i = (((κ′, tt), (q′, tt), tt, (z, (place i, tt)), (s′ ∷ [], (vint w64 (place i) ∷ [], tt))), tt)
 
-  place-fits : (i : ℕ) → i < n → place i < 2 ^ 64
-  place-fits i small = omega (arith, small, enough, room′ .0)
+  bytes : (i : ℕ) → i < n → place i < 2 ^ 64
+  bytes i small = omega (arith, small, enough, room′ .0)
 
   asks : (i : ℕ) → i < n → ent 𝓤 (sep 𝓤 (A .lft κ′ q′) (sem 𝓤 H A From)) (RowAt 𝓤 H A mem run .pre (to-row-at i))
   asks i small =
       qed W (‵ (flft κ′ q′) ∷ ‵ From ∷ []) ∵ says ! (omega (arith, small, enough)) $ nothing ! $ move ! (1 ∷ 0 ∷ []) $ join ! $ frame ! $
-      nothing ! $ owned ! usize (Is usize) (uint-makes 𝓤 H A W w64) (place i) _ (refl, place-fits i small) $ fjoin ! $ move ! (1 ∷ 0 ∷ []) $ fjoin ! $ done !
+      nothing ! $ owned ! usize (Is usize) (uint-makes 𝓤 H A W w64) (place i) _ (refl, bytes i small) $ fjoin ! $ move ! (1 ∷ 0 ∷ []) $ fjoin ! $ done !
 
   within : (i : ℕ) → i < n → i < length (made i)
   within i small = subst (λ (m : ℕ). i < m) (sym (same i)) (omega (arith, small, short))
-
-  bytes : (i : ℕ) → i < n → i * 24 < 2 ^ 64
-  bytes i small = omega (arith, room .1, small, short)
 
   next-fits : (i : ℕ) → i < n → i + 1 < 2 ^ 64
   next-fits i small = omega (arith, small, n-fits)
@@ -171,7 +168,7 @@ module _ {M : Type 1} (𝓤 : URA M) (H : Heap 𝓤) (A : Atoms 𝓤) (W : Given
   typed : (i : ℕ) (v : Val) → Is R (y i) (v ∷ []) → Holds (hasTy T′.mir v) × WT v
   typed i v is = LL.lawful T.the-type T′.the-laws 𝓤 H A W .typed (y i) _ is .0
 
-  module _ (𝓣 : Tables 𝓤 H) (known : Triple 𝓤 (𝓣 .C #rows·row-at) (RowAt 𝓤 H A mem run)) (l₀ l₁ l₂ l₃ l₄ l₅ l₆ l₇ l₈ l₉ l₁₀ l₁₁ : ℕ) where
+  module _ (𝓣 : Tables 𝓤 H) (known : Triple 𝓤 (𝓣 .C #rows·row-at) (RowAt 𝓤 H A mem run)) (l₀ l₁ l₂ l₃ l₄ l₅ l₆ l₇ l₈ l₉ : ℕ) where
     abbrev C : Calls 𝓤 H
     C = 𝓣 .C
 
@@ -179,14 +176,14 @@ module _ {M : Type 1} (𝓤 : URA M) (H : Heap 𝓤) (A : Atoms 𝓤) (W : Given
     Λ = 𝓣 .Λ
 
     abbrev En : Env 𝓤 H
-    En = (tyUnit, l₀) ∷ (rows-ty, l₁) ∷ (from-ty, l₂) ∷ (word, l₃) ∷ (word, l₄) ∷ (word, l₅) ∷ (tyBool, l₆) ∷ (T′.mir, l₇) ∷ (word, l₈) ∷ (word, l₉) ∷ (word, l₁₀) ∷ (tyPtr, l₁₁) ∷ []
+    En = (tyUnit, l₀) ∷ (rows-ty, l₁) ∷ (from-ty, l₂) ∷ (word, l₃) ∷ (word, l₄) ∷ (tyBool, l₅) ∷ (T′.mir, l₆) ∷ (word, l₇) ∷ (word, l₈) ∷ (tyPtr, l₉) ∷ []
 
     -- what stands beside the rows at the head of the loop
     abbrev Beside : ℕ → List (Item 𝓤)
-    Beside i = ‵ (fat fullShare word l₅ 0 (vint w64 i)) ∷ ‵ (froom tyBool l₆ 0) ∷ ‵ (froom T′.mir l₇ 0) ∷ ‵ (froom word l₈ 0) ∷ ‵ (froom word l₉ 0) ∷ ‵ (froom word l₁₀ 0) ∷ ‵ (froom tyPtr l₁₁ 0) ∷ ‵ (flft κ′ q′) ∷ ‵ From
-        ∷ ‵ (fat fullShare rows-ty l₁ 0 s) ∷ ‵ (fat fullShare from-ty l₂ 0 s′) ∷ ‵ (fat fullShare word l₃ 0 (vint w64 at)) ∷ ‵ (fat fullShare word l₄ 0 (vint w64 n)) ∷ ‵ (froom tyUnit l₀ 0)
+    Beside i = ‵ (fat fullShare word l₄ 0 (vint w64 i)) ∷ ‵ (froom tyBool l₅ 0) ∷ ‵ (froom T′.mir l₆ 0) ∷ ‵ (froom word l₇ 0) ∷ ‵ (froom word l₈ 0) ∷ ‵ (froom tyPtr l₉ 0) ∷ ‵ (flft κ′ q′) ∷ ‵ From
+        ∷ ‵ (fat fullShare rows-ty l₁ 0 s) ∷ ‵ (fat fullShare from-ty l₂ 0 s′) ∷ ‵ (fat fullShare word l₃ 0 (vint w64 n)) ∷ ‵ (froom tyUnit l₀ 0)
         ∷ ‵ (fobor κ q (Held R (length ys) b o γ)) ∷ ‵ (fobs γ (codedHoleys R .code (heres R ys))) ∷ ‵ (fauth γ (codedHoleys R .code (heres R ys)))
-        ∷ ‵ (fdies tyUnit l₀) ∷ ‵ (fdies rows-ty l₁) ∷ ‵ (fdies from-ty l₂) ∷ ‵ (fdies word l₃) ∷ ‵ (fdies word l₄) ∷ ‵ (fdies word l₅) ∷ ‵ (fdies tyBool l₆) ∷ ‵ (fdies T′.mir l₇) ∷ ‵ (fdies word l₈) ∷ ‵ (fdies word l₉) ∷ ‵ (fdies word l₁₀) ∷ ‵ (fdies tyPtr l₁₁) ∷ []
+        ∷ ‵ (fdies tyUnit l₀) ∷ ‵ (fdies rows-ty l₁) ∷ ‵ (fdies from-ty l₂) ∷ ‵ (fdies word l₃) ∷ ‵ (fdies word l₄) ∷ ‵ (fdies tyBool l₅) ∷ ‵ (fdies T′.mir l₆) ∷ ‵ (fdies word l₇) ∷ ‵ (fdies word l₈) ∷ ‵ (fdies tyPtr l₉) ∷ []
 
     abbrev At : ℕ → List (Item 𝓤)
     At i = ‵ (row R fullShare (made i) b o) ∷ Beside i
@@ -209,49 +206,48 @@ module _ {M : Type 1} (𝓤 : URA M) (H : Heap 𝓤) (A : Atoms 𝓤) (W : Given
     unfolding afterTurn
     more i X is-less small k =
         qed W (At i) ∵ exec ! C Λ En code-mir.turn-1 (anyQ (afterTurn 𝓤 H X Left)) $
-        -- [the rows; _5; _6; _7; _8; _9; _10; _11; from's token; from; _1; _2; _3; _4; room for _0; the open borrow; obs; auth; …]
-        assigns ! (bin ! (load ! (from ! (stop !)) (look ! 1 refl)) (load ! (from ! (stop !)) (look ! 13 refl)) tt) (from ! (stop !)) (init ! 2 refl (tt, tt)) $
-        rewrite ! 2 (λ (t : Bool). ‵ (fat fullShare tyBool l₆ 0 (vbool t))) is-less refl $
+        -- [the rows; _4; _5; _6; _7; _8; _9; from's token; from; _1; _2; _3; room for _0; the open borrow; obs; auth; …]
+        assigns ! (bin ! (load ! (from ! (stop !)) (look ! 1 refl)) (load ! (from ! (stop !)) (look ! 11 refl)) tt) (from ! (stop !)) (init ! 2 refl (tt, tt)) $
+        rewrite ! 2 (λ (t : Bool). ‵ (fat fullShare tyBool l₅ 0 (vbool t))) is-less refl $
         stays ! (load ! (from ! (stop !)) (look ! 2 refl)) $
         -- `row_at`, at the row's place
         assigns ! (bin ! (load ! (from ! (stop !)) (look ! 1 refl)) (lit ! tt) (record { fits = bytes i small })) (from ! (stop !)) (init ! 4 refl (tt, record { fits = bytes i small })) $
-        assigns ! (bin ! (load ! (from ! (stop !)) (look ! 12 refl)) (load ! (from ! (stop !)) (look ! 4 refl)) (record { fits = place-fits i small })) (from ! (stop !)) (init ! 5 refl (tt, record { fits = place-fits i small })) $
-        move ! (9 ∷ []) $ use1 W (‵ From ⊛ ‵ From) (shr-slice-copy 𝓤 H A W (named 1) κ′ u8 .twice z (s′ ∷ [])) $ split ! $ move ! (10 ∷ 0 ∷ []) $
+        move ! (8 ∷ []) $ use1 W (‵ From ⊛ ‵ From) (shr-slice-copy 𝓤 H A W (named 1) κ′ u8 .twice z (s′ ∷ [])) $ split ! $ move ! (9 ∷ 0 ∷ []) $
         use2 W (raw (RowAt 𝓤 H A mem run .pre (to-row-at i))) (asks i small) $
-        -- [its pre; from; the rows; _5; _6; _7; _8; _9; _10; _11; _1; _2; _3; _4; …]
-        calls-at ! (fmOf 𝓤 H (W .laws) 𝓣) (RowAt 𝓤 H A mem run) known (to-row-at i) (and-then ! (load ! (from ! (stop !)) (look ! 11 refl)) (and-then ! (load ! (from ! (stop !)) (look ! 7 refl)) (no-more !))) (λ v.
+        -- [its pre; from; the rows; _4; _5; _6; _7; _8; _9; _1; _2; _3; …]
+        calls-at ! (fmOf 𝓤 H (W .laws) 𝓣) (RowAt 𝓤 H A mem run) known (to-row-at i) (and-then ! (load ! (from ! (stop !)) (look ! 10 refl)) (and-then ! (load ! (from ! (stop !)) (look ! 6 refl)) (no-more !))) (λ v.
         use1 W (later (some (λ (r : Row). ((‵ (flft κ′ q′) ⊛ ‵ ftrue) ⊛ ‵ (R .own r (v ∷ []))) ⊛ raw (ensured 𝓤 H A g.ended (g.clauses 𝓤 H A mem run) (κ′, tt) (z, (place i, tt)) tt r)))) (id⊢ 𝓤 _) $ await ! tt $ pick ! (λ r.
         split ! $ move ! (1 ∷ []) $ use1 W (raw (fact 𝓤 (r ≡ y i))) (said-of 𝓤 H A mem run κ′ z (place i) r) $ heard ! (r ≡ y i) (λ eq. split ! $ move ! (1 ∷ []) $
         rewrite ! 0 (λ (k : Row). ‵ (R .own k (v ∷ []))) eq refl $ peeks ! R (Is R) (shows 𝓤 H A R) (y i) (v ∷ []) (λ is.
-        -- [what the new row owns; the token; from; the rows; _5; _6; _7; _8; _9; _10; _11; _1; _2; _3; _4; room for _0; …]
+        -- [what the new row owns; the token; from; the rows; _4; _5; _6; _7; _8; _9; _1; _2; _3; room for _0; …]
         land ! (from ! (stop !)) (init ! 6 refl (typed i v is)) $
-        assigns ! (bin ! (load ! (from ! (stop !)) (look ! 4 refl)) (lit ! tt) (record { fits = bytes i small })) (from ! (stop !)) (init ! 9 refl (tt, record { fits = bytes i small })) $
-        assigns ! (bin ! (load ! (from ! (fld ! refl (stop !))) (look-in ! 11 (sub ! 0 refl (whole !)))) (load ! (from ! (stop !)) (look ! 9 refl)) tt) (from ! (stop !)) (init ! 10 refl (tt, tt)) $
-        rewrite ! 10 (λ (p : ℕ). ‵ (fat fullShare tyPtr l₁₁ 0 (vptr b p))) (sym (place-is 24 o i)) refl $
+        assigns ! (bin ! (load ! (from ! (stop !)) (look ! 4 refl)) (lit ! tt) (record { fits = bytes i small })) (from ! (stop !)) (init ! 8 refl (tt, record { fits = bytes i small })) $
+        assigns ! (bin ! (load ! (from ! (fld ! refl (stop !))) (look-in ! 10 (sub ! 0 refl (whole !)))) (load ! (from ! (stop !)) (look ! 8 refl)) tt) (from ! (stop !)) (init ! 9 refl (tt, tt)) $
+        rewrite ! 9 (λ (p : ℕ). ‵ (fat fullShare tyPtr l₉ 0 (vptr b p))) (sym (place-is 24 o i)) refl $
         -- the old row is taken out, stored to, and put back
         move ! (3 ∷ []) $ elem-out ! R (Is R) (shows 𝓤 H A R) (LL.vals T.the-type T′.the-laws) (LL.tells T.the-type T′.the-laws) fullShare (made i) i (y i) b o (within i small) (λ _.
-        -- [the old row; what it owns; the others; what the new row owns; the token; from; _5; _6; _7; _8; _9; _10; _11; _1; …]
-        assigns ! (of-opd ! (load ! (from ! (stop !)) (look ! 8 refl))) (from ! (hop ! (look ! 12 refl) (stop !))) (store-raw ! 0 refl (typed i v is)) $
+        -- [the old row; what it owns; the others; what the new row owns; the token; from; _4; _5; _6; _7; _8; _9; _1; …]
+        assigns ! (of-opd ! (load ! (from ! (stop !)) (look ! 8 refl))) (from ! (hop ! (look ! 11 refl) (stop !))) (store-raw ! 0 refl (typed i v is)) $
         move ! (1 ∷ []) $ drop ! $ move ! (0 ∷ 2 ∷ 1 ∷ []) $ elem-put ! R fullShare (made i) i (y i) (v ∷ []) b o (within i small) $
-        -- [the rows; the token; from; _5; _6; _7; _8; _9; _10; _11; _1; …]
+        -- [the rows; the token; from; _4; _5; _6; _7; _8; _9; _1; …]
         assigns-last ! (bin ! (load ! (from ! (stop !)) (look ! 3 refl)) (lit ! tt) (record { fits = next-fits i small })) (from ! (stop !)) (store ! 3 refl (tt, record { fits = next-fits i small })) $
-        rewrite ! 3 (λ (j : ℕ). ‵ (fat fullShare word l₅ 0 (vint w64 j))) (one-more i) refl $ forget ! 4 refl $ forget ! 5 refl $ forget ! 6 refl $ forget ! 7 refl $ forget ! 8 refl $ forget ! 9 refl $
-        move ! (1 ∷ []) $ split ! $ keep ! (2 ∷ 4 ∷ 5 ∷ 6 ∷ 7 ∷ 8 ∷ 9 ∷ 10 ∷ 0 ∷ 3 ∷ 11 ∷ 12 ∷ 13 ∷ 14 ∷ 15 ∷ 16 ∷ 17 ∷ 18 ∷ 19 ∷ 20 ∷ 21 ∷ 22 ∷ 23 ∷ 24 ∷ 25 ∷ 26 ∷ 27 ∷ 28 ∷ 29 ∷ 30 ∷ []) $ by ! k)))))
+        rewrite ! 3 (λ (j : ℕ). ‵ (fat fullShare word l₄ 0 (vint w64 j))) (one-more i) refl $ forget ! 4 refl $ forget ! 5 refl $ forget ! 6 refl $ forget ! 7 refl $ forget ! 8 refl $
+        move ! (1 ∷ []) $ split ! $ keep ! (2 ∷ 4 ∷ 5 ∷ 6 ∷ 7 ∷ 8 ∷ 9 ∷ 0 ∷ 3 ∷ 10 ∷ 11 ∷ 12 ∷ 13 ∷ 14 ∷ 15 ∷ 16 ∷ 17 ∷ 18 ∷ 19 ∷ 20 ∷ 21 ∷ 22 ∷ 23 ∷ 24 ∷ 25 ∷ 26 ∷ []) $ by ! k)))))
 
     -- the turn that leaves the loop, and the rest of the body: the borrow is closed at the copied rows
     ends : (X : SProp 𝓤) → ltb n n ≡ false → ent 𝓤 (⋆ 𝓤 H A (At n)) (Wp 𝓤 H C Λ En code-mir.turn-1 (afterTurn 𝓤 H X Left))
     unfolding afterTurn
     ends X is-not =
         qed W (At n) ∵ exec ! C Λ En code-mir.turn-1 (anyQ (afterTurn 𝓤 H X Left)) $
-        assigns ! (bin ! (load ! (from ! (stop !)) (look ! 1 refl)) (load ! (from ! (stop !)) (look ! 13 refl)) tt) (from ! (stop !)) (init ! 2 refl (tt, tt)) $
-        rewrite ! 2 (λ (t : Bool). ‵ (fat fullShare tyBool l₆ 0 (vbool t))) is-not refl $
+        assigns ! (bin ! (load ! (from ! (stop !)) (look ! 1 refl)) (load ! (from ! (stop !)) (look ! 11 refl)) tt) (from ! (stop !)) (init ! 2 refl (tt, tt)) $
+        rewrite ! 2 (λ (t : Bool). ‵ (fat fullShare tyBool l₅ 0 (vbool t))) is-not refl $
         leaves-loop ! (load ! (from ! (stop !)) (look ! 2 refl)) $ exec ! C Λ En code-mir.t-3 (atRet En Post) $
-        assigns ! (of-opd ! (unit-lit !)) (from ! (stop !)) (init ! 14 refl (tt, tt)) $
-        move ! (0 ∷ 15 ∷ 16 ∷ 17 ∷ []) $ closes-slice ! tt R ys (made n) (same n) b o $
-        -- [obs; the borrow; the token; _5; _6; _7; _8; _9; _10; _11; from's token; from; _1; _2; _3; _4; _0; and that each local dies]
-        returns ! (look ! 16 refl) $ forget ! 3 refl $ forget ! 4 refl $ forget ! 12 refl $ forget ! 13 refl $ forget ! 14 refl $ forget ! 15 refl $ forget ! 16 refl $
-        move ! (16 ∷ 17 ∷ []) $ free1 ! $ move ! (12 ∷ 16 ∷ []) $ free1 ! $ move ! (12 ∷ 15 ∷ []) $ free1 ! $ move ! (12 ∷ 14 ∷ []) $ free1 ! $ move ! (12 ∷ 13 ∷ []) $ free1 ! $
-        move ! (3 ∷ 12 ∷ []) $ free1 ! $ move ! (3 ∷ 11 ∷ []) $ free1 ! $ move ! (3 ∷ 10 ∷ []) $ free1 ! $ move ! (3 ∷ 9 ∷ []) $ free1 ! $ move ! (3 ∷ 8 ∷ []) $ free1 ! $ move ! (3 ∷ 7 ∷ []) $ free1 ! $ move ! (3 ∷ 6 ∷ []) $ free1 ! $ free0 ! $
+        assigns ! (of-opd ! (unit-lit !)) (from ! (stop !)) (init ! 12 refl (tt, tt)) $
+        move ! (0 ∷ 13 ∷ 14 ∷ 15 ∷ []) $ closes-slice ! tt R ys (made n) (same n) b o $
+        -- [obs; the borrow; the token; _4; _5; _6; _7; _8; _9; from's token; from; _1; _2; _3; _0; and that each local dies]
+        returns ! (look ! 14 refl) $ forget ! 3 refl $ forget ! 4 refl $ forget ! 11 refl $ forget ! 12 refl $ forget ! 13 refl $ forget ! 14 refl $
+        move ! (14 ∷ 15 ∷ []) $ free1 ! $ move ! (11 ∷ 14 ∷ []) $ free1 ! $ move ! (11 ∷ 13 ∷ []) $ free1 ! $ move ! (11 ∷ 12 ∷ []) $ free1 ! $
+        move ! (3 ∷ 11 ∷ []) $ free1 ! $ move ! (3 ∷ 10 ∷ []) $ free1 ! $ move ! (3 ∷ 9 ∷ []) $ free1 ! $ move ! (3 ∷ 8 ∷ []) $ free1 ! $ move ! (3 ∷ 7 ∷ []) $ free1 ! $ move ! (3 ∷ 6 ∷ []) $ free1 ! $ free0 ! $
         by ! exits
 
     -- what a turn ends in
@@ -276,29 +272,29 @@ module _ {M : Type 1} (𝓤 : URA M) (H : Heap 𝓤) (A : Atoms 𝓤) (W : Given
 
   -- the MIR, up to the loop: the borrow is opened once, before it
   walk : (𝓣 : Tables 𝓤 H) → Triple 𝓤 (𝓣 .C #rows·row-at) (RowAt 𝓤 H A mem run)
-      → ent 𝓤 (onEntry 𝓤 H A f.signature (κ, (κ′, tt)) (q, (q′, tt)) arg vals) (WpFn 𝓤 H (𝓣 .C) (𝓣 .Λ) code.function (s ∷ s′ ∷ vint w64 at ∷ vint w64 n ∷ []) Post)
+      → ent 𝓤 (onEntry 𝓤 H A f.signature (κ, (κ′, tt)) (q, (q′, tt)) arg vals) (WpFn 𝓤 H (𝓣 .C) (𝓣 .Λ) code.function (s ∷ s′ ∷ vint w64 n ∷ []) Post)
   walk 𝓣 known =
-      qed W ((‵ (flft κ q) ⊛ ‵ (flft κ′ q′) ⊛ ‵ ftrue) ∷ ‵ (owns (MutSlice (named 0) κ R ∷ ShrSlice (named 1) κ′ u8 ∷ usize ∷ usize ∷ []) arg vals) ∷ []) ∵ enter ! (𝓣 .C) (𝓣 .Λ) code.function (s ∷ s′ ∷ vint w64 at ∷ vint w64 n ∷ []) _ $
-      alloc1 ! (λ l₀. alloc1 ! (λ l₁. alloc1 ! (λ l₂. alloc1 ! (λ l₃. alloc1 ! (λ l₄. alloc1 ! (λ l₅. alloc1 ! (λ l₆. alloc1 ! (λ l₇. alloc1 ! (λ l₈. alloc1 ! (λ l₉. alloc1 ! (λ l₁₀. alloc1 ! (λ l₁₁. alloc0 ! $ params1 ! $
-      pass1 ! (init ! 20 refl (tt, (tt, (record { fits = room .0 }, tt)))) $ pass1 ! (init ! 18 refl (tt, (tt, (record { fits = room′ .0 }, tt)))) $ pass1 ! (init ! 16 refl (tt, record { fits = at-fits })) $ pass1 ! (init ! 14 refl (tt, record { fits = n-fits })) $ pass0 ! $
-      -- [_11; …; _10; …; _9; …; _8; …; _7; …; _6; …; _5; …; _4; …; _3; …; _2; …; _1; …; room for _0; …; the tokens; what the parameters own]
-      assigns ! (of-opd ! (lit ! tt)) (from ! (stop !)) (init ! 12 refl (tt, record { fits = lit< tt })) $
-      move ! (25 ∷ []) $ fsplit ! $ fsplit ! $ move ! (1 ∷ []) $ fsplit ! $ move ! (28 ∷ []) $ split ! $ move ! (2 ∷ 3 ∷ 0 ∷ []) $
+      qed W ((‵ (flft κ q) ⊛ ‵ (flft κ′ q′) ⊛ ‵ ftrue) ∷ ‵ (owns (MutSlice (named 0) κ R ∷ ShrSlice (named 1) κ′ u8 ∷ usize ∷ []) arg vals) ∷ []) ∵ enter ! (𝓣 .C) (𝓣 .Λ) code.function (s ∷ s′ ∷ vint w64 n ∷ []) _ $
+      alloc1 ! (λ l₀. alloc1 ! (λ l₁. alloc1 ! (λ l₂. alloc1 ! (λ l₃. alloc1 ! (λ l₄. alloc1 ! (λ l₅. alloc1 ! (λ l₆. alloc1 ! (λ l₇. alloc1 ! (λ l₈. alloc1 ! (λ l₉. alloc0 ! $ params1 ! $
+      pass1 ! (init ! 16 refl (tt, (tt, (record { fits = room .0 }, tt)))) $ pass1 ! (init ! 14 refl (tt, (tt, (record { fits = room′ .0 }, tt)))) $ pass1 ! (init ! 12 refl (tt, record { fits = n-fits })) $ pass0 ! $
+      -- [_9; …; _8; …; _7; …; _6; …; _5; …; _4; …; _3; …; _2; …; _1; …; room for _0; …; the tokens; what the parameters own]
+      assigns ! (of-opd ! (lit ! tt)) (from ! (stop !)) (init ! 10 refl (tt, record { fits = lit< tt })) $
+      move ! (21 ∷ []) $ fsplit ! $ fsplit ! $ move ! (1 ∷ []) $ fsplit ! $ move ! (24 ∷ []) $ split ! $ move ! (2 ∷ 3 ∷ 0 ∷ []) $
       opens-slice ! tt R ys b o $
-      -- [the rows; the open borrow; obs; auth; from's token; rows' fact; from's and the numbers'; _11; …]
+      -- [the rows; the open borrow; obs; auth; from's token; rows' fact; from's and the number's; _9; …]
       move ! (4 ∷ []) $ split ! $ move ! (7 ∷ []) $ fsplit ! $
-      -- [from; the numbers'; from's token; true; the rows; the open borrow; obs; auth; rows' fact; _11; …; _10; …; _9; …; _8; …; _7; …; _6; …; _5; …; _4; …; _3; …; _2; …; _1; …; room for _0; …]
-      keep ! (4 ∷ 21 ∷ 19 ∷ 17 ∷ 15 ∷ 13 ∷ 11 ∷ 9 ∷ 2 ∷ 0 ∷ 29 ∷ 27 ∷ 25 ∷ 23 ∷ 31 ∷ 5 ∷ 6 ∷ 7 ∷ 32 ∷ 30 ∷ 28 ∷ 26 ∷ 24 ∷ 22 ∷ 20 ∷ 18 ∷ 16 ∷ 14 ∷ 12 ∷ 10 ∷ []) $ by ! (loops 𝓣 known l₀ l₁ l₂ l₃ l₄ l₅ l₆ l₇ l₈ l₉ l₁₀ l₁₁)))))))))))))
+      -- [from; the number's; from's token; true; the rows; the open borrow; obs; auth; rows' fact; _9; …; _8; …; _7; …; _6; …; _5; …; _4; …; _3; …; _2; …; _1; …; room for _0; …]
+      keep ! (4 ∷ 19 ∷ 17 ∷ 15 ∷ 13 ∷ 11 ∷ 9 ∷ 2 ∷ 0 ∷ 25 ∷ 23 ∷ 21 ∷ 27 ∷ 5 ∷ 6 ∷ 7 ∷ 28 ∷ 26 ∷ 24 ∷ 22 ∷ 20 ∷ 18 ∷ 16 ∷ 14 ∷ 12 ∷ 10 ∷ []) $ by ! (loops 𝓣 known l₀ l₁ l₂ l₃ l₄ l₅ l₆ l₇ l₈ l₉)))))))))))
 
 module _ {M : Type 1} (𝓤 : URA M) (H : Heap 𝓤) (A : Atoms 𝓤) (W : Given 𝓤 H A) (mem : Memory → SProp 𝓤) (run : Routine → Fun 𝓤) where
   f-walks : (𝓣 : Tables 𝓤 H) → Triple 𝓤 (𝓣 .C #rows·row-at) (RowAt 𝓤 H A mem run) → Walks 𝓤 H A f.ended stayed (WpFn 𝓤 H (𝓣 .C) (𝓣 .Λ) code.function) (f.clauses 𝓤 H A mem run)
   f-walks 𝓣 known = walked 𝓤 H A f.ended stayed (f.clauses 𝓤 H A mem run) (WpFn 𝓤 H (𝓣 .C) (𝓣 .Λ) code.function)
-      (λ κs. (slice-vals, (slice-vals, (uint-vals w64, (uint-vals w64, tt))))) (λ κs. (mut-slice-tells (named 0) (κs .0) R, (shr-slice-tells (named 1) (κs .1 .0) u8, (uint-tells w64, (uint-tells w64, tt)))))
-      (λ κs qs bounds a _ are. needs 𝓤 ((a .1 .1 .1 .0 ≤ length (a .0 .now)) × (a .1 .1 .0 + a .1 .1 .1 .0 * 24 ≤ length (a .1 .0 .now))) _ (λ p.
-      walk 𝓤 H A W mem run (κs .0) (κs .1 .0) bounds (qs .0) (qs .1 .0) (a .0 .ptr .0) (a .0 .ptr .1) (a .0 .name) (a .0 .now) (a .1 .0) (a .1 .1 .0) (a .1 .1 .1 .0) (are .1 .1 .0 .1) (are .1 .1 .1 .0 .1) (are .0 .0 .1) (are .1 .0 .0 .1) (p .0) (p .1) 𝓣 known))
+      (λ κs. (slice-vals, (slice-vals, (uint-vals w64, tt)))) (λ κs. (mut-slice-tells (named 0) (κs .0) R, (shr-slice-tells (named 1) (κs .1 .0) u8, (uint-tells w64, tt))))
+      (λ κs qs bounds a _ are. needs 𝓤 ((a .1 .1 .0 ≤ length (a .0 .now)) × (a .1 .1 .0 * 24 ≤ length (a .1 .0 .now))) _ (λ p.
+      walk 𝓤 H A W mem run (κs .0) (κs .1 .0) bounds (qs .0) (qs .1 .0) (a .0 .ptr .0) (a .0 .ptr .1) (a .0 .name) (a .0 .now) (a .1 .0) (a .1 .1 .0) (are .1 .1 .0 .1) (are .0 .0 .1) (are .1 .0 .0 .1) (p .0) (p .1) 𝓣 known))
 
   goes : AllGo 𝓤 H A W 2 (f.signature .params) (f.ended .kept) stayed
-  goes = (goes-slice 𝓤 H A W 2 0 tt (plain (λ _. R)), (goes-none-slice 𝓤 H A W 2 (1 ∷ []) tt (plain (λ _. u8)) yes, (goes-none 𝓤 H A W 2 (λ _. usize) yes (λ κs x f. refl), (goes-none 𝓤 H A W 2 (λ _. usize) yes (λ κs x f. refl), tt))))
+  goes = (goes-slice 𝓤 H A W 2 0 tt (plain (λ _. R)), (goes-none-slice 𝓤 H A W 2 (1 ∷ []) tt (plain (λ _. u8)) yes, (goes-none 𝓤 H A W 2 (λ _. usize) yes (λ κs x f. refl), tt)))
 
 f-meets : {M : Type 1} (𝓤 : URA M) (H : Heap 𝓤) (A : Atoms 𝓤) → Given 𝓤 H A → (mem : Memory → SProp 𝓤) (run : Routine → Fun 𝓤) (𝓣 : Tables 𝓤 H) → Triple 𝓤 (𝓣 .C #rows·row-at) (RowAt 𝓤 H A mem run)
     → Meets 𝓤 H A f.signature (WpFn 𝓤 H (𝓣 .C) (𝓣 .Λ) code.function) (f.spec 𝓤 H A mem run)

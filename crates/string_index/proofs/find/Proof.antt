@@ -2,8 +2,9 @@
 use mathlib.Core.Path.{refl, subst}
 use borrow.Author.Needs.{needs}
 use denote.Ref.{now}
+use Rattle.definitions.specs.Causes.{number, index-rule-broken, before-finish}
 use Rattle.inspecting.specs.Held.{Inspects}
-use Rattle.string_index.proofs.Finding.{finds, finds-none}
+use Rattle.string_index.proofs.Finding.{finds, none-finds}
 use Rattle.string_index.proofs.find.Statement.{statement}
 use Rattle.string_index.proofs.find.Tie as tie
 
@@ -30,31 +31,27 @@ find-finished-requires c κs =
     let seen = c .before .before .before .before in
     let a = seen .before .before .before .before .args in
     let w = subst (Inspects (now (a .mem))) (c .before .before .h .given .1) (seen .inspect .ensures) in
-    w .told
+    (w .told, w .holds)
 
 returns : tie.Need-returns
 returns c =
     let seen = c .before .before .before in
     let a = seen .before .before .before .before .args in
     let w = subst (Inspects (now (a .mem))) (c .before .enum-told .given .1) (seen .inspect .ensures) in
-    finds-none (now (a .mem)) (now (a .q)) _ _ 1 _ (w .holds) refl refl (c .no-rows .ensures)
+    finds (now (a .mem)) (now (a .q)) (now (a .scratch)) _ _ (w .holds) (none-finds (now (a .scratch)) (number index-rule-broken) refl (c .no-rows .ensures))
 
 returns-2 : tie.Need-returns-2
 returns-2 c =
     let seen = c .before .before .before in
     let a = seen .before .before .before .before .args in
     let w = subst (Inspects (now (a .mem))) (c .before .enum-told2 .given .1) (seen .inspect .ensures) in
-    finds-none (now (a .mem)) (now (a .q)) _ _ 3 _ (w .holds) refl refl (c .no-rows2 .ensures)
+    finds (now (a .mem)) (now (a .q)) (now (a .scratch)) _ _ (w .holds) (none-finds (now (a .scratch)) (number before-finish) refl (c .no-rows2 .ensures))
 
 same-length : tie.Need-same-length
 same-length c = search needs
 
 returns-3 : tie.Need-returns-3
-returns-3 c =
-    let seen = c .before .before .before .before .before .before .before in
-    let a = seen .before .before .before .before .args in
-    let w = subst (Inspects (now (a .mem))) (c .before .before .before .before .before .h .given .1) (seen .inspect .ensures) in
-    finds (now (a .mem)) (now (a .q)) _ _ _ (w .holds) (search needs) (c .before .before .find-finished .ensures)
+returns-3 c = c .before .before .find-finished .ensures
 
 pub find-spec : {M : Type 1} → statement M
 find-spec =
