@@ -1,10 +1,11 @@
 -- What the numbers of timed parts mean. Assumes nothing.
 use Prim.Native.Nat.{ℕ, _-_}
+use mathlib.Core.Path.{_≡_}
 use mathlib.Core.Bool.{_||_, cond}
 use mathlib.Core.List.{List}
 use lib.ListN.{length, drop, set}
 use lib.Dec.{ltb, eqb}
-use Rattle.definitions.specs.Causes.{number, query-too-long}
+use Rattle.definitions.specs.Causes.{number, query-too-long, ScratchAfter}
 use Rattle.definitions.specs.Calls.{query-limit}
 use Rattle.trie.specs.Trie.{Trie}
 use Rattle.image.specs.Held.{trie-in}
@@ -48,6 +49,11 @@ counted o count = cond (eqb (o .refusal) 0) (set count 0 (length (o .rows))) cou
 abbrev pub counted-in : Layout → S.Rows-found → List ℕ → List ℕ
 counted-in (refused n) o count = count
 counted-in (right nodes entries) o count = counted o count
+
+-- and so it leaves scratch
+abbrev pub ScratchIn : Layout → S.Rows-found → List ℕ → List ℕ → Type 0
+ScratchIn (refused n) o before after = after ≡ before
+ScratchIn (right nodes entries) o before after = ScratchAfter (o .refusal) before after
 
 abbrev pub image-counted : List ℕ → List ℕ → ℕ → ℕ → List ℕ → List ℕ
 image-counted img q scratch room count = counted-in (check-image img) (image-search img q scratch room) count

@@ -9,8 +9,9 @@ ghost use Rattle.image.specs.Answers.{layout-of};
 ghost use Rattle.image.specs.Held.{trie-in};
 ghost use Rattle.image.specs.Reading.{read-image, RightImage};
 ghost use Rattle.index_rule.specs.Check.{check-image};
-ghost use Rattle.searching.specs.Search.{Answers, search-answer};
-ghost use Rattle.timed_parts.specs.Parts.{refusal-of, query-size, last-query, last-of, query-search, counted, image-search, image-counted};
+ghost use Rattle.definitions.specs.Causes.{ScratchAfter};
+ghost use Rattle.searching.specs.Search.{finding-of, search-answer};
+ghost use Rattle.timed_parts.specs.Parts.{refusal-of, query-size, last-query, last-of, query-search, counted, image-search, image-counted, ScratchIn};
 
 fn number(l: Layout) -> u64
     ensures { λ r. ⌜ r ≡ refusal-of (layout-of l) ⌝ }
@@ -59,7 +60,7 @@ fn search_each(
     room: usize,
 ) -> Finding
     requires { ⌜ RightImage (now img) × Rule (trie-in (now img)) × (size ≤ 256) × (min 1 (length (now queries)) ≤ size) × (size ≤ length (now queries)) ⌝ }
-    ensures { λ r. ⌜ Answers (search-answer (trie-in (now (img .entry))) (last-query (now (queries .entry)) size) (length (now (scratch .entry))) room) (now (scratch .exit)) r ⌝ }
+    ensures finding { λ r. ⌜ r ≡ finding-of (search-answer (trie-in (now (img .entry))) (last-query (now (queries .entry)) size) (length (now (scratch .entry))) room) ⌝ }
 {
     let last = queries.len() - size;
     let mut at = 0;
@@ -83,6 +84,7 @@ fn search_right(
     requires { ⌜ RightImage (now img) × Rule (trie-in (now img)) ⌝ }
     ensures answer { λ r. ⌜ r ≡ query-search (trie-in (now (img .entry))) (last-of (now (queries .entry)) size) (length (now (scratch .entry))) room .refusal ⌝ }
     ensures count { λ _. ⌜ now (count .exit) ≡ counted (query-search (trie-in (now (img .entry))) (last-of (now (queries .entry)) size) (length (now (scratch .entry))) room) (now (count .entry)) ⌝ }
+    ensures scratch { λ _. ⌜ ScratchAfter (query-search (trie-in (now (img .entry))) (last-of (now (queries .entry)) size) (length (now (scratch .entry))) room .refusal) (now (scratch .entry)) (now (scratch .exit)) ⌝ }
 {
     let n = query_size(queries, size);
     if definitions::QUERY_LIMIT < n {
@@ -109,6 +111,7 @@ pub extern "C" fn helmapricot_search_image(
 ) -> u64
     ensures answer { λ r. ⌜ r ≡ image-search (now (img .entry)) (last-of (now (queries .entry)) size) (length (now (scratch .entry))) room .refusal ⌝ }
     ensures count { λ _. ⌜ now (count .exit) ≡ image-counted (now (img .entry)) (last-of (now (queries .entry)) size) (length (now (scratch .entry))) room (now (count .entry)) ⌝ }
+    ensures scratch { λ _. ⌜ ScratchIn (check-image (now (img .entry))) (image-search (now (img .entry)) (last-of (now (queries .entry)) size) (length (now (scratch .entry))) room) (now (scratch .entry)) (now (scratch .exit)) ⌝ }
 {
     match index_rule::check(img) {
         Layout::Refused(n) => n,

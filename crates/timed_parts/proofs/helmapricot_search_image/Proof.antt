@@ -41,7 +41,7 @@ returns : tie.Need-returns
 returns c =
     let run = c .before .before .before in
     let a = run .before .before .before .before .args in
-    said-refused (now (a .img)) (last-of (now (a .queries)) (a .size)) (length (now (a .scratch))) (a .room) _ (ap layout-of (sym (c .before .n .given .1)) ∙ run .check .ensures)
+    said-refused (now (a .img)) (last-of (now (a .queries)) (a .size)) (length (now (a .scratch))) (a .room) (now (a .count)) (now (a .scratch)) (ap layout-of (sym (c .before .n .given .1)) ∙ run .check .ensures)
 
 -- src/lib.rt:101:1
 same-length : tie.Need-same-length
@@ -53,7 +53,7 @@ returns-2 c =
     let told = c .before .before .before .before .before in
     let run = told .before .before in
     let a = run .before .before .before .before .args in
-    said-right (now (a .img)) (last-of (now (a .queries)) (a .size)) (length (now (a .scratch))) (a .room) _ (ap layout-of (sym (told .enum-told .given .1)) ∙ run .check .ensures) (c .before .before .search-right .ensures)
+    said-right (now (a .img)) (last-of (now (a .queries)) (a .size)) (length (now (a .scratch))) (a .room) (now (a .count)) (now (a .scratch)) (ap layout-of (sym (told .enum-told .given .1)) ∙ run .check .ensures) (c .before .before .search-right .ensures)
 
 pub helmapricot-search-image-spec : {M : Type 1} → statement M
 helmapricot-search-image-spec =

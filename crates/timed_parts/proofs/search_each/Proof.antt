@@ -78,7 +78,7 @@ returns c =
     let c₂ = c .before .before in
     let c₆ = c₂ .before .before .before .before in
     let a = c₆ .before .before .before .before .args in
-    answers-last _ (a .queries .now) _ (a .size) _ _ (a .room) (tail-is (a .queries .now) _ (a .size) refl) (c₆ .loop .inv) (c₂ .search-image2 .ensures)
+    answers-last _ (a .queries .now) _ (a .size) _ _ (a .room) (tail-is (a .queries .now) _ (a .size) refl) (c₆ .loop .inv) (c₂ .search-image2 .ensures .0)
 
 pub search-each-spec : {M : Type 1} → statement M
 search-each-spec =
