@@ -75,13 +75,13 @@ past-nine t q scratch room = go (ltb (scratch / 24) (sizes (table-found t q))) (
 module _ (t : Trie) (qs : List ℕ) (size scratch room n : ℕ) (e : n ≡ query-size qs size) (cs before : List ℕ) where
   abbrev pub Said : ℕ → List ℕ → List ℕ → Type 0
   Said r cs′ after =
-      (r ≡ query-search t (last-of qs size) scratch room .refusal) × (cs′ ≡ counted (query-search t (last-of qs size) scratch room) cs)
-      × ScratchAfter (query-search t (last-of qs size) scratch room .refusal) before after
+      (r ≡ query-search t (last-of qs size) scratch room .refusal)
+      × ((cs′ ≡ counted (query-search t (last-of qs size) scratch room) cs) × ScratchAfter (query-search t (last-of qs size) scratch room .refusal) before after)
 
   pub says-too-long : 256 < n → Said 9 cs before
-  says-too-long h = let k : 256 < query-size qs size = omega arith in rw (too-long t qs size scratch room k) (refl, refl, record { same-length = refl; untouched = λ x. refl })
+  says-too-long h = let k : 256 < query-size qs size = omega arith in rw (too-long t qs size scratch room k) (refl, (refl, record { same-length = refl; untouched = λ x. refl }))
 
-  module _ {f : Finding} {after : List ℕ} (h : n ≤ 256) (l : length after ≡ length before) (a : f ≡ finding-of (search-answer t (last-query qs n) scratch room)) where
+  module _ {f : Finding} (after : List ℕ) (h : n ≤ 256) (l : length after ≡ length before) (a : f ≡ finding-of (search-answer t (last-query qs n) scratch room)) where
     found : Rows-found
     found = search-answer t (last-of qs size) scratch room
 
@@ -100,13 +100,13 @@ module _ (t : Trie) (qs : List ℕ) (size scratch room n : ℕ) (e : n ≡ query
     pub says-refused : (f .refusal ≡ 0 → ⊥) → Said (f .refusal) cs after
     says-refused z =
         let r : f .refusal ≡ found .refusal = ap (λ (x : Finding). x .refusal) same in
-        rw is-found (r, sym (not-counted found cs (λ k. z (r ∙ k))), free)
+        rw is-found (r, (sym (not-counted found cs (λ k. z (r ∙ k))), free))
 
     pub says-found : f .refusal ≡ 0 → Said 0 (set cs 0 (f .count)) after
     says-found z =
         let r : f .refusal ≡ found .refusal = ap (λ (x : Finding). x .refusal) same in
         let k : f .count ≡ length (found .rows) = ap (λ (x : Finding). x .count) same in
-        rw is-found (sym z ∙ r, ap (λ (x : ℕ). set cs 0 x) k ∙ sym (is-counted found cs (sym r ∙ z)), free)
+        rw is-found (sym z ∙ r, (ap (λ (x : ℕ). set cs 0 x) k ∙ sym (is-counted found cs (sym r ∙ z)), free))
 
 -- ── the image's own refusal comes first ──
 
@@ -116,14 +116,13 @@ right-image img b l {k} {j} e = let w = check-image-is img b l k j .0 (sym e) in
 module _ (img q : List ℕ) (scratch room : ℕ) (cs before : List ℕ) where
   abbrev pub SaidOf : Layout → ℕ → List ℕ → List ℕ → Type 0
   SaidOf l r cs′ after =
-      (r ≡ found-in l img q scratch room .refusal) × (cs′ ≡ counted-in l (found-in l img q scratch room) cs)
-      × ScratchIn l (found-in l img q scratch room) before after
+      (r ≡ found-in l img q scratch room .refusal) × ((cs′ ≡ counted-in l (found-in l img q scratch room) cs) × ScratchIn l (found-in l img q scratch room) before after)
 
   pub said-refused : {n : ℕ} → R.refused n ≡ check-image img → SaidOf (check-image img) n cs before
-  said-refused {n} e = subst (λ (l : Layout). SaidOf l n cs before) e (refl, refl, refl)
+  said-refused {n} e = subst (λ (l : Layout). SaidOf l n cs before) e (refl, (refl, refl))
 
   pub said-right : {k j r : ℕ} {cs′ after : List ℕ} → right k j ≡ check-image img
-      → (r ≡ query-search (trie-in img) q scratch room .refusal) × (cs′ ≡ counted (query-search (trie-in img) q scratch room) cs)
-      × ScratchAfter (query-search (trie-in img) q scratch room .refusal) before after
+      → (r ≡ query-search (trie-in img) q scratch room .refusal)
+      × ((cs′ ≡ counted (query-search (trie-in img) q scratch room) cs) × ScratchAfter (query-search (trie-in img) q scratch room .refusal) before after)
       → SaidOf (check-image img) r cs′ after
   said-right {k} {j} {r} {cs′} {after} e w = subst (λ (l : Layout). SaidOf l r cs′ after) e w

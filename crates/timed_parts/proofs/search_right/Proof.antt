@@ -41,7 +41,7 @@ returns-2 : tie.Need-returns-2
 returns-2 c =
     let test = c .before .before .before .before .before .before in
     let a = test .before .before .before .before .before .args in
-    says-refused (trie-in (now (a .img))) (now (a .queries)) (a .size) (length (now (a .scratch))) (a .room) _ (test .before .query-size .ensures) (now (a .count)) (now (a .scratch)) (omega (arith, test .if1 .left)) (search needs) (c .before .before .before .before .search-each .ensures) (c .if2 .taken)
+    says-refused (trie-in (now (a .img))) (now (a .queries)) (a .size) (length (now (a .scratch))) (a .room) _ (test .before .query-size .ensures) (now (a .count)) (now (a .scratch)) _ (omega (arith, test .if1 .left)) (search needs) (c .before .before .before .before .search-each .ensures) (c .if2 .taken)
 
 -- src/lib.rt:95:5
 element-write-count : tie.Need-element-write-count
@@ -56,7 +56,7 @@ returns-3 : tie.Need-returns-3
 returns-3 c =
     let test = c .before .before .before .before .before .before in
     let a = test .before .before .before .before .before .args in
-    says-found (trie-in (now (a .img))) (now (a .queries)) (a .size) (length (now (a .scratch))) (a .room) _ (test .before .query-size .ensures) (now (a .count)) (now (a .scratch)) (omega (arith, test .if1 .left)) (search needs) (c .before .before .before .before .search-each .ensures) (c .if2 .left)
+    says-found (trie-in (now (a .img))) (now (a .queries)) (a .size) (length (now (a .scratch))) (a .room) _ (test .before .query-size .ensures) (now (a .count)) (now (a .scratch)) _ (omega (arith, test .if1 .left)) (search needs) (c .before .before .before .before .search-each .ensures) (c .if2 .left)
 
 pub search-right-spec : {M : Type 1} → statement M
 search-right-spec =
