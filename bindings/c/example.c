@@ -45,7 +45,7 @@ static void block(uint64_t address, uint64_t created_at, uint64_t destroyed_at, 
 
 static void find(const char *text)
 {
-    uint64_t count;
+    uint64_t count; /* set unless the search is refused, where say does not return */
     say(helmapricot_search(memory, sizeof memory, (const uint8_t *)text, strlen(text), scratch, sizeof scratch, rows,
                            ROWS, &count),
         NULL);

@@ -8,8 +8,8 @@
  * if not. That costs a pass over what it holds. It is no checksum: a change that leaves an index, such as another data byte
  * in an open one, is that other index. But no content of the memory, the image or the stream makes a call go astray.
  *
- * Every call answers HELMAPRICOT_DONE (0) or the number of a refusal. A refused call changes nothing, with these exceptions:
- * scratch after refusals 10 and 11, and the count, the size and the first field, which are set to 0.
+ * Every call answers HELMAPRICOT_DONE (0) or the number of a refusal. A refused call changes nothing that it was handed, the
+ * count, the size and the fields among it. The one exception is scratch after refusals 10 and 11.
  */
 #ifndef HELMAPRICOT_H
 #define HELMAPRICOT_H
@@ -93,7 +93,7 @@ struct helmapricot_row {
 
 /* A block of a stream, in the order in which helmapricot_read_block writes its seven fields. */
 struct helmapricot_block {
-    uint64_t present;      /* 1, or 0 where there is no block; then the other fields stay as they were */
+    uint64_t present;      /* 1, or 0 at the stream's end; then the other fields stay as they were */
     uint64_t kind;
     uint64_t address;
     uint64_t length;       /* of the data, which are the bytes before next */
@@ -120,14 +120,14 @@ uint64_t helmapricot_finish(uint8_t *mem, size_t mem_len);
 
 /* Writes the rows of a query to rows, by address and then by first tick, and how many they are to *count; rows after the
  * last stay. rows_len counts rows. Scratch needs 24 bytes a place: a place is where and when the query from one of its bytes
- * on stood, counted over all its bytes; its contents are free afterwards. An empty query has no rows.
- * Answers 0, or 1, 3, 9, 10, 11. *count is 0 where it is refused. */
+ * on stood, counted over all its bytes. Its contents are free afterwards, but 1, 3 and 9 leave it. An empty query has no rows.
+ * Answers 0, or 1, 3, 9, 10, 11. *count stays as it was where it is refused. */
 uint64_t helmapricot_search(const uint8_t *mem, size_t mem_len, const uint8_t *query, size_t query_len, uint8_t *scratch,
                             size_t scratch_len, struct helmapricot_row *rows, size_t rows_len, uint64_t *count);
 
 /* Writes the image of a finished index to the front of out, and its size to *size; bytes behind the image stay. An image has
  * at most 64 * nodes + 48 * entries bytes, by the index's capacity.
- * Answers 0, or 1, 3, 12. *size is 0 where it is refused. */
+ * Answers 0, or 1, 3, 12. *size stays as it was where it is refused. */
 uint64_t helmapricot_save(const uint8_t *mem, size_t mem_len, uint8_t *out, size_t out_len, uint64_t *size);
 
 /* Replaces what an index in mem holds, open or finished, by an image, within the capacity that it was opened with. It is
@@ -138,7 +138,7 @@ uint64_t helmapricot_load(uint8_t *mem, size_t mem_len, const uint8_t *image, si
 /* Reads the block of a stream at a cursor: kind (1 byte), address, length, created_at, destroyed_at (8 each, lowest byte
  * first), then the data. Writes the seven fields of struct helmapricot_block. At the stream's end the first field is 0 and
  * the answer is 0.
- * Answers 0, or 13, 14. The first field is 0 where it is refused. */
+ * Answers 0, or 13, 14. The fields stay as they were where it is refused. */
 uint64_t helmapricot_read_block(const uint8_t *stream, size_t stream_len, size_t at, uint64_t *fields);
 
 #ifdef __cplusplus

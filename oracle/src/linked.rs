@@ -32,18 +32,27 @@ pub fn finish(mem: &mut [u8]) -> u64 {
     unsafe { helmapricot_finish(mem.as_mut_ptr(), mem.len()) }
 }
 
-/// The number of the refusal, 0 for none, and how many rows there are. The call writes the count, refused or not.
+/// What a call wrote to a place for a number; a refused call must leave it, which counts as 0.
+fn unless_refused(answer: u64, number: u64) -> u64 {
+    if answer == 0 {
+        return number;
+    }
+    assert_eq!(number, u64::MAX, "a call refused with {answer} wrote a number");
+    0
+}
+
+/// The number of the refusal, 0 for none, and how many rows there are.
 pub fn search(mem: &[u8], q: &[u8], scratch: &mut [u8], rows: &mut [Row]) -> (u64, u64) {
     let mut count = u64::MAX;
     let n = unsafe { helmapricot_search(mem.as_ptr(), mem.len(), q.as_ptr(), q.len(), scratch.as_mut_ptr(), scratch.len(), rows.as_mut_ptr(), rows.len(), &mut count) };
-    (n, count)
+    (n, unless_refused(n, count))
 }
 
-/// The number of the refusal, 0 for none, and how many bytes the image has. The call writes the size, refused or not.
+/// The number of the refusal, 0 for none, and how many bytes the image has.
 pub fn save(mem: &[u8], out: &mut [u8]) -> (u64, u64) {
     let mut size = u64::MAX;
     let n = unsafe { helmapricot_save(mem.as_ptr(), mem.len(), out.as_mut_ptr(), out.len(), &mut size) };
-    (n, size)
+    (n, unless_refused(n, size))
 }
 
 pub fn load(mem: &mut [u8], image: &[u8]) -> u64 {

@@ -10,3 +10,64 @@ extern "C" {
     pub fn helmapricot_load(mem: *mut u8, mem_len: usize, image: *const u8, image_len: usize) -> u64;
     pub fn helmapricot_read_block(stream: *const u8, stream_len: usize, at: usize, fields: *mut u64) -> u64;
 }
+
+#[cfg(test)]
+mod tests {
+    //! A refused call leaves the count, the size and the fields as they were.
+    use super::*;
+    use crate::{Index, Kind, Refusal};
+
+    const BEFORE: u64 = 0xeeee;
+
+    fn search(memory: &[u8], query: &[u8], places: usize, rows: usize) -> (u64, u64) {
+        let (mut scratch, mut rows, mut count) = (vec![0; 24 * places], vec![Row::default(); rows], BEFORE);
+        let number = unsafe { helmapricot_search(memory.as_ptr(), memory.len(), query.as_ptr(), query.len(), scratch.as_mut_ptr(), scratch.len(), rows.as_mut_ptr(), rows.len(), &mut count) };
+        (number, count)
+    }
+
+    fn save(memory: &[u8], room: usize) -> (u64, u64) {
+        let (mut out, mut size) = (vec![0; room], BEFORE);
+        let number = unsafe { helmapricot_save(memory.as_ptr(), memory.len(), out.as_mut_ptr(), out.len(), &mut size) };
+        (number, size)
+    }
+
+    fn read_block(stream: &[u8], at: usize) -> (u64, [u64; 7]) {
+        let mut fields = [BEFORE; 7];
+        let number = unsafe { helmapricot_read_block(stream.as_ptr(), stream.len(), at, fields.as_mut_ptr()) };
+        (number, fields)
+    }
+
+    #[test]
+    fn counts_and_sizes() -> Result<(), Refusal> {
+        let mut index = Index::new(10, 10)?;
+        index.record(Kind::Memory, 1, 1, 9, b"aba")?;
+        assert_eq!(search(index.memory(), b"a", 2, 2), (3, BEFORE));
+        assert_eq!(save(index.memory(), 1000), (3, BEFORE));
+        index.finish()?;
+        assert_eq!(search(index.memory(), &[b'a'; 257], 2, 2), (9, BEFORE));
+        assert_eq!(search(index.memory(), b"a", 1, 2), (10, BEFORE));
+        assert_eq!(search(index.memory(), b"a", 2, 1), (11, BEFORE));
+        assert_eq!(search(index.memory(), b"a", 2, 2), (0, 2));
+        assert_eq!(search(index.memory(), b"x", 2, 2), (0, 0));
+        let size = index.save()?.len();
+        assert_eq!(save(index.memory(), size - 1), (12, BEFORE));
+        assert_eq!(save(index.memory(), size), (0, size as u64));
+        let broken = [0; 100];
+        assert_eq!(search(&broken, b"a", 2, 2), (1, BEFORE));
+        assert_eq!(save(&broken, 1000), (1, BEFORE));
+        Ok(())
+    }
+
+    #[test]
+    fn fields() {
+        let mut stream = vec![1];
+        [5, 2, 10, 50].iter().for_each(|n: &u64| stream.extend(n.to_le_bytes()));
+        stream.extend(b"ab");
+        assert_eq!(read_block(&stream, 0), (0, [1, 1, 5, 2, 10, 50, 35]));
+        assert_eq!(read_block(&stream, 35), (0, [0, BEFORE, BEFORE, BEFORE, BEFORE, BEFORE, BEFORE]));
+        assert_eq!(read_block(&stream, 36), (13, [BEFORE; 7]));
+        assert_eq!(read_block(&stream[..34], 0), (13, [BEFORE; 7]));
+        stream[0] = 5;
+        assert_eq!(read_block(&stream, 0), (14, [BEFORE; 7]));
+    }
+}

@@ -67,13 +67,19 @@ fn calls<M: AsRef<[u8]> + AsMut<[u8]>>(index: &mut Index<M>, images: &mut Vec<Ve
         _ => {
             let n = r.pick(&[0, 1, 1, 2, 3, 20, 256, 257]);
             let query = r.bytes(n, 3);
-            let mut scratch = vec![0; r.below(2000) as usize];
+            let size = r.below(2000) as usize;
+            let mut scratch = r.bytes(size, 256);
             let mut rows = vec![Row::default(); r.below(30) as usize];
             if let Ok(count) = index.search_in(&query, &mut scratch, &mut rows) {
                 assert!(count <= rows.len());
                 assert!(rows[..count].windows(2).all(|w| w[0] < w[1]));
             }
-            expect(index.search_in(&query, &mut scratch, &mut rows), &[1, 3, 9, 10, 11])
+            let (scratch_before, rows_before) = (scratch.clone(), rows.clone());
+            let refused = expect(index.search_in(&query, &mut scratch, &mut rows), &[1, 3, 9, 10, 11]);
+            // scratch is free past check 9
+            assert!(![1, 3, 9].contains(&refused) || scratch == scratch_before);
+            assert!(refused == 0 || rows == rows_before);
+            refused
         }
     };
     if refused != 0 {

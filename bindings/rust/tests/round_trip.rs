@@ -78,6 +78,23 @@ fn lent_buffers() -> Done {
 }
 
 #[test]
+fn a_refused_search_leaves_rows_and_scratch() -> Done {
+    let untouched = Row { address: u64::MAX, created: u64::MAX, destroyed: u64::MAX };
+    let (mut scratch, mut rows) = ([0xee; 48], [untouched; 2]);
+    let mut index = Index::new(10, 10)?;
+    index.record(Kind::Memory, 1, 1, 9, b"aba")?;
+    assert_eq!(index.search_in(b"a", &mut scratch, &mut rows), Err(Refusal::BeforeFinish));
+    index.finish()?;
+    assert_eq!(index.search_in(&[b'a'; 257], &mut scratch, &mut rows), Err(Refusal::QueryTooLong));
+    assert_eq!(Index::held_in([0; 100]).search_in(b"a", &mut scratch, &mut rows), Err(Refusal::IndexRuleBroken));
+    assert_eq!(scratch, [0xee; 48]);
+    assert_eq!(index.search_in(b"a", &mut scratch, &mut rows[..1]), Err(Refusal::TooManyRows));
+    assert_eq!(index.search_in(b"a", &mut scratch[..47], &mut rows), Err(Refusal::ScratchTooSmall));
+    assert_eq!(rows, [untouched; 2]);
+    Ok(())
+}
+
+#[test]
 fn rows_in_memory() -> Done {
     let mut index = Index::new(10, 10)?;
     index.record(Kind::Memory, 0x0102030405060708, 0x1112131415161718, 0x2122232425262728, b"a")?;

@@ -122,7 +122,7 @@ fn find(mem: &[u8], q: &[u8], out: &mut [u8], at: usize) -> usize
     if found.refusal != 0 {
         return refuse(out, at, found.refusal);
     }
-    put_rows(out, at, &scratch, found.at, found.count)
+    put_rows(out, at, &scratch, 0, found.count)
 }
 
 // Answers a line to the output from index at on; the index behind the answer.
