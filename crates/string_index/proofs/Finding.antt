@@ -3,17 +3,17 @@ use Prim.Native.Nat.{ℕ, _/_, _≤_, _<_}
 use native.Mathlib.Omega.{arith}
 use mathlib.Core.Path.{_≡_, refl, sym, _∙_, subst}
 use mathlib.Core.Bool.{Bool, true, false, cond}
-use mathlib.Core.List.{List}
+use mathlib.Core.List.{List, []}
 use mathlib.Core.Option.{Option, none, some}
 use lib.ListN.{length}
 use lib.Seq.{sets}
 use lib.Dec.{ltb}
-use borrow.Author.Tests.{lt-ltb, le-ltb, ltb-false}
+use borrow.Author.Tests.{le-ltb, ltb-false}
 use Rattle.definitions.specs.Location.{Location}
 use Rattle.definitions.specs.Blocks.{Piece}
 use Rattle.definitions.specs.Places.{places-counted}
 use Rattle.definitions.specs.Rows.{rows}
-use Rattle.definitions.specs.Causes.{Cause, number, query-too-long, scratch-too-small, too-many-rows, first-cause, numbered, scratch-kept, ScratchAfter}
+use Rattle.definitions.specs.Causes.{Cause, number, scratch-too-small, too-many-rows, first-cause, numbered, scratch-kept, ScratchAfter}
 use Rattle.definitions.specs.Calls.{Capacity, Standing, search-checks}
 use Rattle.definitions.proofs.Checks.{none-applies}
 use Rattle.trie.specs.Trie.{Trie, trie-pieces}
@@ -49,8 +49,12 @@ by-pieces c t rule q scratch room h =
 abbrev pub Finds : Rows-found → List ℕ → List ℕ → Finding → Type 0
 Finds o x s f = (f ≡ finding-of o) × (AtFront (o .rows) s × ScratchAfter (o .refusal) x s)
 
+-- no rows stand in any scratch
+pub none-front : (s : List ℕ) → AtFront [] s
+none-front s = none-answers {o = refused 0} s 0 refl refl .1
+
 -- scratch that nothing was written to
-unchanged : (n : ℕ) (x : List ℕ) → ScratchAfter n x x
+pub unchanged : (n : ℕ) (x : List ℕ) → ScratchAfter n x x
 unchanged n x = record { same-length = refl; untouched = λ _. refl }
 
 -- what is refused before anything is found
@@ -59,11 +63,7 @@ none-finds {o} x n e g =
     let w = none-answers x n e g in
     (w .0, (w .1, unchanged (o .refusal) x))
 
--- a query that is too long is refused before that
-pub too-long : (c : Capacity) (t : Trie) (q : List ℕ) (scratch room : ℕ) → 256 < length q → find-by (finished c t) q scratch room ≡ refused (number query-too-long)
-too-long c t q scratch room h = rw (lt-ltb 256 (length q) h)
-
--- one that is not is refused only past check 9
+-- a query that is not too long is refused only past check 9
 past-nine : (c : Capacity) (t : Trie) (q : List ℕ) (scratch room : ℕ) → length q ≤ 256 → numbered (find-by (finished c t) q scratch room .refusal) scratch-kept ≡ false
 past-nine c t q scratch room h = rw (le-ltb 256 (length q) h) (go (ltb (scratch / 24) (places-counted (trie-pieces t) q)) (ltb room (length (rows (trie-pieces t) q))))
   where

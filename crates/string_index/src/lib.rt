@@ -16,14 +16,14 @@ ghost use Rattle.definitions.specs.Causes.{ScratchAfter};
 ghost use Rattle.location.specs.Plain.{plain};
 ghost use Rattle.image.specs.Held.{trie-in};
 ghost use Rattle.index_memory.specs.Record.{record-memory};
-ghost use Rattle.index_memory.specs.Index.{finished, image-part, read-index};
+ghost use Rattle.index_memory.specs.Index.{finished, image-part};
 ghost use Rattle.index_memory.specs.Answers.{header-of, recorded-as};
 ghost use Rattle.inspecting.specs.Held.{ImageIn};
 ghost use Rattle.rows.specs.Rows.{numbers-of};
 ghost use Rattle.saving.specs.Saving.{save-memory, load-memory};
 ghost use Rattle.saving.specs.Answers.{saved-as, loaded-as};
 ghost use Rattle.searching.specs.Search.{finding-of, AtFront};
-ghost use Rattle.string_index.specs.Find.{find-memory};
+ghost use Rattle.string_index.specs.Find.{find-by, find-memory};
 ghost use Rattle.string_index.specs.Finish.{finish-memory, search-memory};
 ghost use Rattle.string_index.specs.Answers.{finished-as, answer-as};
 
@@ -68,10 +68,10 @@ pub enum Answer {
 
 // Finds the rows of a query in a finished index, where so many rows have room: h is the header of its memory.
 fn find_finished(mem: &[u8], h: Header, q: &[u8], scratch: &mut [u8], room: usize) -> Finding
-    requires { ⌜ ImageIn (now mem) (header-of h) × (read-index (now mem) ≡ finished (header-of h .capacity) (trie-in (image-part (now mem) (header-of h)))) ⌝ }
-    ensures found { λ r. ⌜ r ≡ finding-of (find-memory (now (mem .entry)) (now (q .entry)) (length (now (scratch .entry))) room) ⌝ }
-    ensures rows { λ _. ⌜ AtFront (find-memory (now (mem .entry)) (now (q .entry)) (length (now (scratch .entry))) room .rows) (now (scratch .exit)) ⌝ }
-    ensures scratch { λ _. ⌜ ScratchAfter (find-memory (now (mem .entry)) (now (q .entry)) (length (now (scratch .entry))) room .refusal) (now (scratch .entry)) (now (scratch .exit)) ⌝ }
+    requires { ⌜ ImageIn (now mem) (header-of h) ⌝ }
+    ensures found { λ r. ⌜ r ≡ finding-of (find-by (finished (header-of h .capacity) (trie-in (image-part (now (mem .entry)) (header-of h)))) (now (q .entry)) (length (now (scratch .entry))) room) ⌝ }
+    ensures rows { λ _. ⌜ AtFront (find-by (finished (header-of h .capacity) (trie-in (image-part (now (mem .entry)) (header-of h)))) (now (q .entry)) (length (now (scratch .entry))) room .rows) (now (scratch .exit)) ⌝ }
+    ensures scratch { λ _. ⌜ ScratchAfter (find-by (finished (header-of h .capacity) (trie-in (image-part (now (mem .entry)) (header-of h)))) (now (q .entry)) (length (now (scratch .entry))) room .refusal) (now (scratch .entry)) (now (scratch .exit)) ⌝ }
 {
     if definitions::QUERY_LIMIT < q.len() {
         return searching::no_rows(definitions::QUERY_TOO_LONG);

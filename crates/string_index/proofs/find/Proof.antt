@@ -31,7 +31,7 @@ find-finished-requires c κs =
     let seen = c .before .before .before .before in
     let a = seen .before .before .before .before .args in
     let w = subst (Inspects (now (a .mem))) (c .before .before .h .given .1) (seen .inspect .ensures) in
-    (w .told, w .holds)
+    w .told
 
 returns : tie.Need-returns
 returns c =
@@ -51,7 +51,11 @@ same-length : tie.Need-same-length
 same-length c = search needs
 
 returns-3 : tie.Need-returns-3
-returns-3 c = c .before .before .find-finished .ensures
+returns-3 c =
+    let seen = c .before .before .before .before .before .before .before in
+    let a = seen .before .before .before .before .args in
+    let w = subst (Inspects (now (a .mem))) (c .before .before .before .before .before .h .given .1) (seen .inspect .ensures) in
+    finds (now (a .mem)) (now (a .q)) (now (a .scratch)) _ _ (w .holds) (c .before .before .find-finished .ensures)
 
 pub find-spec : {M : Type 1} → statement M
 find-spec =

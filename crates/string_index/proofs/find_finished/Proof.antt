@@ -1,13 +1,10 @@
 -- `string_index::find_finished` meets its contract: the image passed the test, so what is found is that by its pieces. Assumes nothing.
 use native.Mathlib.Omega.{arith}
-use lib.ListN.{length}
 use borrow.Author.Needs.{needs}
+use borrow.Author.Tests.{lt-ltb}
 use denote.Ref.{now}
-use Rattle.definitions.specs.Causes.{number, query-too-long}
-use Rattle.image.specs.Held.{trie-in}
-use Rattle.index_memory.specs.Index.{image-part}
 use Rattle.index_memory.specs.Answers.{header-of}
-use Rattle.string_index.proofs.Finding.{finds, none-finds, too-long}
+use Rattle.string_index.proofs.Finding.{none-front, unchanged}
 use Rattle.string_index.proofs.Calling.{searchable, answered-part}
 use Rattle.string_index.proofs.find_finished.Statement.{statement}
 use Rattle.string_index.proofs.find_finished.Tie as tie
@@ -18,11 +15,7 @@ no-rows-requires c κs = search needs
 returns : tie.Need-returns
 returns c =
     let long = c .before .if1 .taken in
-    let start = c .before .before .before .before .before in
-    let a = start .args in
-    let t = trie-in (image-part (now (a .mem)) (header-of (a .h))) in
-    let e = too-long (header-of (a .h) .capacity) t (now (a .q)) (length (now (a .scratch))) (a .room) long in
-    finds (now (a .mem)) (now (a .q)) (now (a .scratch)) (a .room) _ (start .pre .1) (none-finds (now (a .scratch)) (number query-too-long) e (c .no-rows .ensures))
+    (rw (lt-ltb 256 _ long) (c .no-rows .ensures), (rw (lt-ltb 256 _ long) (none-front _), unchanged _ _))
 
 add-search-image : tie.Need-add-search-image
 add-search-image c = search needs
@@ -42,7 +35,7 @@ search-image-requires c κs =
     let known = test .before .before .before in
     let start = known .before in
     let a = start .args in
-    let w = searchable (now (a .mem)) (header-of (a .h)) (λ j. omega (arith, known .shared-slice-known .given j)) (omega arith) (start .pre .0) in
+    let w = searchable (now (a .mem)) (header-of (a .h)) (λ j. omega (arith, known .shared-slice-known .given j)) (omega arith) (start .pre) in
     (w .0, w .1, omega (arith, test .if1 .left))
 
 same-length : tie.Need-same-length
@@ -54,8 +47,7 @@ returns-2 c =
     let known = test .before .before .before in
     let start = known .before in
     let a = start .args in
-    let w = answered-part (now (a .mem)) (header-of (a .h)) (λ j. omega (arith, known .shared-slice-known .given j)) (omega arith) (start .pre .0) (now (a .q)) (now (a .scratch)) _ (a .room) (omega (arith, test .if1 .left)) (search needs) (c .before .before .search-image .ensures) in
-    finds (now (a .mem)) (now (a .q)) (now (a .scratch)) (a .room) _ (start .pre .1) w
+    answered-part (now (a .mem)) (header-of (a .h)) (λ j. omega (arith, known .shared-slice-known .given j)) (omega arith) (start .pre) (now (a .q)) (now (a .scratch)) _ _ (omega (arith, test .if1 .left)) (search needs) (c .before .before .search-image .ensures)
 
 pub find-finished-spec : {M : Type 1} → statement M
 find-finished-spec =
