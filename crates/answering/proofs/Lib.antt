@@ -1,8 +1,11 @@
--- `Blocks` has the memory after the block of a line, `Keeping` the laws of what is kept of a line, `Replying` those of replies
--- in an output, `Feeding` those of a loop over lines. Assumes nothing.
-pub mod Blocks
+-- `Keeping` has the laws of what is kept of a line, `Replying` those of replies in an output, `Blocks` and `Finding` those of the
+-- forms, `Answering` those of whole lines, `Feeding` those of the loop over lines; `Cutting` says that cuts don't matter, and `Turns` has
+-- the laws of a part that is answered in turns. Assumes nothing.
 pub mod Keeping
 pub mod Replying
-pub mod Feeding
+pub mod Blocks
 pub mod Finding
 pub mod Answering
+pub mod Feeding
+pub mod Cutting
+pub mod Turns

@@ -55,3 +55,9 @@ pub record AnswersLines (memory line : List ℕ) (n : ℕ) (input : List ℕ) (p
   pub goes-to : next ≡ p + used (length out) (begun memory line n) (drop p input)
   pub holds : HoldsState (after-bytes (begun memory line n) (used-part (length out) (begun memory line n) input p)) out memory′ line′ n′ out′ at
   pub goes-on : p < length input → p < next
+
+-- all of a part of the input was answered: the memory, and what is kept of a line
+pub record TakesPart (memory line : List ℕ) (n : ℕ) (input memory′ line′ : List ℕ) (n′ : ℕ) : Type 0 where
+  pub memory-is : memory′ ≡ after-bytes (begun memory line n) input .memory
+  pub kept-is : kept-in line′ n′ ≡ after-bytes (begun memory line n) input .kept
+  pub counted : n′ ≤ 1025

@@ -21,6 +21,8 @@ ghost use Rattle.answering.specs.Memory.{form-answer, memory-after-form,
 ghost use Rattle.answering.specs.Parts.{keeps, kept-answer, kept-memory, end-answer, end-memory};
 ghost use Rattle.answering.specs.Contracts.{kept-in, KeepsBehind, AnsweredBy, AnswersLines};
 
+// The lent memory that the capacity of the program needs: 1,000 nodes, 400 entries.
+pub const MEMORY_SIZE: usize = 105664;
 // The longest answer to a line: 64 places of 71 bytes, and the end of 27.
 pub const ANSWER_LIMIT: usize = 4571;
 // The bytes of scratch for 256 places.
