@@ -1,63 +1,51 @@
+-- `places::read_part` is safe and ends. Assumes nothing.
+use mathlib.Core.Path.{_≡_}
+use lib.ListN.{length}
+use borrow.Author.Needs.{needs}
 use Rattle.places.proofs.read_part.Statement.{statement}
 use Rattle.places.proofs.read_part.Tie as tie
-use Rattle.places.proofs.read_part.Reads as reads
-use Rattle.places.proofs.read_part.Lts as lts
-use Rattle.libc.proofs.read.Reads as read-reads
-use Rattle.os.proofs.errno.Reads as errno-reads
 
 abbrev Inv-loop : tie.InvT-loop
-Inv-loop input₀ turns₀ input turns = ?
+Inv-loop input₀ turns₀ input turns = length input ≡ length input₀
 
 abbrev μ-loop : tie.MeasureT-loop
-μ-loop input₀ turns₀ input turns = ?
+μ-loop input₀ turns₀ input turns = turns
 
--- src/main.rt:19:5
 loop-holds : tie.Need-loop-holds Inv-loop μ-loop
-loop-holds c = ?
+loop-holds c = search needs
 
--- src/main.rt:20:9
 sub-turns : tie.Need-sub-turns Inv-loop μ-loop
-sub-turns c = ?
+sub-turns c = search needs
 
--- src/main.rt:21:13
 read-requires : tie.Need-read-requires Inv-loop μ-loop
-read-requires c κs = ?
+read-requires c κs = search needs
 
--- src/main.rt:23:13
 same-length : tie.Need-same-length Inv-loop μ-loop
-same-length c = ?
+same-length c = search needs
 
--- src/main.rt:23:13
 returns : tie.Need-returns Inv-loop μ-loop
-returns c = ?
+returns c = search needs
 
--- src/main.rt:25:12
 errno-requires : tie.Need-errno-requires Inv-loop μ-loop
-errno-requires c κs = ?
+errno-requires c κs = search needs
 
--- src/main.rt:26:13
 same-length-2 : tie.Need-same-length-2 Inv-loop μ-loop
-same-length-2 c = ?
+same-length-2 c = search needs
 
--- src/main.rt:26:13
 returns-2 : tie.Need-returns-2 Inv-loop μ-loop
-returns-2 c = ?
+returns-2 c = search needs
 
--- src/main.rt:19:5
 loop-less : tie.Need-loop-less Inv-loop μ-loop
-loop-less c = ?
+loop-less c = search needs
 
--- src/main.rt:19:5
 loop-again : tie.Need-loop-again Inv-loop μ-loop
-loop-again c = ?
+loop-again c = search needs
 
--- src/main.rt:17:1
 same-length-3 : tie.Need-same-length-3 Inv-loop μ-loop
-same-length-3 c = ?
+same-length-3 c = search needs
 
--- src/main.rt:17:1
 returns-3 : tie.Need-returns-3 Inv-loop μ-loop
-returns-3 c = ?
+returns-3 c = search needs
 
 pub read-part-spec : {M : Type 1} → statement M
 read-part-spec =
