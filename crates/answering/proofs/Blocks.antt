@@ -13,7 +13,8 @@ use Rattle.definitions.specs.Program as P
 use Rattle.forms.specs.declared.Form.the-variants as F
 use Rattle.forms.specs.Answers.{form-in}
 
-take-limit : (n k : ℕ) (xs : List ℕ) → length xs ≡ k → take (min n k) xs ≡ take n xs
+-- as many as there are
+pub take-limit : (n k : ℕ) (xs : List ℕ) → length xs ≡ k → take (min n k) xs ≡ take n xs
 take-limit n k xs e = go (lt-or-ge n k)
   where
     go : (n < k) ⊎ (k ≤ n) → take (min n k) xs ≡ take n xs

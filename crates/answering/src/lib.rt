@@ -39,7 +39,7 @@ pub fn open(mem: &mut [u8]) -> Opened
 }
 
 // n, or the limit where n is larger.
-fn at_most(n: usize, limit: usize) -> usize
+pub fn at_most(n: usize, limit: usize) -> usize
     ensures { λ r. ⌜ r ≡ min n limit ⌝ }
 {
     if n <= limit { n } else { limit }
