@@ -87,7 +87,7 @@ not-finished n x rs e = go (eqb n 0) e
 
 -- ── rows ──
 
-replies-append : (ps qs : List Reply) → replies-bytes (ps ++ qs) ≡ replies-bytes ps ++ replies-bytes qs
+pub replies-append : (ps qs : List Reply) → replies-bytes (ps ++ qs) ≡ replies-bytes ps ++ replies-bytes qs
 replies-append [] qs = refl
 replies-append (p ∷ ps) qs = ap (λ (bs : List ℕ). reply-bytes p ++ bs) (replies-append ps qs) ∙ sym (append-assoc (reply-bytes p) (replies-bytes ps) (replies-bytes qs))
 

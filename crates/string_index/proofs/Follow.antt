@@ -25,7 +25,7 @@ pieces-snoc [] b = append-nil (pieces b)
 pieces-snoc (x ∷ bs) b = ap (λ (ps : List Piece). pieces x ++ ps) (pieces-snoc bs b) ∙ sym (append-assoc (pieces x) (pieces-of bs) (pieces b))
 
 -- the checks on a log are those on what was taken
-checks-same : (c : Capacity) (s : Recorded) (b : Block) → log-checks c (pieces-of (s .blocks)) b ≡ memory-checks c s b
+pub checks-same : (c : Capacity) (s : Recorded) (b : Block) → log-checks c (pieces-of (s .blocks)) b ≡ memory-checks c s b
 checks-same c s b = rw (pieces-snoc (s .blocks) b)
 
 -- what a memory holds after calls
