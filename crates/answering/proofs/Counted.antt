@@ -21,9 +21,9 @@ ends-by-set ps rs s [] = refl
 ends-by-set ps rs s (b ∷ q) =
     let e : ends ps q ≡ ends rs q = ends-by-set ps rs s q in
     let f : normal (by-pieces ps (b ∷ q) (ends ps q)) ≡ normal (by-pieces rs (b ∷ q) (ends ps q)) =
-        same-lists (normal (by-pieces ps (b ∷ q) (ends ps q))) (normal (by-pieces rs (b ∷ q) (ends ps q)))
-        (sorted-normal (by-pieces ps (b ∷ q) (ends ps q))) (sorted-normal (by-pieces rs (b ∷ q) (ends ps q)))
-        (places-more ps rs (s .to) (b ∷ q) (ends ps q)) (places-more rs ps (s .fro) (b ∷ q) (ends ps q)) in
+    same-lists (normal (by-pieces ps (b ∷ q) (ends ps q))) (normal (by-pieces rs (b ∷ q) (ends ps q)))
+    (sorted-normal (by-pieces ps (b ∷ q) (ends ps q))) (sorted-normal (by-pieces rs (b ∷ q) (ends ps q)))
+    (places-more ps rs (s .to) (b ∷ q) (ends ps q)) (places-more rs ps (s .fro) (b ∷ q) (ends ps q)) in
     ap (λ (t : List Location). t ∷ ends ps q) f ∙ ap (λ (ts : List (List Location)). normal (by-pieces rs (b ∷ q) ts) ∷ ts) e
 
 pub counted-by-set : (ps rs : List Piece) → SamePieces ps rs → (q : List ℕ) → places-counted ps q ≡ places-counted rs q

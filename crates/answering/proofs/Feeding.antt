@@ -199,11 +199,12 @@ module _ (m line₀ : List ℕ) (n : ℕ) {input out mem line out′ : List ℕ}
           → (e + 1 + u ≡ p + used (length out) (begun m line₀ n) (drop p input)) × (after-bytes then (take u behind) ≡ after-bytes (begun m line₀ n) (used-part (length out) (begun m line₀ n) input p))
       turned u f =
           let a : used (length out) (g .state) (xs ++ 10 ∷ behind) ≡ length xs + suc u = line-used (length out) (g .state) xs behind (part-plain input next e w) ∙ ap (λ (x : ℕ). length xs + suc x) f in
-          let c : used (length out) (g .state) (drop next input) ≡ length xs + suc u = ap (used (length out) (g .state)) cut ∙ a in
-          (omega (arith, c, part-length input next e w, w .from, g .same-end),
-          sym (line-after (length out) (g .state) xs behind (part-plain input next e w) u a)
-          ∙ ap (λ (t : List ℕ). after-bytes (g .state) (take (used (length out) (g .state) t) t)) (sym cut)
-          ∙ g .same-state)
+          let c : used (length out) (g .state) (drop next input) ≡ length xs + suc u = ap (used (length out) (g .state)) cut ∙ a in (
+            omega (arith, c, part-length input next e w, w .from, g .same-end),
+            sym (line-after (length out) (g .state) xs behind (part-plain input next e w) u a)
+                ∙ ap (λ (t : List ℕ). after-bytes (g .state) (take (used (length out) (g .state) t) t)) (sym cut)
+                ∙ g .same-state,
+          )
 
       reached : r ≡ length (then .answers)
       reached = then-holds .written .next ∙ omega arith

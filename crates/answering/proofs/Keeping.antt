@@ -80,7 +80,6 @@ few-kept {line} {bs} {after} {n} {r} k = omega (arith, k .count, few (ltb 1024 (
 
 -- ── the whole line ──
 
-
 module _ (m l : List ℕ) where
   -- a line is answered as what is kept of it
   pub line-kept : kept-answer m (keeps (part []) l) ≡ line-answer m l

@@ -213,7 +213,11 @@ pub fn answer_lines(
         let e = lines::line_end(input, next);
         if e == input.len() {
             let k = keep(line, kept, &input[next..]);
-            return Progress { kept: k, at, next: e };
+            return Progress {
+                kept: k,
+                at,
+                next: e,
+            };
         }
         at = end_line(mem, line, kept, &input[next..e], out, at);
         kept = 0;

@@ -50,12 +50,18 @@ fn answer_part(mem: &mut [u8], line: &mut [u8], n: usize, input: &[u8], out: &mu
         let s = answering::answer_lines(mem, line, kept, input, p, out);
         let at = s.at;
         if !write_part(&out[..at]) {
-            return Part { written: false, kept: 0 };
+            return Part {
+                written: false,
+                kept: 0,
+            };
         }
         kept = s.kept;
         p = s.next;
     }
-    Part { written: true, kept }
+    Part {
+        written: true,
+        kept,
+    }
 }
 
 // Reads all input, a part at a time, and writes the answers of each before the next is read. Stops where that fails.

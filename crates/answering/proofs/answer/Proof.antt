@@ -18,9 +18,10 @@ use Rattle.answering.proofs.answer.Tie as tie
 
 -- the buffer has 512 bytes, and the answer and the buffer give the form of the line
 read-as : (l after : List ℕ) {r v : Form} → Reads l (replicate 512 0) r after → r ≡ v → (length after ≡ 512) × (form-in v after ≡ read-line l)
-read-as l after {r} {v} f e =
-    (omega (arith, ap length (f .decoded), length-sets (replicate 512 0) 0 (bytes-of (read-line l)), length-replicate {A = ℕ} 512 0),
-    subst (λ (x : Form). form-in x after ≡ read-line l) e (f .means (omega (arith, length-replicate {A = ℕ} 512 0))))
+read-as l after {r} {v} f e = (
+  omega (arith, ap length (f .decoded), length-sets (replicate 512 0) 0 (bytes-of (read-line l)), length-replicate {A = ℕ} 512 0),
+  subst (λ (x : Form). form-in x after ≡ read-line l) e (f .means (omega (arith, length-replicate {A = ℕ} 512 0))),
+)
 
 slice-aggregate-read-form : tie.Need-slice-aggregate-read-form
 slice-aggregate-read-form c = search needs
