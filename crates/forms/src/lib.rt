@@ -43,7 +43,7 @@ fn wide(x: u8) -> u64
 }
 
 // Whether a line begins with a word.
-fn starts_with(line: &[u8], word: &[u8]) -> bool
+pub fn starts_with(line: &[u8], word: &[u8]) -> bool
     ensures { λ r. ⌜ r ≡ starts (now (word .entry)) (now (line .entry)) ⌝ }
 {
     let mut i = 0;

@@ -1,97 +1,101 @@
 // The program `places`: reads forms, a line each, and writes the answers of one index.
 use libc::STDIN_FILENO;
-ghost use Prim.Native.Nat.{_+_, _≤_, _<_};
+use libc::STDOUT_FILENO;
+ghost use mathlib.Core.Path.{_≡_};
+ghost use mathlib.Core.Bool.{true};
+ghost use Prim.Native.Nat.{_≤_, _<_};
 ghost use lib.ListN.{length};
+ghost use Rattle.answering.specs.Contracts.{TakesPart};
 
-// How many bytes of an unfinished line are kept, 1,025 where it is too long; and how far the output is filled.
-struct State {
+// Whether all was written; if so, how many bytes of an unfinished line are kept.
+struct Part {
+    pub written: bool,
     pub kept: usize,
-    pub at: usize,
 }
 
-// Keeps a part of a line behind n bytes of it; how many there are then.
-fn keep(line: &mut [u8], n: usize, part: &[u8]) -> usize
-    requires { ⌜ 1024 ≤ length (now line) ⌝ }
-{
-    if forms::LINE_LIMIT < n {
-        return n;
+// Reads a part of the input: how many bytes, 0 at its end, less where reading fails. What interrupts it is no failure.
+fn read_part(input: &mut [u8]) -> isize {
+    let mut turns = u64::MAX;
+    while 0 < turns {
+        turns -= 1;
+        let got = libc::read(STDIN_FILENO, input);
+        if 0 <= got {
+            return got;
+        }
+        if os::errno() != libc::EINTR {
+            return got;
+        }
     }
-    if forms::LINE_LIMIT - n < part.len() {
-        return forms::LINE_LIMIT + 1;
-    }
-    words::copy(part, 0, line, n, part.len());
-    n + part.len()
+    -1
 }
 
-// Answers the n bytes of a line that were kept; one that is too long is refused once.
-fn answer_kept(mem: &mut [u8], line: &[u8], n: usize, out: &mut [u8], at: usize) -> usize
-    requires { ⌜ (1024 ≤ length (now line)) × (71 ≤ length (now out)) ⌝ }
-{
-    if forms::LINE_LIMIT < n {
-        return answering::refuse(out, at, definitions::NO_FORM);
+// Writes the answers out, or says why that fails.
+fn write_part(answers: &[u8]) -> bool {
+    if io::write_all(STDOUT_FILENO, answers) {
+        return true;
     }
-    answering::answer(mem, &line[..n], out, at)
+    os::fail(b"places: output");
+    false
 }
 
-// Answers a line whose last part is at hand.
-fn end_line(mem: &mut [u8], line: &mut [u8], s: State, part: &[u8], out: &mut [u8]) -> State
-    requires { ⌜ (1024 ≤ length (now line)) × (71 ≤ length (now out)) ⌝ }
+// Answers a part of the input, behind n bytes that are kept of a line, and writes the answers as often as the output is full.
+fn answer_part(mem: &mut [u8], line: &mut [u8], n: usize, input: &[u8], out: &mut [u8]) -> Part
+    requires { ⌜ (1024 ≤ length (now line)) × (n ≤ 1025) × (4571 ≤ length (now out)) ⌝ }
+    ensures { λ r. ⌜ (r .written ≡ true → TakesPart (now (mem .entry)) (now (line .entry)) n (now (input .entry)) (now (mem .exit)) (now (line .exit)) (r .kept)) ⌝ }
+    ensures { λ r. ⌜ r .kept ≤ 1025 ⌝ }
 {
-    if s.kept == 0 {
-        let at = answering::answer(mem, part, out, s.at);
-        return State { kept: 0, at };
-    }
-    let n = keep(line, s.kept, part);
-    let at = answer_kept(mem, line, n, out, s.at);
-    State { kept: 0, at }
-}
-
-// Answers the lines of a block of input that end in it, and keeps the rest.
-fn take_block(mem: &mut [u8], line: &mut [u8], before: State, input: &[u8], out: &mut [u8]) -> State
-    requires { ⌜ (1024 ≤ length (now line)) × (71 ≤ length (now out)) ⌝ }
-{
-    let mut s = before;
+    let mut kept = n;
     let mut p = 0;
     while p < input.len() {
-        let e = answering::end_from(input, p);
-        if e == input.len() {
-            let kept = keep(line, s.kept, &input[p..]);
-            return State { kept, at: s.at };
+        let s = answering::answer_lines(mem, line, kept, input, p, out);
+        let at = s.at;
+        if !write_part(&out[..at]) {
+            return Part {
+                written: false,
+                kept: 0,
+            };
         }
-        s = end_line(mem, line, s, &input[p..e], out);
-        p = e + 1;
+        kept = s.kept;
+        p = s.next;
     }
-    s
+    Part {
+        written: true,
+        kept,
+    }
 }
 
-// Reads all input, a block at a time, and writes each block's answers before the next is read.
+// Reads all input, a part at a time, and writes the answers of each before the next is read. Stops where that fails.
 fn run(mem: &mut [u8], line: &mut [u8], out: &mut [u8])
-    requires { ⌜ (1024 ≤ length (now line)) × (71 ≤ length (now out)) ⌝ }
+    requires { ⌜ (1024 ≤ length (now line)) × (4571 ≤ length (now out)) ⌝ }
 {
     let mut input = io::large_buffer();
     let mut kept = 0;
     let mut turns = u64::MAX;
     while 0 < turns {
-        let got = libc::read(STDIN_FILENO, &mut input);
-        if got <= 0 {
-            break;
+        turns -= 1;
+        let got = read_part(&mut input);
+        if got < 0 {
+            os::fail(b"places: input");
+            return;
+        }
+        if got == 0 {
+            let at = answering::answer_end(mem, line, kept, out);
+            write_part(&out[..at]);
+            return;
         }
         let n = io::count(got, &input);
-        let s = take_block(mem, line, State { kept, at: 0 }, &input[..n], out);
-        answering::flush(out, s.at);
+        let s = answer_part(mem, line, kept, &input[..n], out);
+        if !s.written {
+            return;
+        }
         kept = s.kept;
-        turns -= 1;
-    }
-    if 0 < kept {
-        let at = answer_kept(mem, line, kept, out, 0);
-        answering::flush(out, at);
     }
 }
 
 fn main() {
-    let mut mem = [0u8; 105664];
-    let mut line = [0u8; 1024];
+    let mut mem = [0u8; answering::MEMORY_SIZE];
+    let mut line = [0u8; forms::LINE_LIMIT];
     let mut out = io::large_buffer();
-    string_index::open(&mut mem, 1000, 400);
+    answering::open(&mut mem);
     run(&mut mem, &mut line, &mut out);
 }

@@ -9,7 +9,8 @@ ghost use Rattle.replies.specs.Written.{Written, reply-bytes};
 // The longest reply with its newline: a place with three numbers of 20 digits.
 pub const REPLY_LIMIT: usize = 71;
 
-fn put_text(out: &mut [u8], at: usize, text: &[u8]) -> usize
+// Writes a text; the index behind it.
+pub fn put_text(out: &mut [u8], at: usize, text: &[u8]) -> usize
     requires { ⌜ at + length (now text) ≤ length (now out) ⌝ }
     ensures { λ r. ⌜ Written (now (out .entry)) at (now (text .entry)) (now (out .exit)) r ⌝ }
 {

@@ -3,6 +3,7 @@ pub mod Demand
 pub mod SavedTrie
 pub mod ReadFinished
 pub mod Theorem
+pub mod Following
 pub mod Finding
 pub mod Searched
 pub mod HandsOver

@@ -31,11 +31,11 @@ mem-at {b} (c ∷ bs) (later h) = go (mem-at bs h)
     go : At b bs → At b (c ∷ bs)
     go a = record { index = suc (a .index); inside = omega (arith, a .inside); is = a .is }
 
-location-fits : (b : Block) → Fits b → L.Fits (b .at)
+pub location-fits : (b : Block) → Fits b → L.Fits (b .at)
 location-fits b f = record { address = omega (arith, f .address); created = omega (arith, f .created); destroyed = omega (arith, f .destroyed) }
 
 -- the pieces of blocks that were taken, of callers' blocks, can be saved
-pieces-fit : (bs : List Block) → ((b : Block) → Mem b bs → Sound b) → AllFit bs → (p : Piece) → Mem p (pieces-of bs) → PieceFits p
+pub pieces-fit : (bs : List Block) → ((b : Block) → Mem b bs → Sound b) → AllFit bs → (p : Piece) → Mem p (pieces-of bs) → PieceFits p
 pieces-fit bs s f p h = go (pieces-mem bs h)
   where
     go : FromBlock bs p → PieceFits p

@@ -1,18 +1,27 @@
--- `answering::answer` does to the memory what the form of the line does. Assumes nothing.
+-- `answering::answer` meets its contract: the form that was read is answered. Assumes nothing.
 use Prim.Native.Nat.{ℕ}
 use native.Mathlib.Omega.{arith}
-use mathlib.Core.Path.{_≡_, ap, subst, _∙_}
+use mathlib.Core.Path.{_≡_, refl, ap, subst, _∙_}
+use mathlib.Core.List.{List}
 use lib.ListN.{length, replicate, length-take, length-replicate}
 use lib.Seq.{length-sets}
-use Rattle.forms.specs.ReadLine.{read-line}
 use denote.Ref.{now}
+use Rattle.forms.specs.ReadLine.{read-line}
 use Rattle.forms.specs.declared.Form.{Form}
-use Rattle.forms.specs.Answers.{Reads, bytes-of}
-use Rattle.answering.proofs.Blocks.{block-memory}
-use Rattle.answering.specs.Memory.{memory-after-form}
+use Rattle.forms.specs.Answers.{Reads, bytes-of, form-in}
+use Rattle.answering.proofs.Replying.{answered-refused}
+use Rattle.answering.proofs.Blocks.{find-form, block-form}
+use Rattle.answering.proofs.Answering.{line-by-form}
 use borrow.Author.Needs.{needs}
 use Rattle.answering.proofs.answer.Statement.{statement}
 use Rattle.answering.proofs.answer.Tie as tie
+
+-- the buffer has 512 bytes, and the answer and the buffer give the form of the line
+read-as : (l after : List ℕ) {r v : Form} → Reads l (replicate 512 0) r after → r ≡ v → (length after ≡ 512) × (form-in v after ≡ read-line l)
+read-as l after {r} {v} f e = (
+  omega (arith, ap length (f .decoded), length-sets (replicate 512 0) 0 (bytes-of (read-line l)), length-replicate {A = ℕ} 512 0),
+  subst (λ (x : Form). form-in x after ≡ read-line l) e (f .means (omega (arith, length-replicate {A = ℕ} 512 0))),
+)
 
 slice-aggregate-read-form : tie.Need-slice-aggregate-read-form
 slice-aggregate-read-form c = search needs
@@ -32,17 +41,17 @@ new-requires c κs = search needs
 array-share-prefix-bytes : tie.Need-array-share-prefix-bytes
 array-share-prefix-bytes c = search needs
 
-slice-aggregate-record : tie.Need-slice-aggregate-record
-slice-aggregate-record c = simp length-take (omega arith)
+slice-aggregate-answer-block : tie.Need-slice-aggregate-answer-block
+slice-aggregate-answer-block c = simp length-take (omega arith)
 
-record-requires : tie.Need-record-requires
-record-requires c κs = search needs
+answer-block-requires : tie.Need-answer-block-requires
+answer-block-requires c κs = search needs
 
 enum-told : tie.Need-enum-told
 enum-told c = search needs
 
-finish-requires : tie.Need-finish-requires
-finish-requires c κs = search needs
+answer-finish-requires : tie.Need-answer-finish-requires
+answer-finish-requires c κs = search needs
 
 enum-known-length : tie.Need-enum-known-length
 enum-known-length c = search needs
@@ -53,17 +62,17 @@ at-most-requires-2 c κs = search needs
 array-share-prefix-bytes-2 : tie.Need-array-share-prefix-bytes-2
 array-share-prefix-bytes-2 c = search needs
 
-slice-aggregate-find : tie.Need-slice-aggregate-find
-slice-aggregate-find c = simp length-take (omega arith)
+slice-aggregate-answer-find : tie.Need-slice-aggregate-answer-find
+slice-aggregate-answer-find c = simp length-take (omega arith)
 
-find-requires : tie.Need-find-requires
-find-requires c κs = search needs
+answer-find-requires : tie.Need-answer-find-requires
+answer-find-requires c κs = search needs
 
 enum-told-2 : tie.Need-enum-told-2
 enum-told-2 c = search needs
 
-refuse-requires : tie.Need-refuse-requires
-refuse-requires c κs = search needs
+put-refused-requires : tie.Need-put-refused-requires
+put-refused-requires c κs = search needs
 
 same-length : tie.Need-same-length
 same-length c = search needs
@@ -75,8 +84,8 @@ returns : tie.Need-returns
 returns c =
     let f = c .before .before .before .before .before .before .before .before .before .before .before .before .before .before .read-form in
     let a = c .before .before .before .before .before .before .before .before .before .before .before .before .before .before .before .before .before .before .before .args in
-    let w = subst (λ (r : Form). Reads (now (a .line)) _ r (f .last .1 .0)) (c .before .before .before .before .before .before .before .before .before .before .before .kind .given .1) (f .ensures) in
-    block-memory (now (a .mem)) (f .last .1 .0) _ _ _ _ _ _ _ _ _ (c .before .before .before .before .«record» .ensures) (c .before .before .before .before .before .before .before .before .before .at-most .ensures) (c .before .before .before .before .before .before .before .before .new .ensures) (omega (arith, ap length (w .decoded), length-sets (replicate 512 0) 0 (bytes-of (read-line (now (a .line)))), length-replicate {A = ℕ} 512 0)) (w .means (omega (arith, length-replicate {A = ℕ} 512 0)))
+    let w = read-as (now (a .line)) (f .last .1 .0) (f .ensures) (c .before .before .before .before .before .before .before .before .before .before .before .kind .given .1) in
+    line-by-form (now (a .mem)) (now (a .line)) (block-form (f .last .1 .0) _ _ (c .before .before .before .before .before .before .before .before .before .at-most .ensures) (w .0) _ _ _ _ _ (c .before .before .before .before .before .before .before .before .new .ensures) ∙ w .1) (c .before .before .before .before .answer-block .ensures)
 
 same-length-3 : tie.Need-same-length-3
 same-length-3 c = search needs
@@ -88,10 +97,8 @@ returns-2 : tie.Need-returns-2
 returns-2 c =
     let f = c .before .before .before .before .before .before .before .before .before .before .read-form in
     let a = c .before .before .before .before .before .before .before .before .before .before .before .before .before .before .before .args in
-    let m = now (a .mem) in
-    let w = subst (λ (r : Form). Reads (now (a .line)) _ r (f .last .1 .0)) (c .before .before .before .before .before .before .before .enum-told .given .1) (f .ensures) in
-    let e = w .means (omega (arith, length-replicate {A = ℕ} 512 0)) in
-    c .before .before .before .before .finish .ensures ∙ ap (memory-after-form m) e
+    let w = read-as (now (a .line)) (f .last .1 .0) (f .ensures) (c .before .before .before .before .before .before .before .enum-told .given .1) in
+    line-by-form (now (a .mem)) (now (a .line)) (w .1) (c .before .before .before .before .answer-finish .ensures)
 
 same-length-5 : tie.Need-same-length-5
 same-length-5 c = search needs
@@ -103,10 +110,8 @@ returns-3 : tie.Need-returns-3
 returns-3 c =
     let f = c .before .before .before .before .before .before .before .before .before .before .before .read-form in
     let a = c .before .before .before .before .before .before .before .before .before .before .before .before .before .before .before .before .args in
-    let m = now (a .mem) in
-    let w = subst (λ (r : Form). Reads (now (a .line)) _ r (f .last .1 .0)) (c .before .before .before .before .before .before .before .before .length .given .1) (f .ensures) in
-    let e = w .means (omega (arith, length-replicate {A = ℕ} 512 0)) in
-    ap (memory-after-form m) e
+    let w = read-as (now (a .line)) (f .last .1 .0) (f .ensures) (c .before .before .before .before .before .before .before .before .length .given .1) in
+    line-by-form (now (a .mem)) (now (a .line)) (find-form (f .last .1 .0) _ _ (c .before .before .before .before .before .before .at-most2 .ensures) (w .0) ∙ w .1) (c .before .before .answer-find .ensures)
 
 same-length-7 : tie.Need-same-length-7
 same-length-7 c = search needs
@@ -115,10 +120,8 @@ returns-4 : tie.Need-returns-4
 returns-4 c =
     let f = c .before .before .before .before .before .before .before .read-form in
     let a = c .before .before .before .before .before .before .before .before .before .before .before .before .args in
-    let m = now (a .mem) in
-    let w = subst (λ (r : Form). Reads (now (a .line)) _ r (f .last .1 .0)) (c .before .before .before .before .enum-told2 .given .1) (f .ensures) in
-    let e = w .means (omega (arith, length-replicate {A = ℕ} 512 0)) in
-    ap (memory-after-form m) e
+    let w = read-as (now (a .line)) (f .last .1 .0) (f .ensures) (c .before .before .before .before .enum-told2 .given .1) in
+    line-by-form (now (a .mem)) (now (a .line)) (w .1) (answered-refused 17 refl (c .before .before .put-refused .ensures) refl)
 
 pub answer-spec : {M : Type 1} → statement M
 answer-spec =
@@ -130,17 +133,17 @@ answer-spec =
     at-most-requires
     new-requires
     array-share-prefix-bytes
-    slice-aggregate-record
-    record-requires
+    slice-aggregate-answer-block
+    answer-block-requires
     enum-told
-    finish-requires
+    answer-finish-requires
     enum-known-length
     at-most-requires-2
     array-share-prefix-bytes-2
-    slice-aggregate-find
-    find-requires
+    slice-aggregate-answer-find
+    answer-find-requires
     enum-told-2
-    refuse-requires
+    put-refused-requires
     same-length
     same-length-2
     returns

@@ -1,18 +1,11 @@
--- `replay::put_byte` is safe and ends. Assumes nothing.
-use Prim.Native.Nat.{_-_, _≤_}
-use mathlib.Core.Path.{_≡_}
-use lib.ListN.{length, length-set}
+-- `replay::put_byte` meets its contract. Assumes nothing.
 use native.Mathlib.Omega.{arith}
+use lib.ListN.{length-set}
+use denote.Ref.{now}
+use Rattle.replay.proofs.Replaying.{byte-written}
 use borrow.Author.Needs.{needs}
 use Rattle.replay.proofs.put_byte.Statement.{statement}
 use Rattle.replay.proofs.put_byte.Tie as tie
-use Rattle.replay.proofs.put_byte.Reads as reads
-use Rattle.replay.proofs.put_byte.Lts as lts
-use Rattle.answering.proofs.room.Reads as room-reads
-use Rattle.replay.proofs.digit.Reads as digit-reads
-
-room-requires : tie.Need-room-requires
-room-requires c κs = search needs
 
 digit-requires : tie.Need-digit-requires
 digit-requires c κs = search needs
@@ -36,13 +29,14 @@ same-length : tie.Need-same-length
 same-length c = search needs
 
 returns : tie.Need-returns
-returns c = search needs
+returns c =
+    let a = c .before .before .before .args in
+    byte-written (now (a .out)) (a .at) (a .b) _ _ (c .before .digit .ensures) (c .digit2 .ensures)
 
 pub put-byte-spec : {M : Type 1} → statement M
 put-byte-spec =
     tie.close
     (tie.spec
-    room-requires
     digit-requires
     slice-write-out
     digit-requires-2

@@ -1,21 +1,28 @@
--- `replay::put_image` is safe and ends. Assumes nothing.
-use Prim.Native.Nat.{_-_, _≤_}
-use mathlib.Core.Path.{_≡_}
-use lib.ListN.{length, length-set, length-take}
+-- `replay::put_image` meets its contract: the digits of the bytes before index i are written. Assumes nothing.
+use Prim.Native.Nat.{_+_, _-_, _*_, _≤_}
 use native.Mathlib.Omega.{arith}
+use mathlib.Core.Path.{_≡_, refl, subst}
+use mathlib.Core.List.{List, [], _∷_, _++_}
+use Prim.Native.Nat.{ℕ}
+use lib.ListN.{length, getD, take, length-take}
+use denote.Ref.{now}
 use borrow.Author.Needs.{needs}
+use Rattle.definitions.specs.Program.{text, hex}
+use Rattle.replies.specs.Written.{Written}
+use Rattle.replies.proofs.Writing.{written-both, written-same}
+use Rattle.replay.proofs.Replaying.{hex-more, hex-all, length-hex}
 use Rattle.replay.proofs.put_image.Statement.{statement}
 use Rattle.replay.proofs.put_image.Tie as tie
-use Rattle.replay.proofs.put_image.Reads as reads
-use Rattle.replay.proofs.put_image.Lts as lts
-use Rattle.replay.proofs.put_byte.Reads as put-byte-reads
-use Rattle.replay.proofs.put_text.Reads as put-text-reads
 
 abbrev Inv-loop : tie.InvT-loop
-Inv-loop out₀ at image a₀ i₀ t7 out a i = (length out ≡ length out₀) × (71 ≤ length out) × (i ≤ length image)
+Inv-loop out₀ image at₀ i₀ t6 out at i = Written out₀ 7 (hex (take i image)) out at × (at ≡ 7 + 2 * i) × (i ≤ length image) × (2 * length image + 9 ≤ length out) × (length out ≡ length out₀)
 
 abbrev μ-loop : tie.MeasureT-loop
-μ-loop out₀ at image a₀ i₀ t7 out a i = length image - i
+μ-loop out₀ image at₀ i₀ t6 out at i = length image - i
+
+-- behind the word
+moved : {out xs out′ : List ℕ} {at r : ℕ} → Written out 7 xs out′ r → 7 ≡ at → Written out at xs out′ r
+moved {out} {xs} {out′} {at} {r} w e = subst (λ (i : ℕ). Written out i xs out′ r) e w
 
 slice-aggregate-put-text : tie.Need-slice-aggregate-put-text Inv-loop μ-loop
 slice-aggregate-put-text c = search needs
@@ -24,7 +31,9 @@ put-text-requires : tie.Need-put-text-requires Inv-loop μ-loop
 put-text-requires c κs = search needs
 
 loop-holds : tie.Need-loop-holds Inv-loop μ-loop
-loop-holds c = search needs
+loop-holds c =
+    let w = c .before .before .put-text .ensures in
+    (record { out = refl; next = omega (arith, w .next) }, omega (arith, w .next), omega arith, omega arith, refl)
 
 shared-slice-read-put-byte : tie.Need-shared-slice-read-put-byte Inv-loop μ-loop
 shared-slice-read-put-byte c = search needs
@@ -39,7 +48,11 @@ loop-less : tie.Need-loop-less Inv-loop μ-loop
 loop-less c = search needs
 
 loop-again : tie.Need-loop-again Inv-loop μ-loop
-loop-again c = search needs
+loop-again c =
+    let s = now (c .before .before .before .before .before .before .before .before .before .before .before .before .before .before .args .image) in
+    let l = c .before .before .before .before .before .before .loop in
+    let w = c .before .before .put-byte .ensures in
+    (written-same (hex-more s (l .i) (omega arith)) (written-both (l .inv .0) w), omega (arith, w .next), omega arith, omega arith, search needs)
 
 slice-aggregate-put-text-2 : tie.Need-slice-aggregate-put-text-2 Inv-loop μ-loop
 slice-aggregate-put-text-2 c = search needs
@@ -51,7 +64,13 @@ same-length : tie.Need-same-length Inv-loop μ-loop
 same-length c = search needs
 
 returns : tie.Need-returns Inv-loop μ-loop
-returns c = search needs
+returns c =
+    let s = now (c .before .before .before .before .before .before .before .before .before .before .before .before .before .before .args .image) in
+    let l = c .before .before .before .before .before .before .loop in
+    let w = c .before .before .put-text2 .ensures in
+    let v = c .before .before .before .before .before .before .before .before .before .put-text .ensures in
+    let d = written-same (hex-all s (l .i) (omega arith)) (l .inv .0) in
+    (written-both (written-both v (moved d (omega (arith, v .next)))) w, omega (arith, w .next))
 
 pub put-image-spec : {M : Type 1} → statement M
 put-image-spec =

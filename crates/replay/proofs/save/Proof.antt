@@ -1,17 +1,17 @@
--- `replay::save` is safe and ends. Assumes nothing.
-use Prim.Native.Nat.{_-_, _≤_}
-use mathlib.Core.Path.{_≡_}
-use lib.ListN.{length, length-set, length-take}
+-- `replay::save` meets its contract. Assumes nothing.
+use Prim.Native.Nat.{ℕ}
 use native.Mathlib.Omega.{arith}
+use mathlib.Core.Path.{sym, _∙_}
+use lib.ListN.{length-take, replicate, length-replicate}
+use denote.Ref.{now}
+use Rattle.saving.specs.Saving.{save-memory}
+use Rattle.replies.proofs.Writing.{written-same}
+use Rattle.answering.proofs.Replying.{length-refused}
+use Rattle.replay.specs.Replay.{save-answer}
+use Rattle.replay.proofs.Replaying.{saved-line, refused-line}
 use borrow.Author.Needs.{needs}
 use Rattle.replay.proofs.save.Statement.{statement}
 use Rattle.replay.proofs.save.Tie as tie
-use Rattle.replay.proofs.save.Reads as reads
-use Rattle.replay.proofs.save.Lts as lts
-use Rattle.answering.proofs.at_most.Reads as at-most-reads
-use Rattle.answering.proofs.refuse.Reads as refuse-reads
-use Rattle.replay.proofs.put_image.Reads as put-image-reads
-use Rattle.string_index.proofs.save.Reads as save-reads
 
 slice-aggregate-save : tie.Need-slice-aggregate-save
 slice-aggregate-save c = search needs
@@ -32,25 +32,35 @@ slice-aggregate-put-image : tie.Need-slice-aggregate-put-image
 slice-aggregate-put-image c = simp length-take (omega arith)
 
 put-image-requires : tie.Need-put-image-requires
-put-image-requires c κs = search needs
+put-image-requires c κs = simp length-take (omega arith)
 
 enum-known-n-2 : tie.Need-enum-known-n-2
 enum-known-n-2 c = search needs
 
-refuse-requires : tie.Need-refuse-requires
-refuse-requires c κs = search needs
+put-refused-requires : tie.Need-put-refused-requires
+put-refused-requires c κs = search needs
 
 same-length : tie.Need-same-length
 same-length c = search needs
 
 returns : tie.Need-returns
-returns c = search needs
+unfolding save-answer
+returns c =
+    let k = c .before .before .before .before .before .before .before .before .before .before .save in
+    let m = now (c .before .before .before .before .before .before .before .before .before .before .before .before .before .before .args .mem) in
+    let w = c .before .before .put-image .ensures in
+    (written-same (saved-line (save-memory m (replicate 73600 0)) _ _ (k .last .1 .0) (sym (c .before .before .before .before .before .before .before .n .given .1) ∙ k .ensures .0) (k .ensures .1) (omega (arith, length-replicate {A = ℕ} 73600 0)) (c .before .before .before .before .before .at-most .ensures)) (w .0), w .1)
 
 same-length-2 : tie.Need-same-length-2
 same-length-2 c = search needs
 
 returns-2 : tie.Need-returns-2
-returns-2 c = search needs
+unfolding save-answer
+returns-2 c =
+    let k = c .before .before .before .before .before .before .before .before .save in
+    let m = now (c .before .before .before .before .before .before .before .before .before .before .before .before .args .mem) in
+    let w = c .before .before .put-refused .ensures in
+    (written-same (refused-line (save-memory m (replicate 73600 0)) _ (sym (c .before .before .before .before .before .n2 .given .1) ∙ k .ensures .0)) w, omega (arith, w .next, length-refused (c .before .before .before .before .before .n2 .given .0 .0)))
 
 pub save-spec : {M : Type 1} → statement M
 save-spec =
@@ -64,7 +74,7 @@ save-spec =
     slice-aggregate-put-image
     put-image-requires
     enum-known-n-2
-    refuse-requires
+    put-refused-requires
     same-length
     returns
     same-length-2

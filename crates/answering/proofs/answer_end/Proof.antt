@@ -1,0 +1,30 @@
+-- `answering::answer_end` meets its contract. Assumes nothing.
+use native.Mathlib.Omega.{arith}
+use denote.Ref.{now}
+use Rattle.answering.proofs.Answering.{end-none, end-line}
+use borrow.Author.Needs.{needs}
+use Rattle.answering.proofs.answer_end.Statement.{statement}
+use Rattle.answering.proofs.answer_end.Tie as tie
+
+returns : tie.Need-returns
+returns c =
+    let a = c .before .before .before .before .args in
+    end-none (now (a .mem)) (now (a .line)) (now (a .out)) (a .n) (omega arith)
+
+answer-kept-requires : tie.Need-answer-kept-requires
+answer-kept-requires c κs = search needs
+
+same-length : tie.Need-same-length
+same-length c = search needs
+
+same-length-2 : tie.Need-same-length-2
+same-length-2 c = search needs
+
+returns-2 : tie.Need-returns-2
+returns-2 c =
+    let a = c .before .before .before .before .before .before .before .before .before .before .before .args in
+    end-line (now (a .mem)) (now (a .line)) (a .n) (omega arith) (omega arith) (c .before .before .before .before .answer-kept .ensures)
+
+pub answer-end-spec : {M : Type 1} → statement M
+answer-end-spec =
+    tie.close (tie.spec returns answer-kept-requires same-length same-length-2 returns-2)

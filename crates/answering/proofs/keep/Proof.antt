@@ -1,0 +1,55 @@
+-- `answering::keep` meets its contract. Assumes nothing.
+use native.Mathlib.Omega.{arith}
+use mathlib.Core.Path.{ap, _∙_}
+use mathlib.Core.List.{List}
+use Prim.Native.Nat.{ℕ}
+use lib.Seq.{sets, take-length}
+use denote.Ref.{now}
+use Rattle.answering.proofs.Keeping.{keep-long, keep-over, keep-fit}
+use borrow.Author.Needs.{needs}
+use Rattle.answering.proofs.keep.Statement.{statement}
+use Rattle.answering.proofs.keep.Tie as tie
+
+add-result : tie.Need-add-result
+add-result c = search needs
+
+returns : tie.Need-returns
+returns c =
+    let a = c .before .before .before .args in
+    keep-long (now (a .line)) (a .n) (now (a .part)) (c .before .before .before .pre) (omega arith)
+
+add-result-2 : tie.Need-add-result-2
+add-result-2 c = search needs
+
+returns-2 : tie.Need-returns-2
+returns-2 c =
+    let a = c .before .before .before .before .args in
+    keep-over (now (a .line)) (a .n) (now (a .part)) (c .before .before .before .before .pre) (omega arith) (omega arith)
+
+copy-requires : tie.Need-copy-requires
+copy-requires c κs = search needs
+
+add-result-3 : tie.Need-add-result-3
+add-result-3 c = search needs
+
+same-length : tie.Need-same-length
+same-length c = search needs
+
+returns-3 : tie.Need-returns-3
+returns-3 c =
+    let a = c .before .before .before .before .before .before .before .before .args in
+    let k = c .before .before .copy in
+    keep-fit (now (a .line)) (a .n) (now (a .part)) (c .before .before .before .before .before .before .before .before .pre) (omega arith) (k .last .1 .1 .0) (k .ensures ∙ ap (sets (now (a .line)) (a .n)) (take-length (now (a .part))))
+
+pub keep-spec : {M : Type 1} → statement M
+keep-spec =
+    tie.close
+    (tie.spec
+    add-result
+    returns
+    add-result-2
+    returns-2
+    copy-requires
+    add-result-3
+    same-length
+    returns-3)

@@ -1,0 +1,34 @@
+-- Document 01, "The program `places`": what it writes for all that it reads. Assumes nothing.
+use Prim.Native.Nat.{ℕ}
+use mathlib.Core.List.{List, [], _∷_, _++_}
+use mathlib.Core.Option.{Option, none, some}
+use Rattle.definitions.specs.Causes.{number, no-form}
+use Rattle.definitions.specs.Calls.{Recorded, fresh}
+use Rattle.definitions.specs.Program.{Form, Reply, refused, replies, next}
+use Rattle.forms.specs.ReadLine.{read-line}
+use Rattle.lines.specs.Cut.{lines-of}
+use Rattle.replies.specs.Written.{reply-bytes}
+
+-- what the form of a line is answered; a line that is no form is refused with 17, once
+abbrev pub form-replies : Recorded → Option Form → List Reply
+form-replies s none = refused (number no-form) ∷ []
+form-replies s (some f) = replies s f
+
+-- what it leaves behind; a line that is no form changes nothing
+abbrev pub after-form : Recorded → Option Form → Recorded
+after-form s none = s
+after-form s (some f) = next s f
+
+-- what lines, without their newlines, are answered, one after the other
+unfoldable pub line-replies : Recorded → List (List ℕ) → List Reply
+line-replies s [] = []
+line-replies s (l ∷ ls) = form-replies s (read-line l) ++ line-replies (after-form s (read-line l)) ls
+
+-- replies as bytes, each with its newline
+abbrev pub replies-bytes : List Reply → List ℕ
+replies-bytes [] = []
+replies-bytes (p ∷ ps) = reply-bytes p ++ replies-bytes ps
+
+-- what the program writes for an input
+abbrev pub program : List ℕ → List ℕ
+program input = replies-bytes (line-replies fresh (lines-of input))
