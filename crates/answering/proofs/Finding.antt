@@ -1,15 +1,18 @@
 -- What was found for a query, as replies. Assumes nothing.
 use Prim.Native.Nat.{ℕ, _+_, _*_, _≤_}
 use native.Mathlib.Omega.{arith}
-use mathlib.Core.Path.{_≡_, refl, sym, ap, _∙_, subst}
+use mathlib.Core.Path.{_≡_, refl, sym, ap, _∙_}
 use mathlib.Core.Bool.{Bool, true, false, cond}
 use mathlib.Core.List.{List, [], _∷_}
 use mathlib.Core.Option.{some}
+use lib.ListN.{length}
 use lib.Dec.{eqb}
 use Rattle.definitions.specs.Location.{Location, locations-in}
 use Rattle.definitions.specs.Program.{find, Reply, refused, found}
 use Rattle.definitions.proofs.Views.{Eq, eq}
-use Rattle.string_index.specs.Find.{Finds, find-memory}
+use Rattle.searching.specs.declared.Finding.{Finding}
+use Rattle.string_index.specs.Find.{Rows-found, find-memory}
+use Rattle.string_index.proofs.Finding.{Finds, found-fit}
 use Rattle.replies.specs.Written.{Written, reply-bytes}
 use Rattle.replies.proofs.Writing.{written-same}
 use Rattle.answering.specs.Program.{replies-bytes}
@@ -31,21 +34,42 @@ number-some n rs h = go (eqb n 0) (eq n 0)
     go true k = absurd (h k)
     go false k = refl
 
--- how scratch is sized by the code
-sized : {m q s : List ℕ} {k refusal p count : ℕ} → k ≡ 6144 → Finds m q k 64 s refusal p count → Finds m q 6144 64 s refusal p count
-sized {m} {q} {s} {k} {refusal} {p} {count} e f = subst (λ (j : ℕ). Finds m q j 64 s refusal p count) e f
+module _ {m q x s out out′ : List ℕ} {at r : ℕ} {f : Finding} (e : length x ≡ 6144) (w : Finds (find-memory m q (length x) 64) x s f) where
+  -- what is found where scratch is as large as the code has it
+  told : Rows-found
+  told = find-memory m q 6144 64
 
-module _ {m q s out out′ : List ℕ} {k refusal p count at r : ℕ} (e : k ≡ 6144) (f : Finds m q k 64 s refusal p count) where
-  pub found-none : (refusal ≡ 0 → ⊥) → Written out at (reply-bytes (refused refusal)) out′ r → AnsweredBy out at (replies-bytes (form-answer m (some (find q)))) m out′ m r
-  found-none h w =
+  sized : find-memory m q (length x) 64 ≡ told
+  unfolding told
+  sized = ap (λ (k : ℕ). find-memory m q k 64) e
+
+  refusal-is : f .refusal ≡ told .refusal
+  refusal-is = ap (λ (g : Finding). g .refusal) (w .0) ∙ ap (λ (o : Rows-found). o .refusal) sized
+
+  count-is : f .count ≡ length (told .rows)
+  count-is = ap (λ (g : Finding). g .count) (w .0) ∙ ap (λ (o : Rows-found). length (o .rows)) sized
+
+  stand : locations-in s (f .count) 0 ≡ told .rows
+  stand =
+      ap (λ (n : ℕ). locations-in s n 0) (ap (λ (g : Finding). g .count) (w .0)) ∙ w .1 .0 .stand
+      ∙ ap (λ (o : Rows-found). o .rows) sized
+
+  pub found-fits : f .count ≤ 64
+  unfolding told
+  found-fits = omega (arith, count-is, found-fit m q 6144 64)
+
+  pub found-none : (f .refusal ≡ 0 → ⊥) → Written out at (reply-bytes (refused (f .refusal))) out′ r → AnsweredBy out at (replies-bytes (form-answer m (some (find q)))) m out′ m r
+  unfolding told
+  found-none h y =
       let rs : List Reply = found (find-memory m q 6144 64 .rows) in
-      answered-refused refusal (ap (λ (n : ℕ). unless-number n rs) (sym (sized e f .refused)) ∙ number-some refusal rs h) w refl
+      answered-refused (f .refusal) (ap (λ (n : ℕ). unless-number n rs) (sym refusal-is) ∙ number-some (f .refusal) rs h) y refl
 
-  pub found-rows : refusal ≡ 0 → Written out at (replies-bytes (found (locations-in s count p))) out′ r → r ≤ at + count * 71 + 27 → AnsweredBy out at (replies-bytes (form-answer m (some (find q)))) m out′ m r
-  found-rows h w l =
+  pub found-rows : f .refusal ≡ 0 → Written out at (replies-bytes (found (locations-in s (f .count) 0))) out′ r → r ≤ at + f .count * 71 + 27 → AnsweredBy out at (replies-bytes (form-answer m (some (find q)))) m out′ m r
+  unfolding told
+  found-rows h y l =
       let rs : List Reply = found (find-memory m q 6144 64 .rows) in
       record {
-        written = written-same (ap (λ (ls : List Location). replies-bytes (found ls)) (sized e f .stand) ∙ ap replies-bytes (sym (ap (λ (n : ℕ). unless-number n rs) (sym (sized e f .refused)) ∙ number-none refusal rs h))) w;
-        short = omega (arith, f .fit);
+        written = written-same (ap (λ (ls : List Location). replies-bytes (found ls)) stand ∙ ap replies-bytes (sym (ap (λ (n : ℕ). unless-number n rs) (sym refusal-is) ∙ number-none (f .refusal) rs h))) y;
+        short = omega (arith, found-fits);
         leaves = refl;
       }

@@ -2,37 +2,36 @@
 use Prim.Native.Nat.{ℕ, _≤_, _/_}
 use native.Mathlib.Omega.{arith}
 use mathlib.Core.Path.{_≡_, refl, sym, ap, _∙_, subst}
-use mathlib.Core.Bool.{Bool, true, false, not, cond}
+use mathlib.Core.Bool.{Bool, true, false, cond}
 use mathlib.Core.List.{List, [], _∷_, _++_}
 use mathlib.Core.Option.{Option, none, some}
 use lib.ListN.{length}
 use lib.Dec.{ltb, eqb}
 use borrow.Author.Tests.{le-ltb}
 use Rattle.definitions.specs.Location.{Location}
-use Rattle.definitions.specs.Blocks.{Block, Piece, pieces, pieces-of, memory-kind, last-kind}
+use Rattle.definitions.specs.Blocks.{Block, Piece, pieces, pieces-of, memory-kind}
 use Rattle.definitions.specs.Places.{places-counted}
 use Rattle.definitions.specs.Rows.{rows}
-use Rattle.definitions.specs.Causes.{Cause, number, capacity-refused, index-rule-broken, record-after-finish, before-finish, data-too-long, no-life, address-too-high, too-many-nodes, too-many-entries, query-too-long, scratch-too-small, too-many-rows, save-buffer-too-short, cut-short, unknown-kind, image-broken, no-form, Check, first-cause}
-use Rattle.definitions.specs.Calls.{Recorded, fresh, memory-checks, record-answer, search-answer, needed}
+use Rattle.definitions.specs.Causes.{Cause, number, capacity-refused, index-rule-broken, record-after-finish, before-finish, data-too-long, no-life, address-too-high, too-many-nodes, too-many-entries, query-too-long, scratch-too-small, too-many-rows, save-buffer-too-short, cut-short, unknown-kind, image-broken, no-form, first-cause}
+use Rattle.definitions.specs.Calls.{Recorded, fresh, Standing, record-checks, search-checks, needed}
 use Rattle.definitions.specs.Recording.{record-block}
 use Rattle.definitions.specs.Recording as C
-use Rattle.definitions.specs.Program.{Form, block, finish, find, IsForm, Reply, taken, finished, refused, found, or-refused, replies, next, program-capacity}
+use Rattle.definitions.specs.Program.{Form, block, finish, find, IsForm, Reply, taken, finished, refused, found, or-refused, form-replies, replies, next, program-capacity}
 use Rattle.definitions.proofs.Chains.{SamePieces, rows-by-set}
 use Rattle.trie.specs.Trie.{trie-pieces}
 use Rattle.trie.specs.Build.{trie-of}
-use Rattle.index_memory.specs.Index.{Index, opened, read-index}
+use Rattle.index_memory.specs.Index.{Index, opened, standing-of, read-index}
 use Rattle.index_memory.specs.Index as I
-use Rattle.index_memory.specs.Record.{open-memory, log-checks, appended, record-by, record-memory, unless-refused, refusal-of}
-use Rattle.string_index.specs.Find.{Rows-found, rows-or-refused, room-checks, find-by, find-memory}
+use Rattle.index_memory.specs.Record.{open-memory, appended, record-by, record-memory, unless-refused}
+use Rattle.string_index.specs.Find.{Rows-found, rows-or-refused, find-by, find-memory}
 use Rattle.string_index.specs.Finish.{finish-by, finish-memory}
 use Rattle.string_index.specs.Demand.{Fits}
-use Rattle.string_index.proofs.Follow.{checks-same, holds}
 use Rattle.string_index.proofs.Following.{Followed, followed-start, followed-on, followed-pieces}
 use Rattle.forms.specs.ReadLine.{read-line}
 use Rattle.forms.specs.Answers.{Is}
 use Rattle.forms.proofs.Lines.{read-line-is}
 use Rattle.lines.specs.Cut.{lines-of}
-use Rattle.answering.specs.Program.{form-replies, after-form, line-replies, replies-bytes, program}
+use Rattle.answering.specs.Program.{after-form, line-replies, replies-bytes, program}
 use Rattle.answering.specs.Memory.{unless-number, found-replies, form-answer, memory-after-form, line-answer, memory-after-line, lines-answer}
 use Rattle.answering.specs.Parts.{part, output, all-of}
 use Rattle.answering.specs.Promises.{MemoryAnswers, PartsProgram}
@@ -82,6 +81,10 @@ held-pieces s = trie-pieces (trie-of (pieces-of (s .blocks)))
 abbrev index-held : Recorded → Bool → Index
 index-held s o = cond o (I.finished program-capacity (trie-of (pieces-of (s .blocks)))) (opened program-capacity (pieces-of (s .blocks)))
 
+-- what the checks look at
+abbrev standing-as : Recorded → Bool → Standing
+standing-as s o = record { broken = false; finished = o; capacity = program-capacity; pieces = pieces-of (s .blocks) }
+
 module _ (s : Recorded) (m : List ℕ) (w : Followed program-capacity s m) where
   -- what is open or finished decides
   held : (o : Bool) → s .finished ≡ o → read-index m ≡ index-held s o
@@ -91,23 +94,16 @@ module _ (s : Recorded) (m : List ℕ) (w : Followed program-capacity s m) where
   unfolding record-memory
   record-follows kind b = go (s .finished) refl
     where
-      rest : (o₁ o₂ : Bool) → unless-number (cond o₁ (record { refusal = number unknown-kind; memory = m }) (cond o₂ (unless-refused (first-cause (log-checks program-capacity (taken-pieces s) b)) m (appended m program-capacity (taken-pieces s) (pieces b))) (record { refusal = 0; memory = m })) .refusal) (taken ∷ [])
-          ≡ or-refused (cond o₁ (some unknown-kind) (first-cause (cond o₂ (memory-checks program-capacity s b) []))) (taken ∷ [])
-      rest true o₂ = refl
-      rest false true =
-          recorded-tells (first-cause (log-checks program-capacity (taken-pieces s) b)) m (appended m program-capacity (taken-pieces s) (pieces b)) (taken ∷ [])
-          ∙ ap (λ (cs : List Check). or-refused (first-cause cs) (taken ∷ [])) (checks-same program-capacity s b)
-      rest false false = refl
-
-      both : (o : Bool) → unless-number (record-by (index-held s o) m kind b .refusal) (taken ∷ [])
-          ≡ or-refused (cond o (some record-after-finish) (cond (ltb last-kind kind) (some unknown-kind) (first-cause (cond (eqb kind memory-kind) (memory-checks program-capacity s b) [])))) (taken ∷ [])
+      both : (o : Bool) → unless-number (record-by (index-held s o) m kind b .refusal) (taken ∷ []) ≡ or-refused (first-cause (record-checks (standing-as s o) kind b)) (taken ∷ [])
       both true = refl
-      both false = rest (ltb last-kind kind) (eqb kind memory-kind)
+      both false =
+          recorded-tells (first-cause (record-checks (standing-as s false) kind b)) m
+          (cond (eqb kind memory-kind) (appended m program-capacity (taken-pieces s) (pieces b)) m) (taken ∷ [])
 
       go : (o : Bool) → s .finished ≡ o → unless-number (record-by (read-index m) m kind b .refusal) (taken ∷ []) ≡ replies s (block kind b)
       go o e =
           ap (λ (i : Index). unless-number (record-by i m kind b .refusal) (taken ∷ [])) (held o e) ∙ both o
-          ∙ ap (λ (x : Bool). or-refused (cond x (some record-after-finish) (cond (ltb last-kind kind) (some unknown-kind) (first-cause (cond (eqb kind memory-kind) (memory-checks program-capacity s b) [])))) (taken ∷ [])) (sym e)
+          ∙ ap (λ (x : Bool). or-refused (first-cause (record-checks (standing-as s x) kind b)) (taken ∷ [])) (sym e)
 
   finish-follows : form-answer m (some finish) ≡ replies s finish
   unfolding finish-memory
@@ -127,18 +123,22 @@ module _ (s : Recorded) (m : List ℕ) (w : Followed program-capacity s m) where
       same : SamePieces (held-pieces s) (taken-pieces s)
       same = followed-pieces program-capacity s m w
 
-      both : (o : Bool) → found-replies (find-by (index-held s o) q 6144 64)
-          ≡ or-refused (first-cause (record { applies = not o; cause = before-finish } ∷ room-checks (taken-pieces s) q 6144 64)) (found (rows (taken-pieces s) q))
+      -- what decides a search of a finished index, by its places and its rows
+      decided : ℕ → List Location → List Reply
+      decided n ls = or-refused (first-cause (record { applies = ltb 256 (length q); cause = query-too-long } ∷ record { applies = ltb 256 n; cause = scratch-too-small } ∷ record { applies = ltb 64 (length ls); cause = too-many-rows } ∷ [])) (found ls)
+
+      both : (o : Bool) → found-replies (find-by (index-held s o) q 6144 64) ≡ or-refused (first-cause (search-checks (standing-as s o) q 256 64)) (found (rows (taken-pieces s) q))
+      unfolding decided
       both true =
-          found-tells (first-cause (room-checks (held-pieces s) q 6144 64)) (rows (held-pieces s) q)
-          ∙ ap (λ (ls : List Location). or-refused (first-cause (record { applies = ltb 256 (length q); cause = query-too-long } ∷ record { applies = ltb (6144 / 24) (places-counted (held-pieces s) q); cause = scratch-too-small } ∷ record { applies = ltb 64 (length ls); cause = too-many-rows } ∷ [])) (found ls)) (rows-by-set (held-pieces s) (taken-pieces s) same q)
-          ∙ ap (λ (n : ℕ). or-refused (first-cause (record { applies = ltb 256 (length q); cause = query-too-long } ∷ record { applies = ltb (6144 / 24) n; cause = scratch-too-small } ∷ record { applies = ltb 64 (length (rows (taken-pieces s) q)); cause = too-many-rows } ∷ [])) (found (rows (taken-pieces s) q))) (counted-by-set (held-pieces s) (taken-pieces s) same q)
+          found-tells (first-cause (search-checks (standing-of (index-held s true)) q 256 64)) (rows (held-pieces s) q)
+          ∙ ap (decided (places-counted (held-pieces s) q)) (rows-by-set (held-pieces s) (taken-pieces s) same q)
+          ∙ ap (λ (n : ℕ). decided n (rows (taken-pieces s) q)) (counted-by-set (held-pieces s) (taken-pieces s) same q)
       both false = refl
 
       go : (o : Bool) → s .finished ≡ o → found-replies (find-by (read-index m) q 6144 64) ≡ replies s (find q)
       go o e =
           ap (λ (i : Index). found-replies (find-by i q 6144 64)) (held o e) ∙ both o
-          ∙ ap (λ (x : Bool). or-refused (first-cause (record { applies = not x; cause = before-finish } ∷ room-checks (taken-pieces s) q 6144 64)) (found (rows (taken-pieces s) q))) (sym e)
+          ∙ ap (λ (x : Bool). or-refused (first-cause (search-checks (standing-as s x) q 256 64)) (found (rows (taken-pieces s) q))) (sym e)
 
 -- ── line by line ──
 

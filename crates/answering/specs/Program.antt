@@ -2,17 +2,11 @@
 use Prim.Native.Nat.{ℕ}
 use mathlib.Core.List.{List, [], _∷_, _++_}
 use mathlib.Core.Option.{Option, none, some}
-use Rattle.definitions.specs.Causes.{number, no-form}
 use Rattle.definitions.specs.Calls.{Recorded, fresh}
-use Rattle.definitions.specs.Program.{Form, Reply, refused, replies, next}
+use Rattle.definitions.specs.Program.{Form, Reply, form-replies, next}
 use Rattle.forms.specs.ReadLine.{read-line}
 use Rattle.lines.specs.Cut.{lines-of}
 use Rattle.replies.specs.Written.{reply-bytes}
-
--- what the form of a line is answered; a line that is no form is refused with 17, once
-abbrev pub form-replies : Recorded → Option Form → List Reply
-form-replies s none = refused (number no-form) ∷ []
-form-replies s (some f) = replies s f
 
 -- what it leaves behind; a line that is no form changes nothing
 abbrev pub after-form : Recorded → Option Form → Recorded

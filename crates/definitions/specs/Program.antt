@@ -119,9 +119,9 @@ abbrev pub line-checks : Bool → List Check
 line-checks is-form = record { applies = not is-form; cause = no-form } ∷ []
 
 -- what a line is answered that is this form, or none
-abbrev pub line-replies : Recorded → Option Form → List Reply
-line-replies s none = or-refused (first-cause (line-checks false)) []
-line-replies s (some f) = or-refused (first-cause (line-checks true)) (replies s f)
+abbrev pub form-replies : Recorded → Option Form → List Reply
+form-replies s none = or-refused (first-cause (line-checks false)) []
+form-replies s (some f) = or-refused (first-cause (line-checks true)) (replies s f)
 
 -- what it leaves behind
 abbrev pub next : Recorded → Form → Recorded

@@ -2,8 +2,9 @@
 use Prim.Native.Nat.{ℕ}
 use native.Mathlib.Omega.{arith}
 use lib.ListN.{length-replicate}
-use Rattle.answering.proofs.Finding.{found-none, found-rows}
+use Rattle.answering.proofs.Finding.{found-fits, found-none, found-rows}
 use borrow.Author.Needs.{needs}
+use Rattle.searching.proofs.Answering.{rows-within}
 use Rattle.answering.proofs.answer_find.Statement.{statement}
 use Rattle.answering.proofs.answer_find.Tie as tie
 
@@ -26,7 +27,10 @@ slice-aggregate-put-rows : tie.Need-slice-aggregate-put-rows
 slice-aggregate-put-rows c = search needs
 
 put-rows-requires : tie.Need-put-rows-requires
-put-rows-requires c κs = search needs
+put-rows-requires c κs =
+    let f = c .before .before .before .before .before .find in
+    let w = rows-within (f .ensures .0) (f .ensures .1 .0) in
+    (omega (arith, found-fits (length-replicate {A = ℕ} 6144 0) (f .ensures)), omega arith)
 
 same-length-2 : tie.Need-same-length-2
 same-length-2 c = search needs
