@@ -58,15 +58,15 @@ fn finish(mem: &mut [u8]) {
     }
 }
 
-// Prints the first of the n rows in scratch from index p on, where there is one.
-fn print_first(scratch: &[u8], p: usize, n: usize)
-    requires { ⌜ p + n * 24 ≤ length (now scratch) ⌝ }
+// Prints the first of the n rows at the front of scratch, where there is one.
+fn print_first(scratch: &[u8], n: usize)
+    requires { ⌜ n * 24 ≤ length (now scratch) ⌝ }
 {
     if 0 < n {
         io::write_all(STDOUT_FILENO, b" the first at");
-        print_number(words::get64(scratch, p));
-        print_number(words::get64(scratch, p + 8));
-        print_number(words::get64(scratch, p + 16));
+        print_number(words::get64(scratch, 0));
+        print_number(words::get64(scratch, 8));
+        print_number(words::get64(scratch, 16));
     }
     io::write_all(STDOUT_FILENO, b"\n");
 }
@@ -84,7 +84,7 @@ fn find(mem: &[u8], q: &[u8]) {
     }
     io::write_all(STDOUT_FILENO, b" has rows");
     print_number(found.count as u64);
-    print_first(&scratch, found.at, found.count);
+    print_first(&scratch, found.count);
 }
 
 // The image: its size, its first byte, and the number at an index.

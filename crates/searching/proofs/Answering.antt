@@ -30,6 +30,10 @@ use Rattle.searching.specs.Search.{Rows-found, refused, finding-of, AtFr
 abbrev pub Answers : Rows-found → List ℕ → Finding → Type 0
 Answers o s f = (f ≡ finding-of o) × AtFront (o .rows) s
 
+-- for whoever reads the rows: the count that is told lies within scratch
+pub rows-within : {o : Rows-found} {s : List ℕ} {f : Finding} → f ≡ finding-of o → AtFront (o .rows) s → f .count * 24 ≤ length s
+rows-within e a = let n = ap (λ (g : Finding). g .count) e in omega (arith, a .within)
+
 -- nothing is found, or a refusal says why
 pub none-answers : {o : Rows-found} {f : Finding} (s : List ℕ) (n : ℕ) → o ≡ refused n → f ≡ finding-of (refused n) → Answers o s f
 unfolding locations-in
