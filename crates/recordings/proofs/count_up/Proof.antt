@@ -15,35 +15,27 @@ Inv-loop data₀ i₀ «data» i = (length «data» ≡ length data₀) × (i �
 abbrev μ-loop : tie.MeasureT-loop
 μ-loop data₀ i₀ «data» i = length «data» - i
 
--- src/main.rt:109:5
 loop-holds : tie.Need-loop-holds Inv-loop μ-loop
 loop-holds c = search needs
 
--- src/main.rt:110:19
 cast-data : tie.Need-cast-data Inv-loop μ-loop
 cast-data c = search needs
 
--- src/main.rt:110:9
 slice-write-data : tie.Need-slice-write-data Inv-loop μ-loop
 slice-write-data c = search needs
 
--- src/main.rt:111:9
 add-i : tie.Need-add-i Inv-loop μ-loop
 add-i c = search needs
 
--- src/main.rt:109:5
 loop-less : tie.Need-loop-less Inv-loop μ-loop
 loop-less c = simp length-set (omega arith)
 
--- src/main.rt:109:5
 loop-again : tie.Need-loop-again Inv-loop μ-loop
 loop-again c = (simp length-set (omega arith), simp length-set (omega arith))
 
--- src/main.rt:107:1
 same-length : tie.Need-same-length Inv-loop μ-loop
 same-length c = search needs
 
--- src/main.rt:107:1
 returns : tie.Need-returns Inv-loop μ-loop
 returns c = search needs
 

@@ -1,4 +1,4 @@
--- `recordings::find` is safe and ends: the rows lie within scratch. Assumes nothing.
+-- `recordings::find` is safe and ends. Assumes nothing.
 use borrow.Author.Needs.{needs}
 use Rattle.searching.proofs.Answering.{rows-within}
 use Rattle.recordings.proofs.find.Statement.{statement}
@@ -45,8 +45,8 @@ slice-aggregate-print-first c = search needs
 
 print-first-requires : tie.Need-print-first-requires
 print-first-requires c κs =
-    let f = c .before .before .before .before .before .before .before .find in
-    rows-within (f .ensures .0) (f .ensures .1 .0)
+    let d = c .before .before .before .before .before .before .before .find in
+    rows-within (d .ensures .0) (d .ensures .1 .0)
 
 returns-2 : tie.Need-returns-2
 returns-2 c = search needs

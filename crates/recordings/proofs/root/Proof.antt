@@ -21,67 +21,51 @@ Inv-loop mem₀ n byte₀ i₀ mem byte i = (length mem ≡ length mem₀) × (l
 abbrev μ-loop : tie.MeasureT-loop
 μ-loop mem₀ n byte₀ i₀ mem byte i = n - i
 
--- src/main.rt:132:5
 open-requires : tie.Need-open-requires Inv-loop μ-loop
 open-requires c κs = search needs
 
--- src/main.rt:134:5
 loop-holds : tie.Need-loop-holds Inv-loop μ-loop
 loop-holds c = search needs
 
--- src/main.rt:135:19
 cast-byte : tie.Need-cast-byte Inv-loop μ-loop
 cast-byte c = search needs
 
--- src/main.rt:135:9
 array-write-byte : tie.Need-array-write-byte Inv-loop μ-loop
 array-write-byte c = search needs
 
--- src/main.rt:136:13
 new-requires : tie.Need-new-requires Inv-loop μ-loop
 new-requires c κs = search needs
 
--- src/main.rt:137:41
 slice-aggregate-record : tie.Need-slice-aggregate-record Inv-loop μ-loop
 slice-aggregate-record c = search needs
 
--- src/main.rt:137:9
 record-requires : tie.Need-record-requires Inv-loop μ-loop
 record-requires c κs = search needs
 
--- src/main.rt:138:9
 add-i : tie.Need-add-i Inv-loop μ-loop
 add-i c = search needs
 
--- src/main.rt:134:5
 loop-less : tie.Need-loop-less Inv-loop μ-loop
 loop-less c = search needs
 
--- src/main.rt:134:5
 loop-again : tie.Need-loop-again Inv-loop μ-loop
 loop-again c = search needs
 
--- src/main.rt:140:5
 finish-requires : tie.Need-finish-requires Inv-loop μ-loop
 finish-requires c κs = search needs
 
--- src/main.rt:141:5
 save-requires : tie.Need-save-requires Inv-loop μ-loop
 save-requires c κs = search needs
 
--- src/main.rt:142:15
 slice-aggregate-find : tie.Need-slice-aggregate-find Inv-loop μ-loop
 slice-aggregate-find c = search needs
 
--- src/main.rt:142:5
 find-requires : tie.Need-find-requires Inv-loop μ-loop
 find-requires c κs = search needs
 
--- src/main.rt:130:1
 same-length : tie.Need-same-length Inv-loop μ-loop
 same-length c = search needs
 
--- src/main.rt:130:1
 returns : tie.Need-returns Inv-loop μ-loop
 returns c = search needs
 
