@@ -13,21 +13,20 @@ use Rattle.trie.specs.Rule.{Rule}
 use Rattle.trie.specs.Find.{table-found}
 use Rattle.trie.proofs.Find.{table-found-is}
 use Rattle.searching.specs.Search.{refused, rows-answer, search-answer}
+use Rattle.searching.specs.Promises.{RowsFoundAre, PlacesFoundCounted}
 
 first-places : (ps : List Piece) (q : List ℕ) → first-of (table ps q) ≡ places ps q
 first-places ps [] = refl
 first-places ps (b ∷ q) = refl
 
+pub rows-found-are : RowsFoundAre
+rows-found-are t r q = ap combine-split-times (ap first-of (table-found-is t r q) ∙ first-places (trie-pieces t) q)
+
+pub places-found-counted : PlacesFoundCounted
+places-found-counted t r q = ap sizes (table-found-is t r q)
+
 module _ (t : Trie) (r : Rule t) (q : List ℕ) where
-  -- its rows are those of the definitions
-  pub rows-found-are : combine-split-times (first-of (table-found t q)) ≡ rows (trie-pieces t) q
-  rows-found-are = ap combine-split-times (ap first-of (table-found-is t r q) ∙ first-places (trie-pieces t) q)
-
-  -- and so is the count behind refusal 10
-  pub places-found-counted : sizes (table-found t q) ≡ places-counted (trie-pieces t) q
-  places-found-counted = ap sizes (table-found-is t r q)
-
   pub answer-by-pieces : (scratch room : ℕ)
       → search-answer t q scratch room ≡ cond (ltb (scratch / 24) (places-counted (trie-pieces t) q)) (refused (number scratch-too-small)) (rows-answer (rows (trie-pieces t) q) room)
   unfolding search-answer
-  answer-by-pieces scratch room = rw (places-found-counted, rows-found-are) refl
+  answer-by-pieces scratch room = rw (places-found-counted t r q, rows-found-are t r q) refl
