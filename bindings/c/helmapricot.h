@@ -84,7 +84,8 @@ enum helmapricot_node_kind {
     ((size_t)(bytes) / 16 * 136 + (size_t)(bytes) % 16 * ((size_t)(bytes) % 16 + 1) / 2)
 #define HELMAPRICOT_ENTRIES_CHARGED(bytes) ((bytes) == 0 ? (size_t)1 : 2 * (size_t)(bytes))
 
-/* A row: the query stood at the address at every tick from created to destroyed - 1, and not at the tick before or after. */
+/* A row: the query stood at the address at every tick from created to destroyed - 1, and not at the tick before or after. That
+ * holds where no byte of the recording has two blocks at one tick; where one has, each block's ticks may come as rows of their own. */
 struct helmapricot_row {
     uint64_t address;
     uint64_t created;

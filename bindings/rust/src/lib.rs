@@ -53,7 +53,8 @@ impl From<Kind> for u64 {
     }
 }
 
-/// The query stood at the address at every tick from created to destroyed - 1, and not at the tick before or after.
+/// The query stood at the address at every tick from created to destroyed - 1, and not at the tick before or after. That holds
+/// where no byte of the recording has two blocks at one tick; where one has, each block's ticks may come as rows of their own.
 #[derive(Clone, Copy, Debug, Default, PartialEq, Eq, PartialOrd, Ord, Hash)]
 #[repr(C)]
 pub struct Row {
