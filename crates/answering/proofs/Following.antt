@@ -1,7 +1,6 @@
 -- The memory that the program opens answers each line as document 01 does: it follows what was recorded. Assumes nothing.
 use Prim.Native.Nat.{ℕ, _≤_, _/_}
-use native.Mathlib.Omega.{arith}
-use mathlib.Core.Path.{_≡_, refl, sym, ap, _∙_, subst}
+use mathlib.Core.Path.{_≡_, refl, sym, ap, _∙_}
 use mathlib.Core.Bool.{Bool, true, false, not, cond}
 use mathlib.Core.List.{List, [], _∷_, _++_}
 use mathlib.Core.Option.{Option, none, some}
@@ -13,19 +12,18 @@ use Rattle.definitions.specs.Blocks.{Block, Piece, pieces, pieces-of, memory-ki
 use Rattle.definitions.specs.Places.{places-counted}
 use Rattle.definitions.specs.Rows.{rows}
 use Rattle.definitions.specs.Causes.{Cause, number, capacity-refused, index-rule-broken, record-after-finish, before-finish, data-too-long, no-life, address-too-high, too-many-nodes, too-many-entries, query-too-long, scratch-too-small, too-many-rows, save-buffer-too-short, cut-short, unknown-kind, image-broken, no-form, Check, first-cause}
-use Rattle.definitions.specs.Calls.{Recorded, fresh, memory-checks, record-answer, search-answer, needed}
+use Rattle.definitions.specs.Calls.{Recorded, fresh, memory-checks, needed}
 use Rattle.definitions.specs.Recording.{record-block}
 use Rattle.definitions.specs.Recording as C
-use Rattle.definitions.specs.Program.{Form, block, finish, find, IsForm, Reply, taken, finished, refused, found, or-refused, replies, next, program-capacity}
+use Rattle.definitions.specs.Program.{Form, block, finish, find, Reply, taken, finished, refused, found, or-refused, replies, program-capacity}
 use Rattle.definitions.proofs.Chains.{SamePieces, rows-by-set}
 use Rattle.trie.specs.Trie.{trie-pieces}
 use Rattle.trie.specs.Build.{trie-of}
 use Rattle.index_memory.specs.Index.{Index, opened, read-index}
 use Rattle.index_memory.specs.Index as I
-use Rattle.index_memory.specs.Record.{open-memory, log-checks, appended, record-by, record-memory, unless-refused, refusal-of}
-use Rattle.string_index.specs.Find.{Rows-found, rows-or-refused, room-checks, find-by, find-memory}
+use Rattle.index_memory.specs.Record.{open-memory, log-checks, appended, record-by, record-memory, unless-refused}
+use Rattle.string_index.specs.Find.{rows-or-refused, room-checks, find-by, find-memory}
 use Rattle.string_index.specs.Finish.{finish-by, finish-memory}
-use Rattle.string_index.specs.Demand.{Fits}
 use Rattle.string_index.proofs.Follow.{checks-same, holds}
 use Rattle.string_index.proofs.Following.{Followed, followed-start, followed-on, followed-pieces}
 use Rattle.forms.specs.ReadLine.{read-line}
@@ -34,7 +32,7 @@ use Rattle.forms.proofs.Lines.{read-line-is}
 use Rattle.lines.specs.Cut.{lines-of}
 use Rattle.answering.specs.Program.{form-replies, after-form, line-replies, replies-bytes, program}
 use Rattle.answering.specs.Memory.{unless-number, found-replies, form-answer, memory-after-form, line-answer, memory-after-line, lines-answer}
-use Rattle.answering.specs.Parts.{part, output, all-of}
+use Rattle.answering.specs.Parts.{all-of}
 use Rattle.answering.specs.Promises.{MemoryAnswers, PartsProgram}
 use Rattle.answering.proofs.Replying.{replies-append}
 use Rattle.answering.proofs.Counted.{counted-by-set}
