@@ -1,8 +1,8 @@
 -- A whole line, from its form and from what is kept of it. Assumes nothing.
-use Prim.Native.Nat.{ℕ, _+_, _≤_, _<_}
+use Prim.Native.Nat.{ℕ, _≤_, _<_}
 use native.Mathlib.Omega.{arith}
-use mathlib.Core.Path.{_≡_, refl, sym, ap, _∙_, subst}
-use mathlib.Core.List.{List, []}
+use mathlib.Core.Path.{_≡_, refl, sym, ap, subst}
+use mathlib.Core.List.{List}
 use mathlib.Core.Option.{Option}
 use lib.ListN.{length, take}
 use borrow.Author.Tests.{lt-ltb, le-ltb}
@@ -12,7 +12,7 @@ use Rattle.replies.specs.Written.{Written, reply-bytes}
 use Rattle.answering.specs.Program.{replies-bytes}
 use Rattle.answering.specs.Memory.{form-answer, memory-after-form, line-answer, memory-after-line}
 use Rattle.answering.specs.Parts.{Kept, part, too-long, keeps, kept-answer, kept-memory, end-answer, end-memory}
-use Rattle.answering.specs.Contracts.{kept-in, KeepsBehind, AnsweredBy}
+use Rattle.answering.specs.Contracts.{kept-in, AnsweredBy}
 use Rattle.answering.proofs.Keeping.{line-kept, memory-kept, end-kept}
 use Rattle.answering.proofs.Replying.{length-refused}
 

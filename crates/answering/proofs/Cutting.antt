@@ -1,15 +1,15 @@
 -- Input in parts, however it was cut, is answered line by line. Assumes nothing.
 use Prim.Native.Nat.{ℕ, _≤_, _<_}
 use native.Mathlib.Omega.{arith}
-use mathlib.Core.Path.{_≡_, refl, sym, ap, _∙_, subst}
+use mathlib.Core.Path.{_≡_, refl, sym, ap, _∙_}
 use mathlib.Core.Bool.{Bool, true, false, cond}
 use mathlib.Core.Logic.{_⊎_, inl, inr}
 use mathlib.Core.List.{List, [], _∷_, _++_, append-nil, append-assoc}
 use lib.ListN.{length}
 use lib.Dec.{eqb}
-use Rattle.definitions.proofs.Views.{Eq, eq, lt-or-le}
+use Rattle.definitions.proofs.Views.{lt-or-le}
 use Rattle.lines.specs.Cut.{in-front, lines-of}
-use Rattle.answering.specs.Memory.{line-answer, memory-after-line, lines-answer}
+use Rattle.answering.specs.Memory.{line-answer, lines-answer}
 use Rattle.answering.specs.Parts.{Kept, part, too-long, keeps, keeps-byte, kept-answer, kept-memory, end-answer, State, line-ended, still-kept, after-byte, after-bytes, at-start, output, all-of}
 use Rattle.answering.specs.Promises.{PartsAnswered}
 use Rattle.answering.proofs.Keeping.{keeps-fit, keeps-over, keeps-append, line-kept, memory-kept}

@@ -1,18 +1,17 @@
 -- What the bytes of an input change, a line at a time: the turns of `answer_lines`. Assumes nothing.
-use Prim.Native.Nat.{ℕ, zero, suc, _+_, _-_, _≤_, _<_}
+use Prim.Native.Nat.{ℕ, suc, _+_, _-_, _≤_, _<_}
 use native.Mathlib.Omega.{arith}
 use native.Mathlib.Numerals.{add-one}
 use mathlib.Core.Path.{_≡_, refl, sym, ap, _∙_, subst}
-use mathlib.Core.Bool.{Bool, true, false, cond}
+use mathlib.Core.Bool.{Bool, cond}
 use mathlib.Core.List.{List, [], _∷_, _++_, append-nil}
 use lib.ListN.{length, getD, take, drop, length-take, length-drop, take-append-drop, drop-of-length-le}
 use lib.Seq.{drop-cons, drop-drop, getD-drop, getD-take, take-append-add, take-length, take-all}
-use lib.Dec.{ltb, eqb}
+use lib.Dec.{ltb}
 use borrow.Author.Tests.{lt-ltb, le-ltb, ne-eqb}
-use Rattle.lines.specs.Cut.{line-end, Ends}
-use Rattle.replies.specs.Written.{Written}
+use Rattle.lines.specs.Cut.{Ends}
 use Rattle.replies.proofs.Writing.{written-both, written-same}
-use Rattle.answering.specs.Parts.{Kept, part, keeps, keeps-byte, kept-answer, kept-memory, State, line-ended, still-kept, after-byte, after-bytes, used}
+use Rattle.answering.specs.Parts.{Kept, part, keeps, keeps-byte, kept-answer, kept-memory, State, line-ended, still-kept, after-bytes, used}
 use Rattle.answering.proofs.Keeping.{few-kept}
 use Rattle.answering.specs.Contracts.{kept-in, begun, used-part, KeepsBehind, AnsweredBy, HoldsState, AnswersLines}
 

@@ -1,19 +1,19 @@
 -- What is kept of an unfinished line, and what the whole line is answered. Assumes nothing.
 use Prim.Native.Nat.{ℕ, _+_, _-_, _≤_, _<_}
 use native.Mathlib.Omega.{arith}
-use mathlib.Core.Path.{_≡_, refl, sym, ap, _∙_, subst}
+use mathlib.Core.Path.{_≡_, refl, sym, ap, _∙_}
 use mathlib.Core.Bool.{Bool, true, false, cond}
 use mathlib.Core.Logic.{_⊎_, inl, inr}
 use mathlib.Core.List.{List, [], _∷_, _++_, append-nil}
 use lib.ListN.{length, take, drop, length-append, length-take}
-use lib.Seq.{sets, sets-eq, append-snoc, take-at, take-all, length-take-le}
+use lib.Seq.{sets, sets-eq, append-snoc, take-at, length-take-le}
 use lib.Dec.{ltb}
 use borrow.Author.Tests.{lt-ltb, le-ltb}
 use Rattle.definitions.proofs.Views.{Lt, lt, lt-or-le}
 use Rattle.forms.specs.ReadLine.{read-line}
 use Rattle.answering.specs.Memory.{line-answer, memory-after-line}
 use Rattle.answering.specs.Parts.{Kept, part, too-long, keeps-byte, keeps, kept-answer, kept-memory, end-answer, end-memory}
-use Rattle.answering.specs.Contracts.{kept-in, count-with, line-with, KeepsBehind}
+use Rattle.answering.specs.Contracts.{kept-in, KeepsBehind}
 
 -- ── byte by byte ──
 

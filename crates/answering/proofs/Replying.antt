@@ -1,14 +1,14 @@
 -- Replies in an output: one alone, a refusal by its number, and the rows of a search. Assumes nothing.
-use Prim.Native.Nat.{ℕ, zero, suc, _+_, _*_, _≤_, _<_}
+use Prim.Native.Nat.{ℕ, zero, suc, _+_, _*_, _≤_}
 use native.Mathlib.Omega.{arith}
 use native.Mathlib.Numerals.{add-one}
-use mathlib.Core.Path.{_≡_, refl, sym, ap, _∙_, subst}
+use mathlib.Core.Path.{_≡_, refl, sym, ap, _∙_}
 use mathlib.Core.Bool.{Bool, true, false, cond}
 use mathlib.Core.List.{List, [], _∷_, _++_, append-nil, append-assoc}
 use lib.ListN.{length, length-append}
 use lib.Dec.{eqb}
 use Rattle.definitions.specs.Location.{Location, location-at, locations-in}
-use Rattle.definitions.specs.Program.{text, decimal, Reply, taken, finished, place, end, refused, place-each, found}
+use Rattle.definitions.specs.Program.{text, decimal, Reply, place, end, refused, place-each, found}
 use Rattle.definitions.proofs.Decimal.{dec-decimal, length-dec}
 use Rattle.image.proofs.BytesRead.{count-locs}
 use Rattle.index_memory.specs.Answers.{recorded-as}
@@ -16,7 +16,7 @@ use Rattle.index_memory.specs.declared.Recorded.the-variants as R
 use Rattle.string_index.specs.Answers.{finished-as}
 use Rattle.string_index.specs.declared.Finished.the-variants as F
 use Rattle.replies.specs.Written.{Written, reply-bytes}
-use Rattle.replies.proofs.Writing.{written-both, written-same}
+use Rattle.replies.proofs.Writing.{written-same}
 use Rattle.answering.specs.Program.{replies-bytes}
 use Rattle.answering.specs.Memory.{unless-number}
 use Rattle.answering.specs.Contracts.{AnsweredBy}

@@ -1,12 +1,11 @@
 -- A part of the input that is answered in turns, an output at a time, is answered whole. Assumes nothing.
-use Prim.Native.Nat.{ℕ, _+_, _≤_}
-use native.Mathlib.Omega.{arith}
-use mathlib.Core.Path.{_≡_, refl, sym, ap, _∙_, subst}
-use mathlib.Core.List.{List, [], _∷_, _++_, append-nil}
+use Prim.Native.Nat.{ℕ, _≤_}
+use mathlib.Core.Path.{_≡_, refl, sym, ap, _∙_}
+use mathlib.Core.List.{List, [], append-nil}
 use lib.ListN.{length, take, drop, take-append-drop, drop-of-length-le}
 use lib.Seq.{drop-drop}
 use Rattle.answering.specs.Parts.{Kept, State, at-start, after-bytes, used}
-use Rattle.answering.specs.Contracts.{kept-in, begun, used-part, AnswersLines, TakesPart}
+use Rattle.answering.specs.Contracts.{kept-in, begun, AnswersLines, TakesPart}
 use Rattle.answering.proofs.Cutting.{after-append, behind, after-behind}
 
 -- two states are the same but for what was answered

@@ -8,7 +8,6 @@ use string_index::Recorded;
 ghost use mathlib.Core.Path.{_≡_};
 ghost use Prim.Native.Nat.{_+_, _*_, _≤_, min};
 ghost use lib.ListN.{length};
-ghost use mathlib.Core.List.{[], _∷_};
 ghost use mathlib.Core.Option.{some};
 ghost use Rattle.definitions.specs.Location.{locations-in, location-at};
 ghost use Rattle.definitions.specs.Program.{block, finish, find, place, found, program-capacity};

@@ -14,7 +14,7 @@ use Rattle.words.proofs.Holding.{holds-append, holds-ext, holds-sets}
 use Rattle.sort.specs.Records.{records, recordsBytes, sorted, dropRepeats, dropAfter, Ordered}
 use Rattle.sort.proofs.Bytes.{Bytes, length-records}
 use Rattle.sort.proofs.Lists.{length-dropRepeats, sorted-fixed}
-use Rattle.sort.proofs.Compare.{sorted-end}
+use Rattle.sort.proofs.Compare.{is-ordered, sorted-end}
 use Rattle.sort.proofs.Finish.{sort-ready}
 use Rattle.sort.proofs.Results.{length-sorted-bytes, length-dropRepeats-bytes, records-after-sort, records-after-drop}
 use Rattle.definitions.specs.Location.{Location, normal, locations-in, locations-bytes}
@@ -105,7 +105,7 @@ few-records (suc (suc n)) s p h = absurd (omega arith)
 
 pub closed-few-places : (s s₃ : List ℕ) (at n : ℕ) → Bytes s → at + 8 + 24 * n ≤ length s → n ≤ 1 → s₃ ≡ setLe64 s at n → Closed s s₃ at n (locations-in s n (at + 8)) n
 closed-few-places s s₃ at n b fits few e =
-    let o : Ordered (records 3 n s (at + 8)) = sorted-end 3 n s (at + 8) few in
+    let o : Ordered (records 3 n s (at + 8)) = is-ordered (records 3 n s (at + 8)) (sym (sorted-end 3 n s (at + 8) few)) in
     let e₁ = sort-ready 3 n s (at + 8) b (omega arith) o in
     let d = few-records n s (at + 8) few in
     let e₂ = e₁ ∙ ap (λ (rs : List (List ℕ)). sets s (at + 8) (recordsBytes rs)) (sorted-fixed (records 3 n s (at + 8)) o ∙ sym d) in

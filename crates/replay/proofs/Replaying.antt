@@ -1,20 +1,19 @@
 -- The digits of an image, and the lines that are words. Assumes nothing.
-use Prim.Native.Nat.{ℕ, suc, _+_, _*_, _/_, _%_, _≤_, _<_, min}
+use Prim.Native.Nat.{ℕ, _+_, _/_, _%_, _≤_, _<_, min}
 use native.Mathlib.Omega.{arith}
 use native.Mathlib.Numerals.{add-one}
-use mathlib.Core.Path.{_≡_, refl, sym, ap, _∙_, subst}
+use mathlib.Core.Path.{_≡_, refl, sym, ap, _∙_}
 use mathlib.Core.Bool.{Bool, true, false, cond}
 use mathlib.Core.List.{List, [], _∷_, _++_}
-use lib.ListN.{length, getD, set, take, replicate, length-append}
-use lib.Seq.{sets, take-suc, take-length}
+use lib.ListN.{length, getD, set, take}
+use lib.Seq.{take-suc, take-length}
 use lib.Dec.{eqb}
 use Rattle.definitions.specs.Program.{text, hex, hex-digit, refused, program-capacity}
 use Rattle.index_memory.specs.Record.{open-memory}
-use Rattle.saving.specs.Saving.{Saving, save-memory}
+use Rattle.saving.specs.Saving.{Saving}
 use Rattle.saving.specs.Answers.{saved-as}
 use Rattle.saving.specs.declared.Saved.the-variants as S
 use Rattle.replies.specs.Written.{Written, reply-bytes}
-use Rattle.replies.proofs.Writing.{written-both, written-same}
 use Rattle.answering.specs.Memory.{line-answer, memory-after-line}
 use Rattle.answering.specs.Contracts.{AnsweredBy}
 use Rattle.answering.proofs.Blocks.{take-limit}
@@ -33,10 +32,6 @@ byte-written out at b c d e f = record {
 hex-append : (xs ys : List ℕ) → hex (xs ++ ys) ≡ hex xs ++ hex ys
 hex-append [] ys = refl
 hex-append (x ∷ xs) ys = ap (λ (l : List ℕ). hex-digit (x / 16) ∷ hex-digit (x % 16) ∷ l) (hex-append xs ys)
-
-pub length-hex : (xs : List ℕ) → length (hex xs) ≡ 2 * length xs
-length-hex [] = refl
-length-hex (x ∷ xs) = omega (arith, length-hex xs)
 
 -- one byte more
 pub hex-more : (s : List ℕ) (i : ℕ) → i < length s → hex (take i s) ++ hex (getD s i 0 ∷ []) ≡ hex (take (i + 1) s)

@@ -1,23 +1,20 @@
 -- A memory that follows a recording, call by call: what demand 3 knows of whole lists, for one call. Assumes nothing.
 use Prim.Native.Nat.{ℕ}
 use native.Mathlib.Omega.{arith}
-use mathlib.Core.Path.{_≡_, refl, sym, subst}
-use mathlib.Core.List.{List, [], _∷_, List·Memᴰ as Mem, List·Memᴰ·not-nil as not-nil, List·Memᴰ·eq-of-singleton as only-one}
-use Rattle.definitions.specs.Blocks.{Block, Piece, pieces, pieces-of}
-use Rattle.definitions.specs.Causes.{first-cause}
+use mathlib.Core.Path.{_≡_, sym, subst}
+use mathlib.Core.List.{List, [], _∷_, List·Memᴰ·not-nil as not-nil, List·Memᴰ·eq-of-singleton as only-one}
+use Rattle.definitions.specs.Blocks.{pieces, pieces-of}
 use Rattle.definitions.specs.Calls.{Capacity, Recorded, fresh}
-use Rattle.definitions.specs.Recording.{Call, after, Sound}
-use Rattle.definitions.proofs.Taken.{Right}
+use Rattle.definitions.specs.Recording.{Call, after}
 use Rattle.trie.specs.Build.{trie-of}
 use Rattle.trie.specs.Trie.{trie-pieces}
 use Rattle.trie.proofs.BuildPieces.{trie-of-pieces}
 use Rattle.definitions.proofs.Chains.{SamePieces}
-use Rattle.index_memory.specs.Index.{read-index}
 use Rattle.index_memory.specs.Record.{open-memory}
 use Rattle.index_memory.proofs.Appending.{opened-fresh}
 use Rattle.index_memory.proofs.Taken.{read-appended}
 use Rattle.string_index.specs.Demand.{CallFits, memory-after}
-use Rattle.string_index.proofs.Follow.{AllFit, holds, Follows, follow-all}
+use Rattle.string_index.proofs.Follow.{holds, Follows, follow-all}
 use Rattle.string_index.proofs.ReadFinished.{read-finished}
 use Rattle.string_index.proofs.Demand.{piece-sound}
 use Rattle.string_index.proofs.Theorem.{location-fits, pieces-fit}

@@ -1,8 +1,6 @@
 -- `answering::keep` meets its contract. Assumes nothing.
 use native.Mathlib.Omega.{arith}
 use mathlib.Core.Path.{ap, _∙_}
-use mathlib.Core.List.{List}
-use Prim.Native.Nat.{ℕ}
 use lib.Seq.{sets, take-length}
 use denote.Ref.{now}
 use Rattle.answering.proofs.Keeping.{keep-long, keep-over, keep-fit}

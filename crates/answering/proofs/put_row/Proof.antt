@@ -1,6 +1,6 @@
 -- `answering::put_row` meets its contract. Assumes nothing.
-use mathlib.Core.Path.{ap, _∙_}
-use Rattle.definitions.specs.Location.{Location, location-at}
+use mathlib.Core.Path.{ap}
+use Rattle.definitions.specs.Location.{Location}
 use Rattle.definitions.specs.Program.{place}
 use Rattle.replies.specs.Written.{reply-bytes}
 use Rattle.replies.proofs.Writing.{written-same}

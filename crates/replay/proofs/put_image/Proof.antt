@@ -1,16 +1,15 @@
 -- `replay::put_image` meets its contract: the digits of the bytes before index i are written. Assumes nothing.
-use Prim.Native.Nat.{_+_, _-_, _*_, _≤_}
+use Prim.Native.Nat.{ℕ, _+_, _-_, _*_, _≤_}
 use native.Mathlib.Omega.{arith}
 use mathlib.Core.Path.{_≡_, refl, subst}
-use mathlib.Core.List.{List, [], _∷_, _++_}
-use Prim.Native.Nat.{ℕ}
-use lib.ListN.{length, getD, take, length-take}
+use mathlib.Core.List.{List}
+use lib.ListN.{length, take}
 use denote.Ref.{now}
 use borrow.Author.Needs.{needs}
-use Rattle.definitions.specs.Program.{text, hex}
+use Rattle.definitions.specs.Program.{hex}
 use Rattle.replies.specs.Written.{Written}
 use Rattle.replies.proofs.Writing.{written-both, written-same}
-use Rattle.replay.proofs.Replaying.{hex-more, hex-all, length-hex}
+use Rattle.replay.proofs.Replaying.{hex-more, hex-all}
 use Rattle.replay.proofs.put_image.Statement.{statement}
 use Rattle.replay.proofs.put_image.Tie as tie
 
