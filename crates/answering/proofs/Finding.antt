@@ -11,7 +11,8 @@ use Rattle.definitions.specs.Location.{Location, locations-in}
 use Rattle.definitions.specs.Program.{find, Reply, refused, found}
 use Rattle.definitions.proofs.Views.{Eq, eq}
 use Rattle.searching.specs.declared.Finding.{Finding}
-use Rattle.string_index.specs.Find.{Rows-found, find-memory}
+use Rattle.searching.specs.Search.{finding-of}
+use Rattle.string_index.specs.Find.{find-memory}
 use Rattle.string_index.proofs.Finding.{Finds, found-fit}
 use Rattle.replies.specs.Written.{Written, reply-bytes}
 use Rattle.replies.proofs.Writing.{written-same}
@@ -34,42 +35,29 @@ number-some n rs h = go (eqb n 0) (eq n 0)
     go true k = absurd (h k)
     go false k = refl
 
-module _ {m q x s out out′ : List ℕ} {at r : ℕ} {f : Finding} (e : length x ≡ 6144) (w : Finds (find-memory m q (length x) 64) x s f) where
+module _ (m q x : List ℕ) {s : List ℕ} {f : Finding} (e : length x ≡ 6144) (w : Finds (find-memory m q (length x) 64) x s f) where
   -- what is found where scratch is as large as the code has it
-  told : Rows-found
-  told = find-memory m q 6144 64
+  told : f ≡ finding-of (find-memory m q 6144 64)
+  told = w .0 ∙ ap (λ (k : ℕ). finding-of (find-memory m q k 64)) e
 
-  sized : find-memory m q (length x) 64 ≡ told
-  unfolding told
-  sized = ap (λ (k : ℕ). find-memory m q k 64) e
-
-  refusal-is : f .refusal ≡ told .refusal
-  refusal-is = ap (λ (g : Finding). g .refusal) (w .0) ∙ ap (λ (o : Rows-found). o .refusal) sized
-
-  count-is : f .count ≡ length (told .rows)
-  count-is = ap (λ (g : Finding). g .count) (w .0) ∙ ap (λ (o : Rows-found). length (o .rows)) sized
-
-  stand : locations-in s (f .count) 0 ≡ told .rows
+  stand : locations-in s (f .count) 0 ≡ find-memory m q 6144 64 .rows
   stand =
       ap (λ (n : ℕ). locations-in s n 0) (ap (λ (g : Finding). g .count) (w .0)) ∙ w .1 .0 .stand
-      ∙ ap (λ (o : Rows-found). o .rows) sized
+      ∙ ap (λ (k : ℕ). find-memory m q k 64 .rows) e
 
   pub found-fits : f .count ≤ 64
-  unfolding told
-  found-fits = omega (arith, count-is, found-fit m q 6144 64)
+  found-fits = omega (arith, ap (λ (g : Finding). g .count) told, found-fit m q 6144 64)
 
-  pub found-none : (f .refusal ≡ 0 → ⊥) → Written out at (reply-bytes (refused (f .refusal))) out′ r → AnsweredBy out at (replies-bytes (form-answer m (some (find q)))) m out′ m r
-  unfolding told
+  pub found-none : {out out′ : List ℕ} {at r : ℕ} → (f .refusal ≡ 0 → ⊥) → Written out at (reply-bytes (refused (f .refusal))) out′ r → AnsweredBy out at (replies-bytes (form-answer m (some (find q)))) m out′ m r
   found-none h y =
       let rs : List Reply = found (find-memory m q 6144 64 .rows) in
-      answered-refused (f .refusal) (ap (λ (n : ℕ). unless-number n rs) (sym refusal-is) ∙ number-some (f .refusal) rs h) y refl
+      answered-refused (f .refusal) (ap (λ (g : Finding). unless-number (g .refusal) rs) (sym told) ∙ number-some (f .refusal) rs h) y refl
 
-  pub found-rows : f .refusal ≡ 0 → Written out at (replies-bytes (found (locations-in s (f .count) 0))) out′ r → r ≤ at + f .count * 71 + 27 → AnsweredBy out at (replies-bytes (form-answer m (some (find q)))) m out′ m r
-  unfolding told
+  pub found-rows : {out out′ : List ℕ} {at r : ℕ} → f .refusal ≡ 0 → Written out at (replies-bytes (found (locations-in s (f .count) 0))) out′ r → r ≤ at + f .count * 71 + 27 → AnsweredBy out at (replies-bytes (form-answer m (some (find q)))) m out′ m r
   found-rows h y l =
       let rs : List Reply = found (find-memory m q 6144 64 .rows) in
       record {
-        written = written-same (ap (λ (ls : List Location). replies-bytes (found ls)) stand ∙ ap replies-bytes (sym (ap (λ (n : ℕ). unless-number n rs) (sym refusal-is) ∙ number-none (f .refusal) rs h))) y;
+        written = written-same (ap (λ (ls : List Location). replies-bytes (found ls)) stand ∙ ap replies-bytes (sym (ap (λ (g : Finding). unless-number (g .refusal) rs) (sym told) ∙ number-none (f .refusal) rs h))) y;
         short = omega (arith, found-fits);
         leaves = refl;
       }

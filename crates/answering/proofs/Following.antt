@@ -85,6 +85,16 @@ index-held s o = cond o (I.finished program-capacity (trie-of (pieces-of (s .blo
 abbrev standing-as : Recorded → Bool → Standing
 standing-as s o = record { broken = false; finished = o; capacity = program-capacity; pieces = pieces-of (s .blocks) }
 
+-- what decides a search of a finished index, by its places and its rows
+abbrev decided : List ℕ → ℕ → List Location → List Reply
+decided q n ls =
+    or-refused
+    (first-cause
+    (record { applies = ltb 256 (length q); cause = query-too-long } ∷
+    record { applies = ltb 256 n; cause = scratch-too-small } ∷
+    record { applies = ltb 64 (length ls); cause = too-many-rows } ∷ []))
+    (found ls)
+
 module _ (s : Recorded) (m : List ℕ) (w : Followed program-capacity s m) where
   -- what is open or finished decides
   held : (o : Bool) → s .finished ≡ o → read-index m ≡ index-held s o
@@ -123,16 +133,11 @@ module _ (s : Recorded) (m : List ℕ) (w : Followed program-capacity s m) where
       same : SamePieces (held-pieces s) (taken-pieces s)
       same = followed-pieces program-capacity s m w
 
-      -- what decides a search of a finished index, by its places and its rows
-      decided : ℕ → List Location → List Reply
-      decided n ls = or-refused (first-cause (record { applies = ltb 256 (length q); cause = query-too-long } ∷ record { applies = ltb 256 n; cause = scratch-too-small } ∷ record { applies = ltb 64 (length ls); cause = too-many-rows } ∷ [])) (found ls)
-
       both : (o : Bool) → found-replies (find-by (index-held s o) q 6144 64) ≡ or-refused (first-cause (search-checks (standing-as s o) q 256 64)) (found (rows (taken-pieces s) q))
-      unfolding decided
       both true =
           found-tells (first-cause (search-checks (standing-of (index-held s true)) q 256 64)) (rows (held-pieces s) q)
-          ∙ ap (decided (places-counted (held-pieces s) q)) (rows-by-set (held-pieces s) (taken-pieces s) same q)
-          ∙ ap (λ (n : ℕ). decided n (rows (taken-pieces s) q)) (counted-by-set (held-pieces s) (taken-pieces s) same q)
+          ∙ ap (decided q (places-counted (held-pieces s) q)) (rows-by-set (held-pieces s) (taken-pieces s) same q)
+          ∙ ap (λ (n : ℕ). decided q n (rows (taken-pieces s) q)) (counted-by-set (held-pieces s) (taken-pieces s) same q)
       both false = refl
 
       go : (o : Bool) → s .finished ≡ o → found-replies (find-by (read-index m) q 6144 64) ≡ replies s (find q)

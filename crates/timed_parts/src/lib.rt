@@ -52,13 +52,7 @@ fn query_size(queries: &[u8], size: usize) -> usize
 }
 
 // Searches for each of the queries, size bytes each, and answers for the last.
-fn search_each(
-    img: &[u8],
-    queries: &[u8],
-    size: usize,
-    scratch: &mut [u8],
-    room: usize,
-) -> Finding
+fn search_each(img: &[u8], queries: &[u8], size: usize, scratch: &mut [u8], room: usize) -> Finding
     requires { ⌜ RightImage (now img) × Rule (trie-in (now img)) × (size ≤ 256) × (min 1 (length (now queries)) ≤ size) × (size ≤ length (now queries)) ⌝ }
     ensures finding { λ r. ⌜ r ≡ finding-of (search-answer (trie-in (now (img .entry))) (last-query (now (queries .entry)) size) (length (now (scratch .entry))) room) ⌝ }
 {

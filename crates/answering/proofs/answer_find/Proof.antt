@@ -21,7 +21,7 @@ same-length : tie.Need-same-length
 same-length c = search needs
 
 returns : tie.Need-returns
-returns c = found-none (length-replicate {A = ℕ} 6144 0) (c .before .before .before .before .before .before .before .find .ensures) (λ e. omega arith) (c .before .before .put-refused .ensures)
+returns c = found-none _ _ _ (length-replicate {A = ℕ} 6144 0) (c .before .before .before .before .before .before .before .find .ensures) (λ e. omega arith) (c .before .before .put-refused .ensures)
 
 slice-aggregate-put-rows : tie.Need-slice-aggregate-put-rows
 slice-aggregate-put-rows c = search needs
@@ -30,7 +30,7 @@ put-rows-requires : tie.Need-put-rows-requires
 put-rows-requires c κs =
     let f = c .before .before .before .before .before .find in
     let w = rows-within (f .ensures .0) (f .ensures .1 .0) in
-    (omega (arith, found-fits (length-replicate {A = ℕ} 6144 0) (f .ensures)), omega arith)
+    (omega (arith, found-fits _ _ _ (length-replicate {A = ℕ} 6144 0) (f .ensures)), omega arith)
 
 same-length-2 : tie.Need-same-length-2
 same-length-2 c = search needs
@@ -38,7 +38,7 @@ same-length-2 c = search needs
 returns-2 : tie.Need-returns-2
 returns-2 c =
     let w = c .before .before .put-rows .ensures in
-    found-rows (length-replicate {A = ℕ} 6144 0) (c .before .before .before .before .before .before .before .before .find .ensures) (omega arith) (w .0) (w .1)
+    found-rows _ _ _ (length-replicate {A = ℕ} 6144 0) (c .before .before .before .before .before .before .before .before .find .ensures) (omega arith) (w .0) (w .1)
 
 pub answer-find-spec : {M : Type 1} → statement M
 answer-find-spec =
