@@ -2,8 +2,11 @@
 // like answers.
 use image::Layout;
 use libc::STDOUT_FILENO;
-ghost use Prim.Native.Nat.{_+_, _≤_, _<_};
+ghost use mathlib.Core.Path.{_≡_};
+ghost use Prim.Native.Nat.{_+_, _≤_, _<_, min};
 ghost use lib.ListN.{length};
+ghost use Rattle.image_vectors.specs.Said.{said-image, same-said, said-after, said-parts, said-whole};
+ghost use Rattle.image_vectors.specs.Vector.{said-damaged, after-damaged, after-whole, after-vector};
 
 // What is said of an image, and how often in a row: a refusal's number, or 0 with its nodes and entries.
 pub struct Said {
@@ -42,7 +45,9 @@ fn print(s: Said) {
     io::write_all(STDOUT_FILENO, b")\n");
 }
 
-fn is_same(a: Said, b: Said) -> bool {
+fn is_same(a: Said, b: Said) -> bool
+    ensures { λ r. ⌜ r ≡ same-said a b ⌝ }
+{
     if a.refusal != b.refusal {
         return false;
     }
@@ -52,7 +57,9 @@ fn is_same(a: Said, b: Said) -> bool {
     a.entries == b.entries
 }
 
-fn judge(img: &[u8]) -> Said {
+fn judge(img: &[u8]) -> Said
+    ensures { λ r. ⌜ r ≡ said-image (now (img .entry)) ⌝ }
+{
     let r = index_rule::check(img);
     match r {
         Layout::Refused(n) => Said {
@@ -71,7 +78,9 @@ fn judge(img: &[u8]) -> Said {
 }
 
 // One more answer: the same again, or the last one printed.
-fn after(last: Said, next: Said) -> Said {
+fn after(last: Said, next: Said) -> Said
+    ensures { λ r. ⌜ r ≡ said-after last next ⌝ }
+{
     if is_same(last, next) {
         if last.times < 1000000 {
             return Said {
@@ -87,7 +96,9 @@ fn after(last: Said, next: Said) -> Said {
 }
 
 // Every part of an image from its start.
-fn judge_parts(img: &[u8], last: Said) -> Said {
+fn judge_parts(img: &[u8], last: Said) -> Said
+    ensures { λ r. ⌜ r ≡ said-parts (now (img .entry)) (length (now (img .entry))) 0 last ⌝ }
+{
     let mut said = last;
     let mut n = 0;
     while n < img.len() {
@@ -100,6 +111,8 @@ fn judge_parts(img: &[u8], last: Said) -> Said {
 // The image with another byte at an index.
 fn judge_damaged(bytes: &mut [u8], start: usize, len: usize, index: u64, byte: u8) -> Said
     requires { ⌜ start + len ≤ length (now bytes) ⌝ }
+    ensures { λ r. ⌜ r ≡ said-damaged (now (bytes .entry)) start len index byte ⌝ }
+    ensures { λ r. ⌜ now (bytes .exit) ≡ now (bytes .entry) ⌝ }
 {
     let end = start + len;
     if len as u64 <= index {
@@ -116,6 +129,8 @@ fn judge_damaged(bytes: &mut [u8], start: usize, len: usize, index: u64, byte: u
 // Mode 2: an index and a byte.
 fn damaged(bytes: &mut [u8], c: Cursor) -> Cursor
     requires { ⌜ (c .at + 10 ≤ length (now bytes)) × (c .start + c .len ≤ length (now bytes)) ⌝ }
+    ensures { λ r. ⌜ r ≡ after-damaged (now (bytes .entry)) c ⌝ }
+    ensures { λ r. ⌜ now (bytes .exit) ≡ now (bytes .entry) ⌝ }
     ensures { λ r. ⌜ (c .at < r .at) × (r .at ≤ length (now (bytes .entry))) × (r .start + r .len ≤ length (now (bytes .entry))) ⌝ }
 {
     let at = c.at;
@@ -131,7 +146,9 @@ fn damaged(bytes: &mut [u8], c: Cursor) -> Cursor
 }
 
 // The image, and before it every part of it where they are asked for.
-fn judge_image(img: &[u8], last: Said, parts: bool) -> Said {
+fn judge_image(img: &[u8], last: Said, parts: bool) -> Said
+    ensures { λ r. ⌜ r ≡ said-whole (now (img .entry)) last parts ⌝ }
+{
     if parts {
         return after(judge_parts(img, last), judge(img));
     }
@@ -139,7 +156,7 @@ fn judge_image(img: &[u8], last: Said, parts: bool) -> Said {
 }
 
 fn at_most(n: u64, limit: usize) -> usize
-    ensures { λ r. ⌜ r ≤ limit ⌝ }
+    ensures { λ r. ⌜ r ≡ min n limit ⌝ }
 {
     if limit as u64 <= n {
         return limit;
@@ -150,6 +167,7 @@ fn at_most(n: u64, limit: usize) -> usize
 // Modes 0 and 1: a length and an image.
 fn whole(bytes: &[u8], c: Cursor, parts: bool) -> Cursor
     requires { ⌜ c .at + 10 ≤ length (now bytes) ⌝ }
+    ensures { λ r. ⌜ r ≡ after-whole (now (bytes .entry)) c parts ⌝ }
     ensures { λ r. ⌜ (c .at < r .at) × (r .at ≤ length (now (bytes .entry))) × (r .start + r .len ≤ length (now (bytes .entry))) ⌝ }
 {
     let n = words::get64(bytes, c.at + 1);
@@ -169,6 +187,8 @@ fn whole(bytes: &[u8], c: Cursor, parts: bool) -> Cursor
 // One vector.
 fn step(bytes: &mut [u8], c: Cursor) -> Cursor
     requires { ⌜ (c .at + 10 ≤ length (now bytes)) × (c .start + c .len ≤ length (now bytes)) ⌝ }
+    ensures { λ r. ⌜ r ≡ after-vector (now (bytes .entry)) c ⌝ }
+    ensures { λ r. ⌜ now (bytes .exit) ≡ now (bytes .entry) ⌝ }
     ensures { λ r. ⌜ (c .at < r .at) × (r .at ≤ length (now (bytes .entry))) × (r .start + r .len ≤ length (now (bytes .entry))) ⌝ }
 {
     let at = c.at;

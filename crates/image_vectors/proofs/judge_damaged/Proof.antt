@@ -1,4 +1,8 @@
 -- `judge_damaged` changes one byte of the image and puts it back. Assumes nothing.
+use Prim.Native.Nat.{_+_}
+use mathlib.Core.Path.{refl}
+use denote.Ref.{now}
+use Rattle.image_vectors.proofs.Vectors.{damaged-none, damaged-one, put-back}
 use native.Mathlib.Omega.{arith}
 use lib.ListN.{length-set}
 use borrow.Author.Needs.{needs}
@@ -24,7 +28,9 @@ same-length : tie.Need-same-length
 same-length c = search needs
 
 returns : tie.Need-returns
-returns c = search needs
+returns c =
+    let g = c .before .before .before .before .before .args in
+    (damaged-none (now (g .bytes)) (g .start) (g .len) (g .index) (g .byte) _ (c .before .before .before .if1 .taken) (c .judge .ensures), refl)
 
 add-i : tie.Need-add-i
 add-i c = search needs
@@ -54,7 +60,9 @@ same-length-2 : tie.Need-same-length-2
 same-length-2 c = search needs
 
 returns-2 : tie.Need-returns-2
-returns-2 c = search needs
+returns-2 c =
+    let g = c .before .before .before .before .before .before .args in
+    (damaged-one (now (g .bytes)) (g .start) (g .len) (g .index) (g .byte) _ (c .before .before .before .before .if1 .left) (c .judge2 .ensures), put-back (now (g .bytes)) (g .start + g .index) (g .byte))
 
 pub judge-damaged-spec : {M : Type 1} → statement M
 judge-damaged-spec =
