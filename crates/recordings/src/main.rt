@@ -13,9 +13,12 @@ ghost use mathlib.Core.Path.{_≡_};
 ghost use Prim.Native.Nat.{_+_, _*_, _<_, _≤_};
 ghost use lib.ListN.{length, replicate};
 ghost use Rattle.string_index.specs.Finish.{search-memory};
+ghost use Rattle.recordings.specs.Counting.{counting-up};
 ghost use Rattle.recordings.specs.Handed.{handed};
 
-fn wide(x: u8) -> u64 {
+fn wide(x: u8) -> u64
+    ensures { λ r. ⌜ r ≡ x ⌝ }
+{
     x as u64
 }
 
@@ -247,7 +250,9 @@ fn six(mem: &mut [u8]) {
 }
 
 // Fills a slice with numbers that rise by 1, a byte each.
-fn count_up(data: &mut [u8]) {
+fn count_up(data: &mut [u8])
+    ensures { λ r. ⌜ now («data» .exit) ≡ counting-up (length (now («data» .entry))) ⌝ }
+{
     let mut i = 0;
     while i < data.len() {
         data[i] = (i % 251) as u8;

@@ -1,11 +1,11 @@
 -- The digits of an image, and the lines that are words. Assumes nothing.
-use Prim.Native.Nat.{ℕ, _+_, _/_, _%_, _≤_, _<_, min}
+use Prim.Native.Nat.{ℕ, _+_, _-_, _/_, _%_, _≤_, _<_, min}
 use native.Mathlib.Omega.{arith}
 use native.Mathlib.Numerals.{add-one}
-use mathlib.Core.Path.{_≡_, refl, sym, ap, _∙_}
+use mathlib.Core.Path.{_≡_, refl, sym, ap, subst, _∙_}
 use mathlib.Core.Bool.{Bool, true, false, cond}
 use mathlib.Core.List.{List, [], _∷_, _++_}
-use lib.ListN.{length, getD, set, take}
+use lib.ListN.{length, getD, set, take, drop}
 use lib.Seq.{take-suc, take-length}
 use lib.Dec.{eqb}
 use Rattle.definitions.specs.Program.{text, hex, hex-digit, refused, program-capacity}
@@ -13,11 +13,12 @@ use Rattle.index_memory.specs.Record.{open-memory}
 use Rattle.saving.specs.Saving.{Saving}
 use Rattle.saving.specs.Answers.{saved-as}
 use Rattle.saving.specs.declared.Saved.the-variants as S
+use Rattle.lines.specs.Cut.{line-end}
 use Rattle.replies.specs.Written.{Written, reply-bytes}
 use Rattle.answering.specs.Memory.{line-answer, memory-after-line}
 use Rattle.answering.specs.Contracts.{AnsweredBy}
 use Rattle.answering.proofs.Blocks.{take-limit}
-use Rattle.replay.specs.Replay.{is-word, image-line, save-line, save-answer, Replays}
+use Rattle.replay.specs.Replay.{is-word, image-line, save-line, save-answer, Replays, line-from, ReplaysNext}
 
 -- ── digits ──
 
@@ -73,3 +74,15 @@ module _ {m l out m′ out′ : List ℕ} {r : ℕ} (within : r ≤ length out) 
 
   pub replays-form : false ≡ is-word (text "(new)") l → false ≡ is-word (text "(save)") l → AnsweredBy out 0 (line-answer m l) (memory-after-line m l) out′ m′ r → Replays m l out m′ out′ r
   replays-form d e w = record { written = rw (sym d, sym e) (w .written); within = within; leaves = rw (sym d, sym e) (w .leaves) }
+
+-- ── the next line ──
+
+module _ (s : List ℕ) (p e : ℕ) (h : e ≡ line-end s p) {m out m′ out′ : List ℕ} {at : ℕ} (w : Replays m (take (e - p) (drop p s)) out m′ out′ at) where
+  by-line : Replays m (line-from s p) out m′ out′ at
+  by-line = subst (λ (x : ℕ). Replays m (take (x - p) (drop p s)) out m′ out′ at) h w
+
+  pub next-taken : ReplaysNext m s p out m′ out′ (e + 1)
+  next-taken = record { taken = true; next = ap (λ (x : ℕ). x + 1) h; answer = by-line .written .out; leaves = by-line .leaves }
+
+  pub next-end : ReplaysNext m s p out m′ out′ (length s)
+  next-end = record { taken = false; next = refl; answer = by-line .written .out; leaves = by-line .leaves }

@@ -1,14 +1,16 @@
 -- What a line is answered where recordings are replayed: (new) opens a fresh index, (save) prints its image. Assumes nothing.
-use Prim.Native.Nat.{ℕ, _+_, _≤_}
+use Prim.Native.Nat.{ℕ, _+_, _-_, _≤_}
 use mathlib.Core.Path.{_≡_}
 use mathlib.Core.Bool.{Bool, false, cond}
 use mathlib.Core.List.{List, [], _∷_, _++_}
-use lib.ListN.{length, take, replicate}
+use lib.ListN.{length, take, drop, replicate}
+use lib.Seq.{sets}
 use lib.Dec.{eqb}
 use Rattle.definitions.specs.Program.{text, hex, refused, program-capacity}
 use Rattle.index_memory.specs.Record.{open-memory}
 use Rattle.saving.specs.Saving.{Saving, save-memory}
 use Rattle.forms.specs.ReadLine.{starts}
+use Rattle.lines.specs.Cut.{line-end}
 use Rattle.replies.specs.Written.{Written, reply-bytes}
 use Rattle.answering.specs.Memory.{line-answer, memory-after-line}
 
@@ -41,3 +43,18 @@ pub record Replays (m l out m′ out′ : List ℕ) (r : ℕ) : Type 0 where
   pub written : Written out 0 (replay-answer m l) out′ r
   pub within : r ≤ length out
   pub leaves : m′ ≡ replay-memory m l
+
+-- the line that begins at an index
+abbrev pub line-from : List ℕ → ℕ → List ℕ
+line-from s p = take (line-end s p - p) (drop p s)
+
+-- where the next line begins; the input's end where the output did not take the answer
+abbrev pub next-line : List ℕ → ℕ → Bool → ℕ
+next-line s p taken = cond taken (line-end s p + 1) (length s)
+
+-- the line from an index on was answered, and r is where the next one begins; no contract says whether an output takes bytes
+pub record ReplaysNext (m s : List ℕ) (p : ℕ) (out m′ out′ : List ℕ) (r : ℕ) : Type 0 where
+  pub taken : Bool
+  pub next : r ≡ next-line s p taken
+  pub answer : out′ ≡ sets out 0 (replay-answer m (line-from s p))
+  pub leaves : m′ ≡ replay-memory m (line-from s p)

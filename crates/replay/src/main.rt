@@ -8,7 +8,7 @@ ghost use Prim.Native.Nat.{_+_, _*_, _≤_, _<_};
 ghost use lib.ListN.{length};
 ghost use Rattle.definitions.specs.Program.{hex, hex-digit};
 ghost use Rattle.replies.specs.Written.{Written};
-ghost use Rattle.replay.specs.Replay.{is-word, image-line, save-answer, Replays};
+ghost use Rattle.replay.specs.Replay.{is-word, image-line, save-answer, Replays, ReplaysNext};
 
 // The longest image of an index of the program's capacity.
 const IMAGE_SIZE: usize = 73600;
@@ -89,6 +89,7 @@ fn replay_line(mem: &mut [u8], line: &[u8], out: &mut [u8]) -> usize
 // Answers the line from index p on, and writes the answer out; where the next line begins, the input's end where writing fails.
 fn replay_next(mem: &mut [u8], input: &[u8], p: usize, out: &mut [u8]) -> usize
     requires { ⌜ (p < length (now input)) × (147209 ≤ length (now out)) ⌝ }
+    ensures { λ r. ⌜ ReplaysNext (now (mem .entry)) (now (input .entry)) p (now (out .entry)) (now (mem .exit)) (now (out .exit)) r ⌝ }
     ensures { λ r. ⌜ p < r ⌝ }
 {
     let e = lines::line_end(input, p);

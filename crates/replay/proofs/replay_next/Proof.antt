@@ -1,4 +1,4 @@
--- `replay::replay_next` is safe and goes on. Assumes nothing.
+-- `replay::replay_next` meets its contract. Assumes nothing.
 use Prim.Native.Nat.{ℕ, _<_}
 use native.Mathlib.Omega.{arith}
 use mathlib.Core.Path.{_≡_, sym, subst}
@@ -7,6 +7,7 @@ use lib.ListN.{length, length-take}
 use denote.Ref.{now}
 use Rattle.lines.specs.Cut.{line-end, Ends}
 use Rattle.lines.proofs.Cutting.{line-ends}
+use Rattle.replay.proofs.Replaying.{next-taken, next-end}
 use borrow.Author.Needs.{needs}
 use Rattle.replay.proofs.replay_next.Statement.{statement}
 use Rattle.replay.proofs.replay_next.Tie as tie
@@ -62,8 +63,9 @@ same-length-2 c = search needs
 returns : tie.Need-returns
 returns c =
     let k = c .before .before .before .before .before .before .before .before .before .before .before .line-end in
-    let w = ended (now (c .before .before .before .before .before .before .before .before .before .before .before .before .before .before .before .args .input)) (c .before .before .before .before .before .before .before .before .before .before .before .before .before .before .before .args .p) (k .result) (omega arith) (k .ensures) in
-    omega (arith, w .from, w .within)
+    let g = c .before .before .before .before .before .before .before .before .before .before .before .before .before .before .before .args in
+    let w = ended (now (g .input)) (g .p) (k .result) (omega arith) (k .ensures) in
+    (next-taken (now (g .input)) (g .p) (k .result) (k .ensures) (c .before .before .before .before .before .before .before .replay-line .ensures), omega (arith, w .from, w .within))
 
 slice-aggregate-fail : tie.Need-slice-aggregate-fail
 slice-aggregate-fail c = search needs
@@ -78,7 +80,10 @@ same-length-4 : tie.Need-same-length-4
 same-length-4 c = search needs
 
 returns-2 : tie.Need-returns-2
-returns-2 c = search needs
+returns-2 c =
+    let k = c .before .before .before .before .before .before .before .before .before .before .before .before .before .line-end in
+    let g = c .before .before .before .before .before .before .before .before .before .before .before .before .before .before .before .before .before .args in
+    (next-end (now (g .input)) (g .p) (k .result) (k .ensures) (c .before .before .before .before .before .before .before .before .before .replay-line .ensures), omega arith)
 
 pub replay-next-spec : {M : Type 1} → statement M
 replay-next-spec =
