@@ -58,7 +58,7 @@ module _ (s : List ℕ) (h : RootHere s) (c : Parts) (g : c ≡ parts-at s 0) wh
   pub root-table : HasTable s (c .table) (c .children)
   root-table = record { depth = 16; forest = h .node .children; is = root-is .table }
 
-  pub root-asked : (fronts : List ℕ) (count : ℕ) (lists : List ℕ) → RootFronts s (c .table) (c .children) fronts count → 13056 ≤ length fronts → 1024 ≤ length lists → ChildrenAsked s (c .table) (c .children) 0 fronts count lists 16
+  pub root-asked : (fronts : List ℕ) (count : ℕ) (lists : List ℕ) → RootFronts s (c .table) (c .children) fronts count → 13056 ≤ length fronts → 1025 ≤ length lists → ChildrenAsked s (c .table) (c .children) 0 fronts count lists 16
   root-asked fronts count lists f l m =
       record { forest = h .node .children; is = root-is .table; nodes = siblings (h .node .children); fronts-here = f .are 16 (h .node .children) (root-is .table); levels = omega arith; room = l; lists-room = m }
 

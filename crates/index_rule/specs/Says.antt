@@ -76,7 +76,7 @@ pub record ChildAsked (s : List ℕ) (at depth : ℕ) (fronts : List ℕ) (count
   pub fronts-here : FrontsHere s left fronts (depth * 768) count nodes
   pub levels : depth + left ≤ 15
   pub room : 13056 ≤ length fronts
-  pub lists-room : 1024 ≤ length lists
+  pub lists-room : 1025 ≤ length lists
 
 pub record ChildSays (s : List ℕ) (b at depth : ℕ) (old : List ℕ) (count left : ℕ) (fronts : List ℕ) (r : Bool) : Type 0 where
   pub kept : KeptBelow ((depth + 1) * 768) old fronts
@@ -90,7 +90,7 @@ pub record ChildrenAsked (s : List ℕ) (table children depth : ℕ) (fronts : L
   pub fronts-here : FrontsHere s (left - 1) fronts (depth * 768) count nodes
   pub levels : depth + left ≤ 16
   pub room : 13056 ≤ length fronts
-  pub lists-room : 1024 ≤ length lists
+  pub lists-room : 1025 ≤ length lists
 
 pub record ChildrenSays (s : List ℕ) (table children depth : ℕ) (old : List ℕ) (count left : ℕ) (fronts : List ℕ) (r : Bool) : Type 0 where
   pub kept : KeptBelow ((depth + 1) * 768) old fronts

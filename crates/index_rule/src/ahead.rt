@@ -60,7 +60,7 @@ fn read_ahead(s: &[u8], byte: u8, fronts: &[usize], count: usize, at: usize) -> 
     sum
 }
 
-// Reads ahead for a child of the root; depth is its parent's. The number is put at the lists' end.
+// Reads ahead for a child of the root; depth is its parent's. The number has a place of its own behind the lists.
 pub fn look_ahead(
     s: &[u8],
     byte: u8,
@@ -70,11 +70,11 @@ pub fn look_ahead(
     at: usize,
     lists: &mut [usize],
 )
-    requires { ⌜ HasFronts (now s) (now fronts) (depth * 768) count × (13056 ≤ length (now fronts)) × (1024 ≤ length (now lists)) ⌝ }
-    ensures { λ _. ⌜ now (lists .exit) ≡ cond (eqb depth 0) (set (now (lists .entry)) 1023 (shares-read (now (s .entry)) byte (now (fronts .entry)) count at)) (now (lists .entry)) ⌝ }
+    requires { ⌜ HasFronts (now s) (now fronts) (depth * 768) count × (13056 ≤ length (now fronts)) × (1025 ≤ length (now lists)) ⌝ }
+    ensures { λ _. ⌜ now (lists .exit) ≡ cond (eqb depth 0) (set (now (lists .entry)) 1024 (shares-read (now (s .entry)) byte (now (fronts .entry)) count at)) (now (lists .entry)) ⌝ }
 {
     if depth != 0 {
         return;
     }
-    lists[1023] = read_ahead(s, byte, fronts, count, at) as usize;
+    lists[1024] = read_ahead(s, byte, fronts, count, at) as usize;
 }

@@ -68,7 +68,7 @@ fn add_two(lists: &mut [usize], count: usize, at: usize, n: usize, then: usize, 
 
 // The chunks and suffixes of the children in a table, as lists; how many.
 fn child_lists(s: &[u8], table: usize, children: usize, lists: &mut [usize]) -> usize
-    requires { ⌜ HasTable (now s) table children × (1024 ≤ length (now lists)) ⌝ }
+    requires { ⌜ HasTable (now s) table children × (1025 ≤ length (now lists)) ⌝ }
     ensures { λ r. ⌜ ChildLists (now (s .entry)) table children (now (lists .exit)) r ⌝ }
 {
     let mut count = 0;
@@ -93,7 +93,7 @@ fn child_lists(s: &[u8], table: usize, children: usize, lists: &mut [usize]) -> 
 
 // Whether the suffixes of n are the chunks and suffixes of its children.
 fn suffixes_right(s: &[u8], n: Node, lists: &mut [usize]) -> bool
-    requires { ⌜ HasParts (now s) n × (1024 ≤ length (now lists)) ⌝ }
+    requires { ⌜ HasParts (now s) n × (1025 ≤ length (now lists)) ⌝ }
     ensures { λ r. ⌜ SaysSuffixes (now (s .entry)) n r ⌝ }
 {
     let count = child_lists(s, n.table, n.children, lists);
@@ -102,7 +102,7 @@ fn suffixes_right(s: &[u8], n: Node, lists: &mut [usize]) -> bool
 
 // What the rule says of one node and the lists of its children.
 fn node_right(s: &[u8], n: Node, depth: usize, lists: &mut [usize]) -> bool
-    requires { ⌜ HasParts (now s) n × (depth ≤ 16) × (1024 ≤ length (now lists)) ⌝ }
+    requires { ⌜ HasParts (now s) n × (depth ≤ 16) × (1025 ≤ length (now lists)) ⌝ }
     ensures { λ r. ⌜ SaysNode (now (s .entry)) n depth r ⌝ }
 {
     if !is_owed(n, depth) {
@@ -177,7 +177,7 @@ fn fronts_by(
     count: usize,
     lists: &mut [usize],
 ) -> Found
-    requires { ⌜ HasFronts (now s) (now fronts) (depth * 768) count × (depth ≤ 15) × (13056 ≤ length (now fronts)) × (1024 ≤ length (now lists)) ⌝ }
+    requires { ⌜ HasFronts (now s) (now fronts) (depth * 768) count × (depth ≤ 15) × (13056 ≤ length (now fronts)) × (1025 ≤ length (now lists)) ⌝ }
     ensures { λ r. ⌜ NextFronts (now (s .entry)) byte depth (now (fronts .entry)) count (now (fronts .exit)) (r .fronts) (now (lists .exit)) (r .lists) ⌝ }
 {
     let from = depth * 768;
@@ -215,7 +215,7 @@ fn next_fronts(
     lists: &mut [usize],
     at: usize,
 ) -> Found
-    requires { ⌜ HasFronts (now s) (now fronts) (depth * 768) count × (depth ≤ 15) × (13056 ≤ length (now fronts)) × (1024 ≤ length (now lists)) ⌝ }
+    requires { ⌜ HasFronts (now s) (now fronts) (depth * 768) count × (depth ≤ 15) × (13056 ≤ length (now fronts)) × (1025 ≤ length (now lists)) ⌝ }
     ensures { λ r. ⌜ NextFronts (now (s .entry)) byte depth (now (fronts .entry)) count (now (fronts .exit)) (r .fronts) (now (lists .exit)) (r .lists) ⌝ }
 {
     ahead::look_ahead(s, byte, depth, fronts, count, at, lists);
@@ -224,7 +224,7 @@ fn next_fronts(
 
 // Whether the child in a table of one entry has neither chunk nor suffix.
 fn owes_none(s: &[u8], table: usize, lists: &mut [usize]) -> bool
-    requires { ⌜ HasTable (now s) table 1 × (1024 ≤ length (now lists)) ⌝ }
+    requires { ⌜ HasTable (now s) table 1 × (1025 ≤ length (now lists)) ⌝ }
     ensures { λ r. ⌜ SaysNone (now (s .entry)) table r ⌝ }
 {
     let count = child_lists(s, table, 1, lists);
@@ -264,7 +264,7 @@ fn no_leaf() -> Leaf
 
 // The children in two tables of one entry, of a node and of its front, if they are leaves by the same byte.
 fn leaf_right(s: &[u8], table: usize, other: usize, lists: &mut [usize]) -> Leaf
-    requires { ⌜ HasTable (now s) table 1 × HasTable (now s) other 1 × (1024 ≤ length (now lists)) ⌝ }
+    requires { ⌜ HasTable (now s) table 1 × HasTable (now s) other 1 × (1025 ≤ length (now lists)) ⌝ }
     ensures { λ r. ⌜ (r .found ≡ true → LeafSays (now (s .entry)) table other (r .right)) ⌝ }
 {
     let slot = image_walk::slot_in(s, table, 1, 0);
@@ -486,7 +486,7 @@ pub fn index_rule(s: &[u8]) -> bool
         return true;
     }
     let mut fronts = [0usize; 13056];
-    let mut lists = [0usize; 1024];
+    let mut lists = [0usize; 1025];
     let root = image_walk::node_at(s, 0);
     if !node_right(s, root, 0, &mut lists) {
         return false;

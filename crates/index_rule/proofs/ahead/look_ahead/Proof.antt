@@ -27,7 +27,7 @@ same-length : tie.Need-same-length
 same-length c = search needs
 
 returns-2 : tie.Need-returns-2
-returns-2 c = rw (eq-eqb (c .before .before .before .before .before .args .depth) 0 (c .before .if1 .left)) (ap (set (now (c .before .before .before .before .before .args .lists)) 1023) (c .read-ahead .ensures))
+returns-2 c = rw (eq-eqb (c .before .before .before .before .before .args .depth) 0 (c .before .if1 .left)) (ap (set (now (c .before .before .before .before .before .args .lists)) 1024) (c .read-ahead .ensures))
 
 pub look-ahead-spec : {M : Type 1} → statement M
 look-ahead-spec =
