@@ -23,19 +23,19 @@ use Rattle.trie.specs.Build.{trie-of}
 use Rattle.index_memory.specs.Index.{Index, opened, standing-of, read-index}
 use Rattle.index_memory.specs.Index as I
 use Rattle.index_memory.specs.Record.{open-memory, appended, record-by, record-memory, unless-refused}
-use Rattle.string_index.specs.Find.{Rows-found, rows-or-refused, find-by, find-memory}
+use Rattle.finding.specs.Find.{Rows-found, rows-or-refused, find-by, find-memory}
 use Rattle.string_index.specs.Finish.{finish-by, finish-memory}
-use Rattle.string_index.specs.Demand.{Fits}
-use Rattle.string_index.proofs.Following.{Followed, followed-start, followed-on, followed-pieces}
+use Rattle.demand.specs.Demand.{Fits}
+use Rattle.demand.proofs.Following.{Followed, followed-start, followed-on, followed-pieces}
 use Rattle.forms.specs.ReadLine.{read-line}
 use Rattle.forms.specs.Answers.{Is}
 use Rattle.forms.proofs.Lines.{read-line-is}
 use Rattle.lines.specs.Cut.{lines-of}
-use Rattle.answering.specs.Program.{after-form, line-replies, replies-bytes, program}
-use Rattle.answering.specs.Memory.{unless-number, found-replies, form-answer, memory-after-form, line-answer, memory-after-line, lines-answer}
+use Rattle.row_replies.specs.Program.{after-form, line-replies, replies-bytes, program}
+use Rattle.form_answers.specs.Memory.{unless-number, found-replies, form-answer, memory-after-form, line-answer, memory-after-line, lines-answer}
 use Rattle.answering.specs.Parts.{part, output, all-of}
 use Rattle.answering.specs.Promises.{MemoryAnswers, PartsProgram}
-use Rattle.answering.proofs.Replying.{replies-append}
+use Rattle.row_replies.proofs.PlaceReplies.{replies-append}
 use Rattle.answering.proofs.Counted.{counted-by-set}
 use Rattle.answering.proofs.Cutting.{parts-answered}
 

@@ -8,7 +8,7 @@ use lib.Seq.{sets}
 use lib.Dec.{ltb}
 use Rattle.definitions.specs.Program.{line-limit}
 use Rattle.replies.specs.Written.{Written}
-use Rattle.answering.specs.Parts.{Kept, part, too-long, keeps, State, at-start, after-bytes, used, answer-limit}
+use Rattle.answering.specs.Parts.{Kept, part, too-long, keeps, State, at-start, after-bytes, used}
 
 -- the first n bytes of a line buffer are kept; a line of over 1,024 is too long
 abbrev pub kept-in : List ℕ → ℕ → Kept
@@ -27,12 +27,6 @@ pub record KeepsBehind (line : List ℕ) (n : ℕ) (bs after : List ℕ) (r : �
   pub count : r ≡ count-with n bs
   pub buffer : after ≡ line-with line n bs
   pub keeps-them : kept-in after r ≡ keeps (kept-in line n) bs
-
--- an answer in an output from index `at` on, with the memory afterwards
-pub record AnsweredBy (out : List ℕ) (at : ℕ) (answer memory out′ memory′ : List ℕ) (r : ℕ) : Type 0 where
-  pub written : Written out at answer out′ r
-  pub short : r ≤ at + answer-limit
-  pub leaves : memory′ ≡ memory
 
 -- the code holds a state: its answers stand in front in the output, which was `out` before
 pub record HoldsState (s : State) (out memory line : List ℕ) (kept : ℕ) (out′ : List ℕ) (at : ℕ) : Type 0 where

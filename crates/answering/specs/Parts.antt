@@ -7,7 +7,8 @@ use lib.Dec.{ltb, eqb}
 use Rattle.definitions.specs.Causes.{number, no-form}
 use Rattle.definitions.specs.Program.{refused, line-limit}
 use Rattle.replies.specs.Written.{reply-bytes}
-use Rattle.answering.specs.Memory.{line-answer, memory-after-line}
+use Rattle.form_answers.specs.Memory.{line-answer, memory-after-line}
+use Rattle.form_answers.specs.Answered.{answer-limit}
 
 -- the bytes of an unfinished line, or that it is too long
 pub data Kept : Type 0 where
@@ -68,10 +69,6 @@ after-byte s b = cond (eqb b 10) (line-ended s) (still-kept s (keeps-byte (s .ke
 unfoldable pub after-bytes : State → List ℕ → State
 after-bytes s [] = s
 after-bytes s (b ∷ bs) = after-bytes (after-byte s b) bs
-
--- the longest answer: 64 places of 71 bytes, and the end of 27
-abbrev pub answer-limit : ℕ
-answer-limit = 4571
 
 -- how many bytes of a part are answered into an output with so much room: lines, as long as the longest answer has room
 unfoldable pub used : ℕ → State → List ℕ → ℕ

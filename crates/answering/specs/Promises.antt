@@ -7,8 +7,8 @@ use Rattle.definitions.specs.Calls.{needed}
 use Rattle.definitions.specs.Program.{program-capacity}
 use Rattle.lines.specs.Cut.{lines-of}
 use Rattle.index_memory.specs.Record.{open-memory}
-use Rattle.answering.specs.Program.{program}
-use Rattle.answering.specs.Memory.{lines-answer}
+use Rattle.row_replies.specs.Program.{program}
+use Rattle.form_answers.specs.Memory.{lines-answer}
 use Rattle.answering.specs.Parts.{part, output, all-of}
 
 -- input in parts, however it was cut, is answered line by line

@@ -8,7 +8,7 @@ use mathlib.Core.Option.{Option, some}
 use lib.ListN.{length}
 use Rattle.definitions.specs.Location.{Location}
 use Rattle.trie.specs.Trie.{Forest, leaf, more, Node, node-at, collect}
-use Rattle.image.specs.Savable.{Short}
+use Rattle.image_format.specs.Savable.{Short}
 use Rattle.image_walk.specs.Tables.{walk-in}
 use Rattle.image_walk.specs.Here.{NodeHere, Laid, FoundAt, RootHere}
 use Rattle.image_walk.proofs.Here.{here-walk, found-some}

@@ -6,7 +6,7 @@ use mathlib.Core.List.{List, _++_, append-nil}
 use lib.ListN.{length}
 use Rattle.definitions.specs.Location.{Location, locations-in}
 use Rattle.trie.specs.Trie.{Forest, leaf, Node, collect, collect-forest}
-use Rattle.image.specs.Held.{table-entries}
+use Rattle.image_format.specs.Held.{table-entries}
 use Rattle.image_walk.specs.declared.Node.{Node as Parts}
 use Rattle.image_walk.specs.Parts.{parts-at}
 use Rattle.image_walk.specs.Tables.{slots-from}

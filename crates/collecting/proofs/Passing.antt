@@ -7,7 +7,7 @@ use mathlib.Core.List.{List, [], _∷_, _++_, append-nil, append-assoc, Memᴰ·
 use mathlib.Core.Option.{Option, none, some}
 use Rattle.definitions.specs.Location.{Location}
 use Rattle.trie.specs.Trie.{Forest, leaf, more, Node, collect, collect-forest}
-use Rattle.image.specs.Held.{Entry}
+use Rattle.image_format.specs.Held.{Entry}
 use Rattle.image_walk.specs.Tables.{slot-in, slots-from, put}
 use Rattle.image_walk.specs.Here.{NodeHere, Matches}
 use Rattle.place_buffer.specs.declared.Places.{Places}

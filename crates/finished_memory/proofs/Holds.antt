@@ -15,10 +15,10 @@ use Rattle.words.proofs.Parts.{sets-append, le64-sets-other, lt-or-ge}
 use Rattle.definitions.specs.Calls.{Capacity, needed}
 use Rattle.trie.specs.Trie.{Trie, nodes, entries}
 use Rattle.trie.specs.Test.{index-rule}
-use Rattle.image.specs.Image.{image}
-use Rattle.image.specs.Reading.{Layout, right, refused, read-image}
-use Rattle.image.specs.Held.{trie-in}
-use Rattle.image.specs.Savable.{AllBytes, Savable}
+use Rattle.image_format.specs.Image.{image}
+use Rattle.image_format.specs.Reading.{Layout, right, refused, read-image}
+use Rattle.image_format.specs.Held.{trie-in}
+use Rattle.image_format.specs.Savable.{AllBytes, Savable}
 use Rattle.image.proofs.Sizes.{image-size}
 use Rattle.image.proofs.Theorems.{image-read, read-image-is}
 use Rattle.index_memory.specs.Layout.{Header, header-at, header-bytes, log-in}

@@ -11,7 +11,7 @@ use Rattle.words.proofs.Parts.{lt-or-ge, getD-sets-out, getD-sets}
 use Rattle.words.proofs.Holding.{holds-append, holds-get, holds-ext, holds-sets}
 use Rattle.definitions.specs.Calls.{Capacity, needed}
 use Rattle.trie.specs.Trie.{Trie}
-use Rattle.image.specs.Image.{image}
+use Rattle.image_format.specs.Image.{image}
 use Rattle.index_memory.specs.Layout.{Header, header-bytes}
 use Rattle.index_memory.proofs.HeaderBytes.{length-header}
 use Rattle.finished_memory.specs.Finished.{finished-header, finished-memory, closed}

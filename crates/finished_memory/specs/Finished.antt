@@ -5,7 +5,7 @@ use lib.ListN.{length, replicate}
 use lib.Seq.{sets}
 use Rattle.definitions.specs.Calls.{Capacity, header-size, needed}
 use Rattle.trie.specs.Trie.{Trie, nodes, entries}
-use Rattle.image.specs.Image.{image}
+use Rattle.image_format.specs.Image.{image}
 use Rattle.index_memory.specs.Layout.{Header, header-bytes}
 
 -- the tally is the nodes and the entries of the trie

@@ -6,7 +6,7 @@ use mathlib.Core.List.{List}
 use Rattle.definitions.specs.Calls.{Capacity}
 use Rattle.trie.specs.Trie.{Trie}
 use Rattle.trie.specs.Test.{index-rule}
-use Rattle.image.specs.Savable.{Savable}
+use Rattle.image_format.specs.Savable.{Savable}
 use Rattle.index_memory.specs.Layout.{header-at}
 use Rattle.index_memory.specs.Index.{finished, read-index}
 use Rattle.finished_memory.specs.Finished.{finished-header, finished-memory}

@@ -6,11 +6,11 @@ use mathlib.Core.Logic.{inr}
 use mathlib.Core.List.{List}
 use lib.ListN.{length, getD}
 use Rattle.words.specs.Holding.{Holds}
-use Rattle.sort.proofs.Bytes.{Bytes}
+use Rattle.records.proofs.Bytes.{Bytes}
 use Rattle.definitions.specs.Calls.{Capacity, needed}
 use Rattle.trie.specs.Trie.{Trie, nodes, entries}
 use Rattle.trie.specs.Build.{trie-of}
-use Rattle.image.specs.Image.{image}
+use Rattle.image_format.specs.Image.{image}
 use Rattle.tally.specs.Tallied.{finished}
 use Rattle.index_memory.specs.Layout.{Header, log-in}
 use Rattle.index_memory.specs.Answers.{header-of, with-tally}

@@ -5,9 +5,9 @@ use mathlib.Core.Path.{_≡_, refl, sym, ap, subst, _∙_}
 use mathlib.Core.Bool.{Bool, true, false, cond}
 use mathlib.Core.List.{List, [], _∷_, List·Memᴰ as Mem, List·Memᴰ·head as here, List·Memᴰ·tail as later, List·Memᴰ·not-nil as not-nil}
 use lib.ListN.{length, length-append}
-use Rattle.sort.specs.Records.{sorted, Ordered}
-use Rattle.sort.proofs.Bytes.{Bytes}
-use Rattle.sort.proofs.Lists.{sorted-ordered, length-sorted}
+use Rattle.records.specs.Records.{sorted, Ordered}
+use Rattle.records.proofs.Bytes.{Bytes}
+use Rattle.records.proofs.Lists.{sorted-ordered, length-sorted}
 use Rattle.definitions.specs.Blocks.{Piece, entries-tallied}
 use Rattle.definitions.specs.Calls.{Capacity, needed}
 use Rattle.trie.specs.Trie.{nodes}

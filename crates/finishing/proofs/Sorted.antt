@@ -8,9 +8,9 @@ use lib.ListN.{length, getD}
 use lib.Seq.{sets, length-sets}
 use Rattle.words.proofs.Laws.{Outside}
 use Rattle.words.proofs.Parts.{getD-sets-out}
-use Rattle.sort.specs.Records.{records, recordsBytes, sorted}
-use Rattle.sort.proofs.Bytes.{Bytes, length-records, length-recordAt, length-recordsBytes}
-use Rattle.sort.proofs.Lists.{sorted-mem, length-sorted}
+use Rattle.records.specs.Records.{records, recordsBytes, sorted}
+use Rattle.records.proofs.Bytes.{Bytes, length-records, length-recordAt, length-recordsBytes}
+use Rattle.records.proofs.Lists.{sorted-mem, length-sorted}
 use Rattle.trie.specs.Build.{entered-all}
 use Rattle.index_memory.specs.Layout.{log-in}
 use Rattle.tails.specs.Tails.{Tail, numbered, tail-records}

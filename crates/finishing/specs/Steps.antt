@@ -4,7 +4,7 @@ use mathlib.Core.Path.{_≡_}
 use mathlib.Core.Logic.{_⊎_}
 use mathlib.Core.List.{List}
 use lib.ListN.{length, getD}
-use Rattle.sort.specs.Records.{sorted}
+use Rattle.records.specs.Records.{sorted}
 use Rattle.trie.specs.Build.{entered-all}
 use Rattle.index_memory.specs.Layout.{log-in}
 use Rattle.tails.specs.Tails.{numbered, tail-records}

@@ -3,7 +3,9 @@ use mathlib.Core.Path.{_≡_, refl}
 use mathlib.Core.List.{[], _∷_}
 use mathlib.Core.Option.{none, some}
 use Rattle.definitions.specs.Program.{block, finish, find, text}
-use Rattle.forms.specs.ReadLine.{read-line, read-block, number, digits-from, space-ends, last-bytes, hex-bytes, pair, nibble, closing, starts}
+use Rattle.forms.specs.ReadLine.{read-line, read-block}
+use Rattle.numerals.specs.Numerals.{starts}
+use Rattle.numerals.specs.Numerals.{number, digits-from, space-ends, last-bytes, hex-bytes, pair, nibble, closing}
 
 -- the forms of document 01
 taken-lines : (read-line (text "(block 1 100 10 50 (616263))")

@@ -13,8 +13,11 @@ use Rattle.definitions.specs.Calls.{last-number}
 use Rattle.definitions.specs.Program.{Form, block, finish, find, text, decimal, hex, line, line-limit, Bytes, IsForm}
 use Rattle.definitions.proofs.Views.{Eq, eq, Lt, lt}
 use Rattle.definitions.proofs.Decimal.{dec}
-use Rattle.forms.specs.ReadLine.{Numeral, number, last-bytes, with-number, with-bytes, read-block, read-line, starts}
-use Rattle.forms.specs.Answers.{Is, bytes-of, pairs-at}
+use Rattle.forms.specs.ReadLine.{with-number, with-bytes, read-block, read-line}
+use Rattle.numerals.specs.Numerals.{starts}
+use Rattle.numerals.specs.Numerals.{Numeral, number, last-bytes}
+use Rattle.forms.specs.Answers.{Is, bytes-of}
+use Rattle.numerals.specs.NumeralAnswers.{pairs-at}
 use Rattle.forms.proofs.Numbers.{number-back, number-stands}
 use Rattle.forms.proofs.Bytes.{last-back, last-stands, length-hex, pairs-back}
 

@@ -12,8 +12,8 @@ use Rattle.definitions.specs.Calls.{last-number}
 use Rattle.definitions.specs.Program.{digits}
 use Rattle.definitions.proofs.Views.{Eq, eq, Lt, lt}
 use Rattle.definitions.proofs.Decimal.{ten, dec, digits-one, digits-last, dec-one, dec-more}
-use Rattle.forms.specs.ReadLine.{Numeral, is-digit, space-ends, digits-from, number}
-use Rattle.forms.proofs.Steps.{digit-is, digit-tells}
+use Rattle.numerals.specs.Numerals.{Numeral, is-digit, space-ends, digits-from, number}
+use Rattle.numerals.proofs.Steps.{digit-is, digit-tells}
 
 -- ── a decimal is read back ──
 

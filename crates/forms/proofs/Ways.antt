@@ -1,21 +1,22 @@
 -- What a form is answered, one law for each way out of the reader. Assumes nothing.
-use Prim.Native.Nat.{ℕ, suc, _+_, _-_, _*_, _%_, _≤_, _<_}
+use Prim.Native.Nat.{ℕ, _+_, _≤_, _<_}
 use native.Mathlib.Omega.{arith}
-use native.Mathlib.Numerals.{add-one}
 use mathlib.Core.Path.{_≡_, refl, sym, ap, _∙_}
 use mathlib.Core.Bool.{Bool, true, false}
-use mathlib.Core.List.{List, [], _∷_}
+use mathlib.Core.List.{List}
 use mathlib.Core.Option.{Option, none, some}
-use lib.ListN.{length, drop, getD, set}
-use lib.Seq.{sets, set-out}
+use lib.ListN.{length, drop}
 use borrow.Author.Tests.{lt-ltb, le-ltb, eq-eqb, ne-eqb}
 use Rattle.definitions.specs.Program as P
 use Rattle.definitions.specs.Program.{text, line-limit}
-use Rattle.forms.specs.ReadLine.{Numeral, number, pair, last-bytes, with-bytes, read-block, read-line, starts}
-use Rattle.forms.specs.Answers.{numeral-of, counted, answer-of, bytes-of, byte-count, pairs-at}
-use Rattle.forms.specs.declared.Number.{Number}
-use Rattle.forms.specs.declared.Number.the-variants as N
-use Rattle.forms.specs.declared.Count.the-variants as C
+use Rattle.forms.specs.ReadLine.{with-bytes, read-block, read-line}
+use Rattle.numerals.specs.Numerals.{starts}
+use Rattle.numerals.specs.Numerals.{Numeral, number, last-bytes}
+use Rattle.forms.specs.Answers.{answer-of, bytes-of, byte-count}
+use Rattle.numerals.specs.NumeralAnswers.{numeral-of, counted}
+use Rattle.numerals.specs.declared.Number.{Number}
+use Rattle.numerals.specs.declared.Number.the-variants as N
+use Rattle.numerals.specs.declared.Count.the-variants as C
 use Rattle.forms.specs.declared.Form.{Form}
 use Rattle.forms.specs.declared.Form.the-variants as F
 
@@ -135,34 +136,3 @@ count-of-answer none = refl
 count-of-answer (some (P.block k b)) = refl
 count-of-answer (some P.finish) = refl
 count-of-answer (some (P.find q)) = refl
-
--- what has no room is not written
-pub sets-out : (xs l : List ℕ) (i : ℕ) → length l ≤ i → sets l i xs ≡ l
-sets-out [] l i h = refl
-sets-out (x ∷ xs) l i h = rw (set-out l i x h) (sets-out xs l (suc i) (omega arith))
-
--- the loop of `decode`: what is still to be written, written, is always the same
-module _ (l b : List ℕ) (from n : ℕ) where
-  pub decode-start : sets b 0 (pairs-at l (n - 0) (from + 2 * 0)) ≡ sets b 0 (pairs-at l n from)
-  decode-start =
-      let e : n - 0 ≡ n = omega arith in
-      let f : from + 2 * 0 ≡ from = omega arith in
-      rw (e, f)
-
-  module _ (k : ℕ) where
-    pub decode-turn : k < n → (v : ℕ) → v ≡ pair (getD l (from + 2 * k) 0) (getD l (from + 2 * k + 1) 0)
-        → sets (set b k (v % 256)) (k + 1) (pairs-at l (n - (k + 1)) (from + 2 * (k + 1))) ≡ sets b k (pairs-at l (n - k) (from + 2 * k))
-    unfolding pairs-at
-    decode-turn h v e =
-        let p : n - k ≡ suc (n - (k + 1)) = omega arith in
-        let q : from + 2 * (k + 1) ≡ from + 2 * k + 2 = omega arith in
-        rw (p, q, e, add-one k)
-
-    pub decode-done : n ≤ k → b ≡ sets b k (pairs-at l (n - k) (from + 2 * k))
-    unfolding pairs-at
-    decode-done h =
-        let e : n - k ≡ 0 = omega arith in
-        rw e
-
-    pub decode-full : length b ≤ k → b ≡ sets b k (pairs-at l (n - k) (from + 2 * k))
-    decode-full h = sym (sets-out (pairs-at l (n - k) (from + 2 * k)) b k h)

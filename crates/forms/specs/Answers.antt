@@ -1,35 +1,14 @@
 -- The code's answers as what the definitions read. Assumes nothing.
-use Prim.Native.Nat.{ℕ, zero, suc, _+_, _*_, _%_, _≤_}
+use Prim.Native.Nat.{ℕ, _≤_}
 use mathlib.Core.Path.{_≡_}
-use mathlib.Core.Bool.{Bool}
-use mathlib.Core.List.{List, [], _∷_}
+use mathlib.Core.List.{List, []}
 use mathlib.Core.Option.{Option, none, some}
-use lib.ListN.{length, getD, take, drop}
+use lib.ListN.{length, take}
 use lib.Seq.{sets}
-use lib.Dec.{ltb}
-use Rattle.definitions.specs.Calls.{last-number}
 use Rattle.definitions.specs.Program as P
-use Rattle.forms.specs.ReadLine.{Numeral, pair, read-line}
-use Rattle.forms.specs.declared.Number.{Number}
-use Rattle.forms.specs.declared.Number.the-variants as N
-use Rattle.forms.specs.declared.Count.{Count}
-use Rattle.forms.specs.declared.Count.the-variants as C
+use Rattle.forms.specs.ReadLine.{read-line}
 use Rattle.forms.specs.declared.Form.{Form}
 use Rattle.forms.specs.declared.Form.the-variants as F
-
--- a number that was read, and the part of the line behind it
-abbrev pub numeral-of : List ℕ → Number → Option Numeral
-numeral-of l (N.Is x n) = some (record { value = x; rest = drop n l })
-numeral-of l N.Bad = none
-
--- a digit d behind the number x makes it too large
-abbrev pub over-last : ℕ → ℕ → Bool
-over-last x d = ltb last-number (x * 10 + d)
-
--- how many bytes were read, n of them before
-abbrev pub counted : ℕ → Option (List ℕ) → Count
-counted n none = C.Bad
-counted n (some bs) = C.Bytes (n + length bs)
 
 -- a form that was read: its numbers, and how many bytes it has
 abbrev pub answer-of : Option P.Form → Form
@@ -59,11 +38,6 @@ byte-count (F.Block kind address created destroyed n) = n
 byte-count F.Finish = 0
 byte-count (F.Find n) = n
 byte-count F.Bad = 0
-
--- the bytes of n pairs of digits from index `at` on
-unfoldable pub pairs-at : List ℕ → ℕ → ℕ → List ℕ
-pairs-at l zero at = []
-pairs-at l (suc n) at = pair (getD l at 0) (getD l (at + 1) 0) % 256 ∷ pairs-at l n (at + 2)
 
 -- what holds of a line by what was read from it: it is that form, or there is none that it is
 abbrev pub Is : List ℕ → Option P.Form → Type 0

@@ -1,78 +1,17 @@
 -- The form of a line, read from its front; none where the line is no form. Assumes nothing.
-use Prim.Native.Nat.{ℕ, _+_, _-_, _*_}
-use mathlib.Core.Bool.{Bool, true, false, cond}
-use mathlib.Core.List.{List, [], _∷_}
+use Prim.Native.Nat.{ℕ}
+use mathlib.Core.Bool.{cond}
+use mathlib.Core.List.{List}
 use mathlib.Core.Option.{Option, none, some}
 use lib.ListN.{length, drop}
-use lib.Dec.{ltb, leb, eqb}
-use Rattle.definitions.specs.Calls.{last-number}
+use lib.Dec.{ltb, eqb}
 use Rattle.definitions.specs.Program.{Form, block, finish, find, text, line-limit}
+use Rattle.numerals.specs.Numerals.{Numeral, last-bytes, number}
+use Rattle.numerals.specs.Numerals.{starts}
 
 -- ── words and numbers ──
 
--- whether a text begins with a word
-unfoldable pub starts : List ℕ → List ℕ → Bool
-starts [] l = true
-starts (w ∷ ws) [] = false
-starts (w ∷ ws) (b ∷ bs) = cond (eqb b w) (starts ws bs) false
-
--- a number, and the text behind its space
-pub record Numeral : Type 0 where
-  pub value : ℕ
-  pub rest : List ℕ
-
--- 0 to 9
-abbrev pub is-digit : ℕ → Bool
-is-digit b = cond (ltb b 48) false (leb b 57)
-
--- a space ends a number
-unfoldable pub space-ends : ℕ → List ℕ → Option Numeral
-space-ends x [] = none
-space-ends x (b ∷ bs) = cond (eqb b 32) (some (record { value = x; rest = bs })) none
-
--- the digits from here on behind those of x; a number over the last one is none
-unfoldable pub digits-from : ℕ → List ℕ → Option Numeral
-digits-from x [] = none
-digits-from x (b ∷ bs) =
-    cond (is-digit b)
-    (cond (ltb last-number (x * 10 + (b - 48))) none (digits-from (x * 10 + (b - 48)) bs))
-    (space-ends x (b ∷ bs))
-
--- a zero stands alone
-unfoldable pub number : List ℕ → Option Numeral
-number [] = none
-number (b ∷ bs) = cond (eqb b 48) (space-ends 0 bs) (cond (is-digit b) (digits-from 0 (b ∷ bs)) none)
-
 -- ── bytes ──
-
--- the value of a lower-case hexadecimal digit, 16 where it is none
-unfoldable pub nibble : ℕ → ℕ
-nibble b = cond (is-digit b) (b - 48) (cond (ltb b 97) 16 (cond (ltb 102 b) 16 (b - 87)))
-
--- the byte of two digits, 256 where one is none
-unfoldable pub pair : ℕ → ℕ → ℕ
-pair a b = cond (ltb 15 (nibble a)) 256 (cond (ltb 15 (nibble b)) 256 (nibble a * 16 + nibble b))
-
--- two parentheses end a line
-unfoldable pub closing : ℕ → ℕ → List ℕ → Option (List ℕ)
-closing a b [] = cond (eqb a 41) (cond (eqb b 41) (some []) none) none
-closing a b (c ∷ cs) = none
-
--- a byte in front of those that were read, if any were
-abbrev pub after-byte : ℕ → Option (List ℕ) → Option (List ℕ)
-after-byte v none = none
-after-byte v (some bs) = some (v ∷ bs)
-
--- pairs of digits up to the two parentheses that end the line
-unfoldable pub hex-bytes : List ℕ → Option (List ℕ)
-hex-bytes [] = none
-hex-bytes (a ∷ []) = none
-hex-bytes (a ∷ b ∷ l) = cond (ltb 255 (pair a b)) (closing a b l) (after-byte (pair a b) (hex-bytes l))
-
--- bytes in parentheses, and the form's own last one
-unfoldable pub last-bytes : List ℕ → Option (List ℕ)
-last-bytes [] = none
-last-bytes (b ∷ bs) = cond (eqb b 40) (hex-bytes bs) none
 
 -- ── forms ──
 

@@ -1,12 +1,6 @@
 -- `Theorems` has image-read and read-image-is, `Sizes` image-size, `KindRule` the rule of the table of kinds, `Recording` what is computed.
-pub mod KindRule
 -- reading, one law for each way out
-pub mod Heads
-pub mod Tables
-pub mod Nodes
 pub mod Roots
-pub mod AnswerLaws
-pub mod ThinNodes
 -- what was written is read back
 pub mod Holding
 pub mod KindThree

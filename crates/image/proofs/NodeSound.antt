@@ -16,7 +16,7 @@ use Rattle.image.proofs.EndedWell.{Open, dense, fault-apart, head-inv, 
 use Rattle.image.proofs.Holding.{head-length}
 use Rattle.image.proofs.KindOne.{bytes-one, offsets-length, size-one}
 use Rattle.image.proofs.KindOneSound.{apart-rising, lower-nil, one-inv}
-use Rattle.image.proofs.KindRule.{Fits, fits-view, one, three, two}
+use Rattle.image_format.proofs.KindRule.{Fits, fits-view, one, three, two}
 use Rattle.image.proofs.KindThree.{BytesAt, Distinct, bytes-three, size-three, table-length}
 use Rattle.image.proofs.KindThreeSound.{table-back, three-inv}
 use Rattle.image.proofs.KindTwo.{bytes-two, offs-length, size-two}
@@ -24,10 +24,10 @@ use Rattle.image.proofs.KindTwoSound.{distinct-two, limits-two, offs-ba
 use Rattle.image.proofs.ReadBack.{Limits, Up, all-read, node-length}
 use Rattle.image.proofs.Sound.{Sound, lists-back, sparse-bytes, sparse-length, sparse-small}
 use Rattle.image.proofs.TrieBack.{entries-dense, entries-sparse}
-use Rattle.image.specs.Held.{Entry, dense-entries, forest-by, list-end, lists-in, node-in, sparse-entries, table-entries}
-use Rattle.image.specs.Image.{ascending, children-bytes, children-of, lists-bytes, lists-size, node-bytes, node-size, slot-offsets, slots-bytes, table-by-arrival, table-by-byte}
-use Rattle.image.specs.Reading.{HeadRead, Step, Table, TableRead, behind, behind-head, behind-table, dense-table, done, fault, head, no-head, no-table, open-table, read-head, read-node, read-table, sparse-table, table, table-fault}
-use Rattle.image.specs.Savable.{AllBytes}
+use Rattle.image_format.specs.Held.{Entry, dense-entries, forest-by, list-end, lists-in, node-in, sparse-entries, table-entries}
+use Rattle.image_format.specs.Image.{ascending, children-bytes, children-of, lists-bytes, lists-size, node-bytes, node-size, slot-offsets, slots-bytes, table-by-arrival, table-by-byte}
+use Rattle.image_format.specs.Reading.{HeadRead, Step, Table, TableRead, behind, behind-head, behind-table, dense-table, done, fault, head, no-head, no-table, open-table, read-head, read-node, read-table, sparse-table, table, table-fault}
+use Rattle.image_format.specs.Savable.{AllBytes}
 
 module _ (s : List ℕ) (all : AllBytes s) (d : ℕ) (T : ℕ → Node)
     (snd : (x next k n e : ℕ) → done next k n e ≡ read-node s d x → Sound s d x next (T x)) where

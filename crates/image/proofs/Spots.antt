@@ -16,9 +16,9 @@ use Rattle.image.proofs.ByByte.{Bytes, One, Rising, absent-last, at-abs
 use Rattle.image.proofs.KindThree.{AllRead, Distinct, Missing, TableAt}
 use Rattle.image.proofs.KindTwo.{OffsAt}
 use Rattle.image.proofs.Slots.{at-self, past-offsets, past-size, past-slots}
-use Rattle.image.specs.Held.{Entry, dense-entries, sparse-entries}
-use Rattle.image.specs.Image.{Child, as-child, ascending, children-bytes, children-of, children-size, node-bytes, node-size, size-below, slot-bytes, slot-offsets, slot-size, slots-bytes, slots-size, with-byte}
-use Rattle.image.specs.Kinds.{fits}
+use Rattle.image_format.specs.Held.{Entry, dense-entries, sparse-entries}
+use Rattle.image_format.specs.Image.{Child, as-child, ascending, children-bytes, children-of, children-size, node-bytes, node-size, size-below, slot-bytes, slot-offsets, slot-size, slots-bytes, slots-size, with-byte}
+use Rattle.image_format.specs.Kinds.{fits}
 
 -- each entry leads to the child's bytes
 unfoldable pub Spots : List ℕ → List Entry → Forest → Type 0

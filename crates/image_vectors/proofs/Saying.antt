@@ -7,7 +7,7 @@ use mathlib.Core.List.{List}
 use lib.ListN.{length, take}
 use lib.Dec.{ltb, eqb}
 use borrow.Author.Tests.{eq-eqb, ne-eqb, lt-ltb, le-ltb}
-use Rattle.image.specs.Reading.{Layout}
+use Rattle.image_format.specs.Reading.{Layout}
 use Rattle.index_rule.specs.Check.{check-image}
 use Rattle.image_vectors.specs.Said.{said-of, said-image, same-said, again, said-after, said-parts, said-whole}
 use Rattle.image_vectors.specs.declared.Said.{Said}

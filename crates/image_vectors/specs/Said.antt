@@ -4,7 +4,7 @@ use mathlib.Core.Bool.{Bool, _&&_, cond}
 use mathlib.Core.List.{List}
 use lib.ListN.{length, take}
 use lib.Dec.{ltb, eqb}
-use Rattle.image.specs.Reading.{Layout, fault-of, nodes-in, entries-in}
+use Rattle.image_format.specs.Reading.{Layout, fault-of, nodes-in, entries-in}
 use Rattle.index_rule.specs.Check.{check-image}
 use Rattle.image_vectors.specs.declared.Said.{Said}
 

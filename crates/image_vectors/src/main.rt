@@ -1,6 +1,6 @@
 // Judges the images of data/images (made by oracle/image_vectors.py) and prints what is said of them, a line for each run of
 // like answers.
-use image::Layout;
+use fields::Layout;
 use libc::STDOUT_FILENO;
 ghost use mathlib.Core.Path.{_≡_};
 ghost use Prim.Native.Nat.{_+_, _≤_, _<_, min};

@@ -10,7 +10,7 @@ use lib.Dec.{eqb}
 use borrow.Author.Tests.{eq-eqb, ne-eqb}
 use Rattle.words.specs.Words.{le64}
 use Rattle.definitions.proofs.Views.{Eq, eq}
-use Rattle.image.specs.Held.{Entry, sparse-entries, dense-entries, table-entries, list-end}
+use Rattle.image_format.specs.Held.{Entry, sparse-entries, dense-entries, table-entries, list-end}
 use Rattle.image_walk.specs.Parts.{chunk-list, suffix-list, behind-lists, table-at, children-at}
 use Rattle.image_walk.specs.Tables.{sparse-slot, dense-slot, slot-in, put, slots-from, entries-at, node-for}
 use Rattle.image_walk.specs.Bounds.{Bounds}

@@ -25,8 +25,8 @@ use Rattle.image.proofs.ReadBack.{Limits, Up, all-read}
 use Rattle.image.proofs.Shapes.{limits-of}
 use Rattle.image.proofs.Spots.{Spots, spot-at, spots-one, spots-three, spots-two}
 use Rattle.image.proofs.TrieBack.{entries-dense, entries-sparse}
-use Rattle.image.specs.Held.{Entry, lists-in, sparse-entries, table-entries}
-use Rattle.image.specs.Image.{Child, ascending, children-bytes, children-of, children-size, lists-bytes, lists-size, node-bytes, size-below, slot-bytes, slot-offsets, slot-size, slots-bytes, slots-size, table-by-arrival, table-by-byte, with-byte}
+use Rattle.image_format.specs.Held.{Entry, lists-in, sparse-entries, table-entries}
+use Rattle.image_format.specs.Image.{Child, ascending, children-bytes, children-of, children-size, lists-bytes, lists-size, node-bytes, size-below, slot-bytes, slot-offsets, slot-size, slots-bytes, slots-size, table-by-arrival, table-by-byte, with-byte}
 use Rattle.image_walk.specs.Parts.{chunk-list, suffix-list, behind-lists, table-at, children-at}
 use Rattle.image_walk.specs.Bounds.{TableHere, Bounds}
 use Rattle.image_walk.specs.Here.{NodeHere}

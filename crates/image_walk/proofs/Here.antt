@@ -12,9 +12,9 @@ use Rattle.trie.specs.Rule.{Apart}
 use Rattle.trie.specs.Trie.{Forest, leaf, more, Lists, Node, child, node-at, walk}
 use Rattle.trie.proofs.Walk as trie
 use Rattle.image.proofs.Spots.{Spots}
-use Rattle.image.specs.Held.{Entry, lists-in, table-entries}
+use Rattle.image_format.specs.Held.{Entry, lists-in, table-entries}
 use Rattle.definitions.specs.Location.{locations-in}
-use Rattle.image.specs.Savable.{AllFit, AllKept, InBytes, Short}
+use Rattle.image_format.specs.Savable.{AllFit, AllKept, InBytes, Short}
 use Rattle.image_walk.specs.Parts.{prefix-list, chunk-list, suffix-list}
 use Rattle.image_walk.specs.Tables.{child-at, node-for, walk-from, walk-in}
 use Rattle.image_walk.specs.Bounds.{Bounds}

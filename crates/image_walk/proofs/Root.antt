@@ -8,10 +8,10 @@ use Rattle.trie.specs.Trie.{Node, Trie, empty, root}
 use Rattle.image.proofs.ReadBack.{all-read, holds-in, node-length}
 use Rattle.image.proofs.Shapes.{fitting}
 use Rattle.image.proofs.Theorems.{read-image-is}
-use Rattle.image.specs.Held.{trie-in}
-use Rattle.image.specs.Image.{children-of, image}
-use Rattle.image.specs.Reading.{read-image, right}
-use Rattle.image.specs.Savable.{AllBytes, Savable}
+use Rattle.image_format.specs.Held.{trie-in}
+use Rattle.image_format.specs.Image.{children-of, image}
+use Rattle.image_format.specs.Reading.{read-image, right}
+use Rattle.image_format.specs.Savable.{AllBytes, Savable}
 use Rattle.image_walk.specs.Here.{NodeHere, RootHere, Laid}
 
 -- a root that can be saved stands at the start of its image

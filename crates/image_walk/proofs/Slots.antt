@@ -8,7 +8,7 @@ use mathlib.Core.Option.{Option, none, some}
 use lib.Dec.{eqb}
 use Rattle.definitions.proofs.Views.{Eq, eq}
 use Rattle.trie.specs.Trie.{Forest, leaf, more, Node}
-use Rattle.image.specs.Held.{Entry, table-entries}
+use Rattle.image_format.specs.Held.{Entry, table-entries}
 use Rattle.image_walk.specs.Parts.{table-at, children-at}
 use Rattle.image_walk.specs.Tables.{put, slot-in, slots-from}
 use Rattle.image_walk.specs.Here.{NodeHere, Laid, Matches}

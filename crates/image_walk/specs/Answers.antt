@@ -1,7 +1,7 @@
 -- What the answers of the code mean. Assumes nothing.
 use Prim.Native.Nat.{ℕ}
 use mathlib.Core.Option.{Option, none, some}
-use Rattle.image.specs.Held.{Entry}
+use Rattle.image_format.specs.Held.{Entry}
 use Rattle.image_walk.specs.declared.Child.{Child}
 use Rattle.image_walk.specs.declared.Child.the-variants as child
 use Rattle.image_walk.specs.declared.Slot.{Slot}

@@ -7,9 +7,9 @@ use lib.ListN.{length}
 use Rattle.words.specs.Holding.{Holds}
 use Rattle.trie.specs.Trie.{Forest, leaf, more, Node, root}
 use Rattle.trie.specs.Rule.{Apart}
-use Rattle.image.specs.Image.{children-of, node-bytes, node-size}
-use Rattle.image.specs.Held.{Entry, trie-in}
-use Rattle.image.specs.Savable.{ListsFit, AllFit, InBytes, Short, Kept, AllKept}
+use Rattle.image_format.specs.Image.{children-of, node-bytes, node-size}
+use Rattle.image_format.specs.Held.{Entry, trie-in}
+use Rattle.image_format.specs.Savable.{ListsFit, AllFit, InBytes, Short, Kept, AllKept}
 
 -- the node n stands at index `at` of s, with at most d levels below it
 pub record NodeHere (s : List ℕ) (d at : ℕ) (n : Node) : Type 0 where

@@ -5,7 +5,7 @@ use mathlib.Core.List.{List}
 use lib.ListN.{getD, take, drop}
 use lib.Dec.{eqb}
 use Rattle.words.specs.Words.{le64}
-use Rattle.image.specs.Held.{list-end}
+use Rattle.image_format.specs.Held.{list-end}
 use Rattle.image_walk.specs.declared.Node.{Node}
 
 -- ── where the parts stand ──

@@ -6,7 +6,7 @@ use mathlib.Core.Option.{Option, none, some}
 use lib.ListN.{getD}
 use lib.Dec.{eqb}
 use Rattle.words.specs.Words.{le64}
-use Rattle.image.specs.Held.{Entry, sparse-entries, dense-entries, table-entries}
+use Rattle.image_format.specs.Held.{Entry, sparse-entries, dense-entries, table-entries}
 
 -- ── the entries of a table ──
 

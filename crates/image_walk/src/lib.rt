@@ -5,7 +5,7 @@ ghost use Prim.Native.Nat.{ℕ, _+_, _*_, _^_, _≤_, _<_};
 ghost use lib.ListN.{length, getD};
 ghost use lib.Dec.{eqb};
 ghost use Rattle.words.specs.Words.{le64};
-ghost use Rattle.image.specs.Held.{sparse-entries};
+ghost use Rattle.image_format.specs.Held.{sparse-entries};
 ghost use Rattle.image_walk.specs.Parts.{table-at, children-at, parts-at, part-in, prefixes-in, chunks-in, suffixes-in};
 ghost use Rattle.image_walk.specs.Tables.{dense-slot, slot-in, entries-at, node-for, child-at, walk-in};
 ghost use Rattle.image_walk.specs.Bounds.{TableHere};

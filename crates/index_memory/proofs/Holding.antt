@@ -11,8 +11,8 @@ use borrow.Author.Tests.{eqb-true, eq-eqb, ne-eqb}
 use Rattle.definitions.specs.Blocks.{Piece, nodes-tallied, entries-tallied}
 use Rattle.definitions.specs.Calls.{Capacity}
 use Rattle.trie.specs.Test.{index-rule}
-use Rattle.image.specs.Reading.{Layout, right, refused, read-image}
-use Rattle.image.specs.Held.{trie-in}
+use Rattle.image_format.specs.Reading.{Layout, right, refused, read-image}
+use Rattle.image_format.specs.Held.{trie-in}
 use Rattle.index_memory.specs.Layout.{Header, header-at, log-in, log-sound}
 use Rattle.index_memory.specs.Index.{broken, opened, finished, header-right, log-right, open-index, finished-index, if-right, read-index, image-part}
 use Rattle.index_memory.specs.Answers.{heading-at}

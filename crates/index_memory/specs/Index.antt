@@ -9,8 +9,8 @@ use Rattle.definitions.specs.Blocks.{Piece, nodes-tallied, entries-tallied}
 use Rattle.definitions.specs.Calls.{Capacity, Standing, header-size}
 use Rattle.trie.specs.Trie.{Trie, trie-pieces}
 use Rattle.trie.specs.Test.{index-rule}
-use Rattle.image.specs.Reading.{Layout, right, refused, read-image}
-use Rattle.image.specs.Held.{trie-in}
+use Rattle.image_format.specs.Reading.{Layout, right, refused, read-image}
+use Rattle.image_format.specs.Held.{trie-in}
 use Rattle.index_memory.specs.Layout.{Header, header-at, log-in, log-sound, header-sound}
 
 pub data Index : Type 0 where

@@ -14,9 +14,9 @@ use Rattle.trie.specs.Test.{index-rule}
 use Rattle.trie.proofs.Test.{rule-test-is}
 use Rattle.trie.proofs.Walk.{lost}
 use Rattle.image.proofs.Theorems.{read-image-is}
-use Rattle.image.specs.Held.{trie-in}
-use Rattle.image.specs.Reading.{Layout, right, refused, read-image}
-use Rattle.image.specs.Savable.{AllBytes, Shaped, Short}
+use Rattle.image_format.specs.Held.{trie-in}
+use Rattle.image_format.specs.Reading.{Layout, right, refused, read-image}
+use Rattle.image_format.specs.Savable.{AllBytes, Shaped, Short}
 use Rattle.index_rule.specs.Check.{and-rule, check-image}
 use Rattle.index_rule.specs.Promises.{IndexRuleIs, CheckImageIs}
 

@@ -7,18 +7,20 @@ use mathlib.Core.List.{List}
 use lib.ListN.{length, getD}
 use borrow.Author.Tests.{eq-eqb}
 use Rattle.trie.specs.Test.{node-right, fronts-within, forest-right, siblings, index-rule}
-use Rattle.image.specs.Held.{trie-in}
-use Rattle.image.specs.Reading.{right, refused, read-image, read-root, RightImage}
-use Rattle.image.specs.Savable.{AllBytes}
+use Rattle.image_format.specs.Held.{trie-in}
+use Rattle.image_format.specs.Reading.{right, refused, read-image, read-root, RightImage}
+use Rattle.image_format.specs.Savable.{AllBytes}
 use Rattle.image_walk.specs.Parts.{parts-at}
 use Rattle.image_walk.specs.Here.{RootHere}
-use Rattle.image_walk.specs.declared.Node.{Node as Parts}
 use Rattle.image_walk.proofs.Root.{here-root}
-use Rattle.index_rule.specs.Parts.{PartsOf, HasParts, HasTable}
-use Rattle.index_rule.specs.Says.{SaysNode, RootFronts, children-right, ChildrenAsked, ChildrenSays}
+use Rattle.node_rule.specs.Parts.{PartsOf, HasParts, HasTable}
+use Rattle.single_runs.specs.Says.{children-right, ChildrenAsked, ChildrenSays}
+use Rattle.fronts.specs.FrontRule.{RootFronts}
+use Rattle.node_rule.specs.OneNode.{SaysNode}
 use Rattle.index_rule.specs.Check.{and-rule, check-image}
-use Rattle.index_rule.proofs.Parts.{parts-of}
-use Rattle.index_rule.proofs.Owed.{and-not, and-so}
+use Rattle.node_rule.proofs.Parts.{parts-of}
+use Rattle.node_rule.proofs.Owed.{and-not, and-so}
+use Rattle.image_walk.specs.declared.Node.{Node as Parts}
 
 -- ── the first byte ──
 

@@ -8,9 +8,9 @@ use lib.ListN.{length}
 use Rattle.trie.specs.Trie.{Trie}
 use Rattle.trie.specs.Rule.{Rule}
 use Rattle.trie.specs.Test.{index-rule}
-use Rattle.image.specs.Held.{trie-in}
-use Rattle.image.specs.Reading.{right, read-image}
-use Rattle.image.specs.Savable.{AllBytes, Shaped}
+use Rattle.image_format.specs.Held.{trie-in}
+use Rattle.image_format.specs.Reading.{right, read-image}
+use Rattle.image_format.specs.Savable.{AllBytes, Shaped}
 use Rattle.index_rule.specs.Check.{check-image}
 
 -- the test that is computed is the index rule in the document's words

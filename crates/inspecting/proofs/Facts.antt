@@ -10,8 +10,8 @@ use lib.Dec.{eqb}
 use borrow.Author.Tests.{eq-eqb, ne-eqb}
 use Rattle.definitions.specs.Calls.{needed}
 use Rattle.trie.specs.Test.{index-rule}
-use Rattle.image.specs.Held.{trie-in}
-use Rattle.image.specs.Reading.{Layout, right, refused, read-image}
+use Rattle.image_format.specs.Held.{trie-in}
+use Rattle.image_format.specs.Reading.{Layout, right, refused, read-image}
 use Rattle.index_rule.specs.Check.{and-rule, check-image}
 use Rattle.index_memory.specs.Layout.{Header, header-at, log-in, payload-size}
 use Rattle.index_memory.specs.Index.{Index, broken, finished, image-part, if-right, finished-index, log-right, read-index}

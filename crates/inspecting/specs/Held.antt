@@ -5,8 +5,8 @@ use mathlib.Core.Bool.{Bool, true, cond}
 use mathlib.Core.List.{List}
 use lib.ListN.{length}
 use Rattle.definitions.specs.Calls.{header-size}
-use Rattle.image.specs.Held.{trie-in}
-use Rattle.image.specs.Reading.{right}
+use Rattle.image_format.specs.Held.{trie-in}
+use Rattle.image_format.specs.Reading.{right}
 use Rattle.index_rule.specs.Check.{check-image}
 use Rattle.index_memory.specs.Layout.{Header, header-at, log-in}
 use Rattle.index_memory.specs.Index.{Index, broken, opened, finished, image-part, finished-index, read-index}

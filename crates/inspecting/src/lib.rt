@@ -1,5 +1,5 @@
 // What a lent memory holds, tested before any call relies on it: no index, an open one, or a finished one.
-use image::Layout;
+use fields::Layout;
 use index_memory::HEADER_SIZE;
 use index_memory::Header;
 use index_memory::Heading;

@@ -11,15 +11,15 @@ use Rattle.words.specs.Holding.{Holds}
 use Rattle.words.proofs.Laws.{length-setLe64, getD-setLe64}
 use Rattle.words.proofs.Parts.{getD-sets-out, setLe64-sets, length-bytes64}
 use Rattle.words.proofs.Holding.{holds-append, holds-ext, holds-sets}
-use Rattle.sort.specs.Records.{records, recordsBytes, sorted, dropRepeats, dropAfter, Ordered}
-use Rattle.sort.proofs.Bytes.{Bytes, length-records}
-use Rattle.sort.proofs.Lists.{length-dropRepeats, sorted-fixed}
-use Rattle.sort.proofs.Compare.{is-ordered, sorted-end}
+use Rattle.records.specs.Records.{records, recordsBytes, sorted, dropRepeats, dropAfter, Ordered}
+use Rattle.records.proofs.Bytes.{Bytes, length-records}
+use Rattle.records.proofs.Lists.{length-dropRepeats, sorted-fixed}
+use Rattle.records.proofs.Compare.{is-ordered, sorted-end}
 use Rattle.sort.proofs.Finish.{sort-ready}
 use Rattle.sort.proofs.Results.{length-sorted-bytes, length-dropRepeats-bytes, records-after-sort, records-after-drop}
 use Rattle.definitions.specs.Location.{Location, normal, locations-in, locations-bytes}
 use Rattle.place_buffer.proofs.Triples.{triples, records-triples, triples-path, length-triples, normal-triples}
-use Rattle.image.specs.Image.{list-bytes}
+use Rattle.image_format.specs.Image.{list-bytes}
 use Rattle.image.proofs.BytesRead.{locs-read}
 use Rattle.tails.specs.Tails.{Tail}
 use Rattle.tails.specs.Groups.{locations-of}

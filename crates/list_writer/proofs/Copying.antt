@@ -11,8 +11,8 @@ use lib.Dec.{eqb}
 use borrow.Author.Tests.{eq-eqb, ne-eqb}
 use Rattle.words.specs.Words.{le64}
 use Rattle.words.proofs.Parts.{getD-sets-out}
-use Rattle.sort.specs.Records.{recordAt}
-use Rattle.sort.proofs.Bytes.{Bytes}
+use Rattle.records.specs.Records.{recordAt}
+use Rattle.records.proofs.Bytes.{Bytes}
 use Rattle.definitions.specs.Location.{Location, location-at, location-bytes, locations-in}
 use Rattle.definitions.proofs.Order.{location-path}
 use Rattle.location.specs.Fits.{Fits}

@@ -6,7 +6,7 @@ use mathlib.Core.List.{List}
 use lib.ListN.{length, getD}
 use Rattle.words.specs.Holding.{Holds}
 use Rattle.definitions.specs.Location.{Location, normal, locations-in}
-use Rattle.image.specs.Image.{list-bytes}
+use Rattle.image_format.specs.Image.{list-bytes}
 use Rattle.list_writer.specs.declared.End.{End}
 
 -- s′ is s with the n locations ls behind the eight bytes at an index

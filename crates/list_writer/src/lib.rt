@@ -75,7 +75,7 @@ fn close_many(mem: &mut [u8], at: usize, n: usize) -> usize
 {
     let from = at + 8;
     sort::sort(mem, from, 3, n);
-    let kept = sort::drop_repeats(mem, from, 3, n);
+    let kept = records::drop_repeats(mem, from, 3, n);
     words::put64(mem, at, kept as u64);
     kept
 }

@@ -11,7 +11,7 @@ use Rattle.words.proofs.Parts.{getD-sets-out}
 use Rattle.words.proofs.Holding.{holds-sets}
 use Rattle.trie.specs.Trie.{Trie, empty, root, nodes, entries, forest-nodes}
 use Rattle.tails.specs.Groups.{group-node}
-use Rattle.image.specs.Image.{image, children-of, node-bytes}
+use Rattle.image_format.specs.Image.{image, children-of, node-bytes}
 use Rattle.tail_records.specs.Tail.{tails-in}
 use Rattle.tail_records.proofs.Memory.{tails-none, tails-step}
 use Rattle.list_writer.specs.declared.End.{End}

@@ -10,7 +10,7 @@ use Rattle.definitions.specs.Location.{Location, normal}
 use Rattle.trie.specs.Trie.{Lists}
 use Rattle.tails.specs.Tails.{Tail}
 use Rattle.tails.specs.Groups.{locations-of, wholes}
-use Rattle.image.specs.Image.{list-bytes, lists-bytes, lists-size}
+use Rattle.image_format.specs.Image.{list-bytes, lists-bytes, lists-size}
 use Rattle.image.proofs.Holding.{list-length}
 use Rattle.tail_records.specs.Tail.{tails-in}
 use Rattle.tail_records.proofs.Memory.{tails-none, tails-ext}

@@ -18,7 +18,7 @@ use Rattle.words.proofs.Holding.{holds-ext, holds-sets}
 use Rattle.trie.specs.Trie.{Lists, leaf, more, Node, entries-of, forest-nodes}
 use Rattle.tails.specs.Tails.{Tail}
 use Rattle.tails.specs.Groups.{ends-as, run, byte-at, below, groups, group-lists, group-node}
-use Rattle.image.specs.Image.{lists-bytes, lists-size}
+use Rattle.image_format.specs.Image.{lists-bytes, lists-size}
 use Rattle.image.proofs.Holding.{head-length}
 use Rattle.tails.specs.Runs.{Run}
 use Rattle.tails.specs.Weights.{weights, group-weights}

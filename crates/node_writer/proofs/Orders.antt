@@ -12,7 +12,7 @@ use Rattle.definitions.proofs.Views.{Eq, eq}
 use Rattle.trie.specs.Trie.{Node}
 use Rattle.tails.specs.Tails.{Tail}
 use Rattle.tails.specs.Groups.{Group, arrive, by-arrival, group-forest}
-use Rattle.image.specs.Image.{Child, as-child, children-of, with-byte, ascending, size-below, children-size}
+use Rattle.image_format.specs.Image.{Child, as-child, children-of, with-byte, ascending, size-below, children-size}
 use Rattle.image.proofs.ByByte.{total}
 use Rattle.tails.proofs.Children.{by-arrival-mem}
 use Rattle.tail_records.specs.Found.{no-group}

@@ -14,7 +14,7 @@ use Rattle.trie.specs.Build.{Rising}
 use Rattle.tails.specs.Tails.{Tail}
 use Rattle.tails.specs.Groups.{Group, arrive, by-arrival, kept-groups, bytes-of}
 use Rattle.tails.proofs.Groups.{mem-bytes}
-use Rattle.image.specs.Image.{Child, as-child, children-of, nodes-in, node-bytes, node-size}
+use Rattle.image_format.specs.Image.{Child, as-child, children-of, nodes-in, node-bytes, node-size}
 use Rattle.image.proofs.ByByte.{total}
 use Rattle.image.proofs.Shapes.{count-nodes, count-entries}
 use Rattle.tails.specs.Weights.{weights, group-weights}

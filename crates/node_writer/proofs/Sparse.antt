@@ -14,7 +14,7 @@ use Rattle.words.proofs.Laws.{Outside}
 use Rattle.words.proofs.Parts.{getD-sets-out, length-bytes64}
 use Rattle.words.proofs.Holding.{holds-at, holds-left, holds-right, holds-append, holds-ext, holds-sets}
 use Rattle.definitions.proofs.Views.{lt-or-le}
-use Rattle.image.specs.Image.{Child, children-bytes, children-size, size-below, table-by-arrival, table-by-byte}
+use Rattle.image_format.specs.Image.{Child, children-bytes, children-size, size-below, table-by-arrival, table-by-byte}
 use Rattle.node_writer.specs.Kids.{no-child}
 use Rattle.node_writer.proofs.Sized.{Sized, sized-take, children-length}
 

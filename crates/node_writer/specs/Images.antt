@@ -7,7 +7,7 @@ use Rattle.words.specs.Holding.{Holds}
 use Rattle.trie.specs.Trie.{Trie, empty, root, nodes, entries}
 use Rattle.tails.specs.Tails.{Tail}
 use Rattle.tails.specs.Groups.{group-node}
-use Rattle.image.specs.Image.{image}
+use Rattle.image_format.specs.Image.{image}
 use Rattle.tails.specs.Runs.{Run}
 use Rattle.tails.specs.Weights.{weights}
 use Rattle.tail_records.specs.Tail.{tails-in, Held}

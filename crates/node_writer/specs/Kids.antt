@@ -4,7 +4,7 @@ use mathlib.Core.List.{List, [], _∷_}
 use Rattle.trie.specs.Trie.{Node}
 use Rattle.tails.specs.Tails.{Tail}
 use Rattle.tails.specs.Groups.{Group}
-use Rattle.image.specs.Image.{Child, as-child, children-of}
+use Rattle.image_format.specs.Image.{Child, as-child, children-of}
 
 -- the child that a group is
 abbrev pub kid : (List Tail → Node) → Group → Child

@@ -8,7 +8,7 @@ use mathlib.Core.List.{List, [], _∷_, _++_, List·Memᴰ as Mem, List·Memᴰ�
 use lib.ListN.{length, getD, take, drop, length-take, length-drop}
 use lib.Seq.{sets, length-sets, getD-take, getD-drop}
 use Rattle.words.proofs.Parts.{getD-sets, getD-sets-out}
-use Rattle.sort.proofs.Order.{clash}
+use Rattle.records.proofs.Order.{clash}
 use Rattle.definitions.specs.Location.{Location, normal, location-at, location-bytes, locations-in}
 use Rattle.definitions.proofs.Order.{mem-normal, normal-mem, sorted-normal}
 use Rattle.location.specs.Fits.{Fits}

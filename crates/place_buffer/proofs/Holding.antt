@@ -5,7 +5,7 @@ use mathlib.Core.Path.{_≡_, refl, sym, ap, subst, _∙_}
 use mathlib.Core.Bool.{Bool, true, false}
 use mathlib.Core.List.{List, [], _∷_, _++_, List·Memᴰ·not-nil as not-nil, Memᴰ·append-left as append-left, Memᴰ·append-right as append-right}
 use lib.ListN.{length}
-use Rattle.sort.proofs.Order.{clash}
+use Rattle.records.proofs.Order.{clash}
 use Rattle.definitions.specs.Location.{Location, normal, location-at, locations-in}
 use Rattle.place_buffer.specs.declared.Places.{Places}
 use Rattle.place_buffer.specs.Buffer.{Within, Tidied, room, held, Taken, Placed}

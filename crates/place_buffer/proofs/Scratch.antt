@@ -10,9 +10,9 @@ use lib.Seq.{sets, length-sets}
 use Rattle.words.specs.Words.{leN, le64}
 use Rattle.words.proofs.Laws.{le64-ext}
 use Rattle.words.proofs.Parts.{getD-sets-out}
-use Rattle.sort.specs.Records.{records, recordsBytes, sorted, dropRepeats}
-use Rattle.sort.proofs.Bytes.{Bytes, length-records, records-ext}
-use Rattle.sort.proofs.Lists.{length-dropRepeats}
+use Rattle.records.specs.Records.{records, recordsBytes, sorted, dropRepeats}
+use Rattle.records.proofs.Bytes.{Bytes, length-records, records-ext}
+use Rattle.records.proofs.Lists.{length-dropRepeats}
 use Rattle.sort.proofs.Results.{length-sorted-bytes, length-dropRepeats-bytes, records-after-sort, records-after-drop}
 use Rattle.definitions.specs.Location.{Location, normal, location-at, location-bytes, locations-in}
 use Rattle.definitions.proofs.Order.{location-path}

@@ -7,9 +7,9 @@ use mathlib.Core.Bool.{Bool, true, false, cond}
 use mathlib.Core.List.{List, [], _∷_, List·Memᴰ as Mem, List·Memᴰ·head as here, List·Memᴰ·tail as later, List·Memᴰ·not-nil as not-nil}
 use lib.ListN.{length, getD}
 use lib.Seq.{sets}
-use Rattle.sort.specs.Records.{recordAt, records, firstFrom, Ordered}
-use Rattle.sort.proofs.Order.{clash}
-use Rattle.sort.proofs.Lists.{ascending-ordered}
+use Rattle.records.specs.Records.{recordAt, records, firstFrom, Ordered}
+use Rattle.records.proofs.Order.{clash}
+use Rattle.records.proofs.Lists.{ascending-ordered}
 use Rattle.definitions.specs.Location.{Location, order, is-lt, Sorted, location-at, location-bytes, locations-in, Less}
 use Rattle.definitions.proofs.Order.{Cmp, cmp, less-asym}
 use Rattle.location.specs.Fits.{Fits}

@@ -5,9 +5,9 @@ use mathlib.Core.Path.{_≡_, refl, sym, ap, subst, _∙_}
 use mathlib.Core.Bool.{true}
 use mathlib.Core.List.{List, [], _∷_, List·Memᴰ as Mem, List·Memᴰ·head as here, List·Memᴰ·tail as later}
 use lib.ListN.{length}
-use Rattle.sort.specs.Records.{recordAt, records, lexLt, sorted, dropRepeats, Ascending}
-use Rattle.sort.proofs.Order.{clash, lex-less, lex-more, lex-same}
-use Rattle.sort.proofs.Lists.{sorted-mem, mem-sorted, sorted-ordered, dropRepeats-mem, mem-dropRepeats, dropRepeats-ascending, ascending-unique}
+use Rattle.records.specs.Records.{recordAt, records, lexLt, sorted, dropRepeats, Ascending}
+use Rattle.records.proofs.Order.{clash, lex-less, lex-more, lex-same}
+use Rattle.records.proofs.Lists.{sorted-mem, mem-sorted, sorted-ordered, dropRepeats-mem, mem-dropRepeats, dropRepeats-ascending, ascending-unique}
 use Rattle.definitions.specs.Location.{Location, or-else, order, is-lt, normal, Sorted, location-at, locations-in, Less}
 use Rattle.definitions.proofs.Order.{Tri, tri, Cmp, cmp, location-path, less-asym, mem-normal, normal-mem, sorted-normal}
 use Rattle.place_buffer.proofs.Sets.{less-irrefl}

@@ -27,7 +27,7 @@ pub fn tidy(scratch: &mut [u8], base: usize, count: usize) -> usize
     let at = base * 24;
     let n = count - base;
     sort::sort(scratch, at, 3, n);
-    let kept = sort::drop_repeats(scratch, at, 3, n);
+    let kept = records::drop_repeats(scratch, at, 3, n);
     base + kept
 }
 
@@ -38,7 +38,7 @@ fn places_before(scratch: &[u8], at: usize, n: usize, l: SpacetimeLocation) -> u
 {
     let mut key = [0u8; 24];
     location::put_location(&mut key, 0, l);
-    sort::first_from(scratch, at, 3, n, &key, 3)
+    records::first_from(scratch, at, 3, n, &key, 3)
 }
 
 // Whether l is one of the n ascending places from byte at on: it is, where the first that is not before it is not after it.

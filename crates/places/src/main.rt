@@ -96,6 +96,6 @@ fn main() {
     let mut mem = [0u8; answering::MEMORY_SIZE];
     let mut line = [0u8; forms::LINE_LIMIT];
     let mut out = io::large_buffer();
-    answering::open(&mut mem);
+    form_answers::open(&mut mem);
     run(&mut mem, &mut line, &mut out);
 }

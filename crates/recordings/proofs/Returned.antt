@@ -7,7 +7,7 @@ use lib.ListN.{length, getD, replicate}
 use Rattle.rows.specs.declared.Row.{Row}
 use Rattle.rows.specs.Rows.{numbers-of}
 use Rattle.string_index.specs.declared.Answer.{Answer}
-use Rattle.string_index.specs.Finish.{Found, search-memory}
+use Rattle.string_index.specs.Search.{Found, search-memory}
 use Rattle.string_index.specs.Answers.{answer-as}
 use Rattle.recordings.specs.declared.Handed.{Handed}
 use Rattle.recordings.specs.Handed.{row-in, handed}

@@ -3,7 +3,7 @@ use Prim.Native.Nat.{ℕ, _+_, _*_}
 use mathlib.Core.List.{List}
 use lib.ListN.{getD}
 use Rattle.rows.specs.declared.Row.{Row}
-use Rattle.string_index.specs.Finish.{Found}
+use Rattle.string_index.specs.Search.{Found}
 use Rattle.string_index.specs.Answers.{answer-as}
 use Rattle.recordings.specs.declared.Handed.{Handed}
 

@@ -12,7 +12,7 @@ use string_index::Saved;
 ghost use mathlib.Core.Path.{_≡_};
 ghost use Prim.Native.Nat.{_+_, _*_, _<_, _≤_};
 ghost use lib.ListN.{length, replicate};
-ghost use Rattle.string_index.specs.Finish.{search-memory};
+ghost use Rattle.string_index.specs.Search.{search-memory};
 ghost use Rattle.recordings.specs.Counting.{counting-up};
 ghost use Rattle.recordings.specs.Handed.{handed};
 
@@ -89,7 +89,7 @@ fn find(mem: &[u8], q: &[u8]) {
     let mut scratch = [0u8; 240000];
     io::write_all(STDOUT_FILENO, b"  query of");
     print_number(q.len() as u64);
-    let found = string_index::find(mem, q, &mut scratch, 20);
+    let found = finding::find(mem, q, &mut scratch, 20);
     if found.refusal != 0 {
         io::write_all(STDOUT_FILENO, b" refused");
         print_line(found.refusal);

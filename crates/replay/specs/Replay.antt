@@ -9,10 +9,10 @@ use lib.Dec.{eqb}
 use Rattle.definitions.specs.Program.{text, hex, refused, program-capacity}
 use Rattle.index_memory.specs.Record.{open-memory}
 use Rattle.saving.specs.Saving.{Saving, save-memory}
-use Rattle.forms.specs.ReadLine.{starts}
+use Rattle.numerals.specs.Numerals.{starts}
 use Rattle.lines.specs.Cut.{line-end}
 use Rattle.replies.specs.Written.{Written, reply-bytes}
-use Rattle.answering.specs.Memory.{line-answer, memory-after-line}
+use Rattle.form_answers.specs.Memory.{line-answer, memory-after-line}
 
 -- whether a line is a word
 abbrev pub is-word : List ℕ → List ℕ → Bool

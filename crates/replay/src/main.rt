@@ -64,7 +64,7 @@ fn save(mem: &[u8], out: &mut [u8]) -> usize
     let mut image = [0u8; IMAGE_SIZE];
     match string_index::save(mem, &mut image) {
         Saved::Bytes(n) => {
-            let k = answering::at_most(n, IMAGE_SIZE);
+            let k = form_answers::at_most(n, IMAGE_SIZE);
             put_image(out, &image[..k])
         }
         Saved::Refused(n) => replies::put_refused(out, 0, n),
@@ -77,13 +77,13 @@ fn replay_line(mem: &mut [u8], line: &[u8], out: &mut [u8]) -> usize
     ensures { λ r. ⌜ Replays (now (mem .entry)) (now (line .entry)) (now (out .entry)) (now (mem .exit)) (now (out .exit)) r ⌝ }
 {
     if is_word(line, b"(new)") {
-        answering::open(mem);
+        form_answers::open(mem);
         return 0;
     }
     if is_word(line, b"(save)") {
         return save(mem, out);
     }
-    answering::answer(mem, line, out, 0)
+    form_answers::answer(mem, line, out, 0)
 }
 
 // Answers the line from index p on, and writes the answer out; where the next line begins, the input's end where writing fails.
@@ -113,7 +113,7 @@ fn run(mem: &mut [u8], input: &[u8], out: &mut [u8])
 fn replay_all(input: &[u8]) {
     let mut mem = [0u8; answering::MEMORY_SIZE];
     let mut out = [0u8; OUTPUT_SIZE];
-    answering::open(&mut mem);
+    form_answers::open(&mut mem);
     run(&mut mem, input, &mut out);
 }
 

@@ -14,10 +14,10 @@ use Rattle.words.proofs.Holding.{holds-sets}
 use Rattle.definitions.specs.Causes.{number, index-rule-broken, save-buffer-too-short, first-cause}
 use Rattle.definitions.specs.Calls.{Capacity, needed, image-checks}
 use Rattle.trie.specs.Trie.{Trie, nodes, entries}
-use Rattle.image.specs.Image.{image}
-use Rattle.image.specs.Held.{trie-in}
-use Rattle.image.specs.Reading.{Layout, right, refused, fault-of, nodes-in, entries-in}
-use Rattle.image.specs.Savable.{AllBytes, Savable}
+use Rattle.image_format.specs.Image.{image}
+use Rattle.image_format.specs.Held.{trie-in}
+use Rattle.image_format.specs.Reading.{Layout, right, refused, fault-of, nodes-in, entries-in}
+use Rattle.image_format.specs.Savable.{AllBytes, Savable}
 use Rattle.image.proofs.Sizes.{image-size}
 use Rattle.image.proofs.Theorems.{read-image-is}
 use Rattle.index_rule.specs.Check.{check-image}

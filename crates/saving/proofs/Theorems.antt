@@ -14,10 +14,10 @@ use Rattle.definitions.specs.Causes.{Cause, save-buffer-too-short, too-many-nod
 use Rattle.definitions.specs.Calls.{Capacity, save-checks, load-checks}
 use Rattle.trie.specs.Trie.{Trie, nodes, entries}
 use Rattle.trie.specs.Test.{index-rule}
-use Rattle.image.specs.Image.{image}
-use Rattle.image.specs.Held.{trie-in}
-use Rattle.image.specs.Reading.{Layout, right, refused, fault-of, nodes-in, entries-in}
-use Rattle.image.specs.Savable.{Savable}
+use Rattle.image_format.specs.Image.{image}
+use Rattle.image_format.specs.Held.{trie-in}
+use Rattle.image_format.specs.Reading.{Layout, right, refused, fault-of, nodes-in, entries-in}
+use Rattle.image_format.specs.Savable.{Savable}
 use Rattle.image.proofs.Theorems.{image-read}
 use Rattle.index_rule.specs.Check.{and-rule, check-image}
 use Rattle.index_rule.proofs.Theorems.{check-image-is, index-rule-is}

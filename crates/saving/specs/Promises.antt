@@ -9,10 +9,10 @@ use lib.Seq.{sets}
 use Rattle.definitions.specs.Causes.{number, cut-short, unknown-kind, image-broken}
 use Rattle.definitions.specs.Calls.{Capacity}
 use Rattle.trie.specs.Trie.{Trie}
-use Rattle.image.specs.Image.{image}
-use Rattle.image.specs.Held.{trie-in}
-use Rattle.image.specs.Reading.{refused}
-use Rattle.image.specs.Savable.{AllBytes}
+use Rattle.image_format.specs.Image.{image}
+use Rattle.image_format.specs.Held.{trie-in}
+use Rattle.image_format.specs.Reading.{refused}
+use Rattle.image_format.specs.Savable.{AllBytes}
 use Rattle.index_rule.specs.Check.{check-image}
 use Rattle.index_memory.specs.Index.{finished, read-index}
 use Rattle.finished_memory.specs.Room.{capacity-of, Within}

@@ -6,9 +6,9 @@ use lib.ListN.{length}
 use lib.Seq.{sets}
 use Rattle.definitions.specs.Causes.{Cause, number, first-cause}
 use Rattle.definitions.specs.Calls.{save-checks, load-checks}
-use Rattle.image.specs.Image.{image}
-use Rattle.image.specs.Held.{trie-in}
-use Rattle.image.specs.Reading.{fault-of, nodes-in, entries-in}
+use Rattle.image_format.specs.Image.{image}
+use Rattle.image_format.specs.Held.{trie-in}
+use Rattle.image_format.specs.Reading.{fault-of, nodes-in, entries-in}
 use Rattle.index_rule.specs.Check.{check-image}
 use Rattle.index_memory.specs.Index.{Index, broken, opened, finished, standing-of, read-index}
 use Rattle.index_memory.specs.Record.{Done, unless-refused}

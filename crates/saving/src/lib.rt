@@ -1,12 +1,12 @@
 // Saving the image of a finished index, and loading an image in place of what a memory holds.
-use image::Layout;
-use image::Tally;
+use fields::Layout;
+use fields::Tally;
 use index_memory::HEADER_SIZE;
 use index_memory::Header;
 ghost use mathlib.Core.Path.{_≡_};
 ghost use mathlib.Core.Option.{some};
-ghost use Rattle.image.specs.Held.{trie-in};
-ghost use Rattle.image.specs.Reading.{right};
+ghost use Rattle.image_format.specs.Held.{trie-in};
+ghost use Rattle.image_format.specs.Reading.{right};
 ghost use Rattle.index_rule.specs.Check.{check-image};
 ghost use Rattle.index_memory.specs.Index.{finished, image-part, read-index};
 ghost use Rattle.index_memory.specs.Answers.{header-of};

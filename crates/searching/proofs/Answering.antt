@@ -14,13 +14,13 @@ use Rattle.definitions.specs.Causes.{number, scratch-too-small, too-many-rows, 
 use Rattle.trie.specs.Trie.{Trie, empty, root}
 use Rattle.trie.specs.Rule.{Rule}
 use Rattle.trie.specs.Find.{table-found}
-use Rattle.image.specs.Held.{trie-in}
-use Rattle.image.specs.Reading as R
-use Rattle.image.specs.Savable.{AllBytes}
+use Rattle.image_format.specs.Held.{trie-in}
+use Rattle.image_format.specs.Reading as R
+use Rattle.image_format.specs.Savable.{AllBytes}
 use Rattle.image_walk.specs.Here.{NodeHere, RootHere}
 use Rattle.image_walk.proofs.Root.{here-root}
 use Rattle.row_buffer.proofs.Standing.{rows-fit, rows-stand, rows-kept}
-use Rattle.image.specs.Reading.{RightImage}
+use Rattle.image_format.specs.Reading.{RightImage}
 use Rattle.searching.specs.declared.Finding.{Finding}
 use Rattle.searching.specs.Found.{root-of, rooted}
 use Rattle.searching.specs.Layout.{Sound, TableFound}

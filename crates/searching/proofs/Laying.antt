@@ -8,12 +8,11 @@ use mathlib.Core.List.{List, [], append-nil}
 use lib.ListN.{length, drop, getD, set, length-set, length-append}
 use lib.Seq.{getD-set-same, getD-set-other}
 use lib.Dec.{eqb}
-use Rattle.sort.proofs.Order.{clash}
+use Rattle.records.proofs.Order.{clash}
 use Rattle.definitions.specs.Location.{Location, normal}
 use Rattle.definitions.proofs.Views.{lt-or-le}
 use Rattle.definitions.specs.Places.{first-of, sizes}
 use Rattle.trie.specs.Trie.{Lists, Node}
-use Rattle.image_walk.specs.declared.Node.{Node as Parts}
 use Rattle.place_buffer.specs.declared.Places.{Places}
 use Rattle.place_buffer.specs.Buffer.{Tidied, Taken}
 use Rattle.place_buffer.specs.Holding.{Holding, Settled}
@@ -23,6 +22,7 @@ use Rattle.place_buffer.proofs.Holding.{holding-start, holding-taken, holding-o
 use Rattle.searching.specs.Found.{rooted, last-of, ending-lists, along-from, table-from}
 use Rattle.searching.specs.Layout.{lists-of, Ending, starting, Part, LaidOut, EndFound, last-size, AllFound, Tabled, TableFound}
 use Rattle.searching.proofs.Stages.{table-step, table-end, table-last, table-less}
+use Rattle.image_walk.specs.declared.Node.{Node as Parts}
 
 lt-or-same : (i j : ℕ) → i ≤ j → (i < j) ⊎ (j ≡ i)
 lt-or-same i j h = go (lt-or-le i j)

@@ -12,7 +12,7 @@ use Rattle.definitions.specs.Places.{first-of}
 use Rattle.trie.specs.Trie.{Lists, Node, node-at, lists-at, lists-or-none}
 use Rattle.trie.specs.Rule.{ListsSorted}
 use Rattle.trie.specs.Find.{joins-each, ends-found}
-use Rattle.image.specs.Held.{Entry}
+use Rattle.image_format.specs.Held.{Entry}
 use Rattle.image_walk.specs.declared.Node.{Node as Parts}
 use Rattle.image_walk.specs.Parts.{parts-at}
 use Rattle.image_walk.specs.Tables.{entries-at, node-for, child-at, child-from, walk-from, walk-in}

@@ -5,7 +5,7 @@ use mathlib.Core.List.{List, [], _∷_, _++_}
 use lib.ListN.{length, take, drop}
 use Rattle.definitions.specs.Location.{Location}
 use Rattle.trie.specs.Trie.{Lists, Node, leaf, Trie, empty, root, no-lists, lists-at, collect}
-use Rattle.image.specs.Held.{trie-in}
+use Rattle.image_format.specs.Held.{trie-in}
 use Rattle.trie.specs.Find.{along, suffixes-and-chunks, collected-at, ends-found, table-found}
 
 -- the root of an index, or a node that holds nothing

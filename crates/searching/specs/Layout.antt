@@ -8,7 +8,7 @@ use Rattle.definitions.specs.Location.{locations-in}
 use Rattle.definitions.specs.Places.{first-of, sizes}
 use Rattle.trie.specs.Trie.{Lists, Node, root, lists-at}
 use Rattle.trie.specs.Rule.{ListsSorted, NodeRule}
-use Rattle.image.specs.Held.{trie-in}
+use Rattle.image_format.specs.Held.{trie-in}
 use Rattle.image_walk.specs.declared.Node.{Node as Parts}
 use Rattle.image_walk.specs.Here.{NodeHere}
 use Rattle.place_buffer.specs.declared.Places.{Places}

@@ -1,11 +1,5 @@
-pub mod Follow
-pub mod Demand
-pub mod SavedTrie
-pub mod ReadFinished
-pub mod Theorem
-pub mod Following
 pub mod Finding
 pub mod Searched
 pub mod HandsOver
-pub mod Calling
+pub mod FinishCall
 pub mod Refused

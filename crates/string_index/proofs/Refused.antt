@@ -17,7 +17,8 @@ use Rattle.index_memory.specs.Index.{standing-of, read-index}
 use Rattle.index_memory.specs.Record.{fresh-header, open-memory, appended, record-memory}
 use Rattle.index_memory.proofs.Opening.{refused-leaves}
 use Rattle.saving.proofs.Theorems.{save-leaves, load-leaves}
-use Rattle.string_index.specs.Finish.{finished-by, finish-memory, found-or-refused, search-memory}
+use Rattle.string_index.specs.Finish.{finished-by, finish-memory}
+use Rattle.string_index.specs.Search.{found-or-refused, search-memory}
 use Rattle.string_index.specs.Promises.{RefusedLeaves}
 
 open-leaves : (m : List ℕ) (c : Capacity) → (open-memory m c .refusal ≡ 0 → ⊥) → open-memory m c .memory ≡ m

@@ -12,10 +12,11 @@ use Rattle.rows.specs.declared.Row.{Row}
 use Rattle.rows.specs.Rows.{rows-of, numbers-of}
 use Rattle.rows.proofs.Numbers.{length-numbers, numbers-put}
 use Rattle.searching.specs.declared.Finding.{Finding}
-use Rattle.string_index.specs.Find.{find-memory}
-use Rattle.string_index.specs.Finish.{Found, search-memory}
+use Rattle.finding.specs.Find.{find-memory}
+use Rattle.string_index.specs.Search.{Found, search-memory}
 use Rattle.string_index.specs.Answers.{answer-as}
-use Rattle.string_index.proofs.Finding.{Finds, found-fit, handed-over, search-is-find}
+use Rattle.string_index.proofs.Finding.{found-fit, handed-over, search-is-find}
+use Rattle.finding.proofs.FindCall.{Finds}
 
 -- the rows after a search: those at the front of bytes s over the first ones
 abbrev pub rows-after : List ℕ → ℕ → List Row → List Row

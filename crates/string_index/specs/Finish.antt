@@ -1,15 +1,9 @@
 -- Finish and search as functions on memory: the answer, and each lent slice afterwards. Assumes nothing.
-use Prim.Native.Nat.{ℕ, _/_}
+use Prim.Native.Nat.{ℕ}
 use mathlib.Core.List.{List}
-use mathlib.Core.Option.{Option, none, some}
-use lib.ListN.{length}
-use lib.Seq.{sets}
-use Rattle.definitions.specs.Location.{Location}
-use Rattle.definitions.specs.Rows.{rows}
-use Rattle.definitions.specs.Causes.{Cause, number, first-cause}
-use Rattle.definitions.specs.Calls.{finish-checks, search-checks}
+use Rattle.definitions.specs.Causes.{first-cause}
+use Rattle.definitions.specs.Calls.{finish-checks}
 use Rattle.trie.specs.Build.{trie-of}
-use Rattle.row_buffer.specs.Numbers.{row-numbers}
 use Rattle.finished_memory.specs.Finished.{finished-memory}
 use Rattle.index_memory.specs.Index.{Index, broken, opened, finished, standing-of, read-index}
 use Rattle.index_memory.specs.Record.{Done, unless-refused}
@@ -29,21 +23,3 @@ unfoldable pub finish-memory : List ℕ → Done
 finish-memory m = finish-by (read-index m) m
 
 -- ── search ──
-
--- a refusal's number (0 for none), how many rows there are, and the row buffer afterwards
-pub record Found : Type 0 where
-  pub refusal : ℕ
-  pub count : ℕ
-  pub buffer : List ℕ
-
-abbrev pub found-or-refused : Option Cause → List Location → List ℕ → Found
-found-or-refused none rs buffer = record { refusal = 0; count = length rs; buffer = sets buffer 0 (row-numbers rs) }
-found-or-refused (some c) rs buffer = record { refusal = number c; count = 0; buffer = buffer }
-
--- a place takes 24 bytes of scratch, a row three numbers of the row buffer; numbers after the last row stay
-abbrev pub search-by : Index → List ℕ → ℕ → List ℕ → Found
-search-by i q scratch buffer = found-or-refused (first-cause (search-checks (standing-of i) q (scratch / 24) (length buffer / 3))) (rows (standing-of i .pieces) q) buffer
-
--- scratch has so many bytes
-unfoldable pub search-memory : List ℕ → List ℕ → ℕ → List ℕ → Found
-search-memory m q scratch buffer = search-by (read-index m) q scratch buffer

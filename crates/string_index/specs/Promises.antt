@@ -6,7 +6,8 @@ use Rattle.definitions.specs.Blocks.{Block}
 use Rattle.definitions.specs.Calls.{Capacity}
 use Rattle.index_memory.specs.Record.{open-memory, record-memory}
 use Rattle.saving.specs.Saving.{save-memory, load-memory}
-use Rattle.string_index.specs.Finish.{finish-memory, search-memory}
+use Rattle.string_index.specs.Finish.{finish-memory}
+use Rattle.string_index.specs.Search.{search-memory}
 
 -- a call that is refused leaves the lent memory, the row buffer and the save buffer as they were
 pub record RefusedLeaves : Type 0 where

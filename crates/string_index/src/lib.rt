@@ -1,6 +1,4 @@
 // The calls of the index. Each but opening inspects the lent memory first, so none asks anything of it.
-use index_memory::HEADER_SIZE;
-use index_memory::Header;
 pub use index_memory::Opened;
 pub use index_memory::Recorded;
 pub use index_memory::open;
@@ -14,17 +12,13 @@ ghost use mathlib.Core.Path.{_≡_};
 ghost use lib.ListN.{length};
 ghost use Rattle.definitions.specs.Causes.{ScratchAfter};
 ghost use Rattle.location.specs.Plain.{plain};
-ghost use Rattle.image.specs.Held.{trie-in};
 ghost use Rattle.index_memory.specs.Record.{record-memory};
-ghost use Rattle.index_memory.specs.Index.{finished, image-part};
-ghost use Rattle.index_memory.specs.Answers.{header-of, recorded-as};
-ghost use Rattle.inspecting.specs.Held.{ImageIn};
+ghost use Rattle.index_memory.specs.Answers.{recorded-as};
 ghost use Rattle.rows.specs.Rows.{numbers-of};
 ghost use Rattle.saving.specs.Saving.{save-memory, load-memory};
 ghost use Rattle.saving.specs.Answers.{saved-as, loaded-as};
-ghost use Rattle.searching.specs.Search.{finding-of, AtFront};
-ghost use Rattle.string_index.specs.Find.{find-by, find-memory};
-ghost use Rattle.string_index.specs.Finish.{finish-memory, search-memory};
+ghost use Rattle.string_index.specs.Finish.{finish-memory};
+ghost use Rattle.string_index.specs.Search.{search-memory};
 ghost use Rattle.string_index.specs.Answers.{finished-as, answer-as};
 
 // Records a block: the bytes of one of kind Memory go into an open index.
@@ -66,32 +60,6 @@ pub enum Answer {
     Refused(u64),
 }
 
-// Finds the rows of a query in a finished index, where so many rows have room: h is the header of its memory.
-fn find_finished(mem: &[u8], h: Header, q: &[u8], scratch: &mut [u8], room: usize) -> Finding
-    requires { ⌜ ImageIn (now mem) (header-of h) ⌝ }
-    ensures found { λ r. ⌜ r ≡ finding-of (find-by (finished (header-of h .capacity) (trie-in (image-part (now (mem .entry)) (header-of h)))) (now (q .entry)) (length (now (scratch .entry))) room) ⌝ }
-    ensures rows { λ _. ⌜ AtFront (find-by (finished (header-of h .capacity) (trie-in (image-part (now (mem .entry)) (header-of h)))) (now (q .entry)) (length (now (scratch .entry))) room .rows) (now (scratch .exit)) ⌝ }
-    ensures scratch { λ _. ⌜ ScratchAfter (find-by (finished (header-of h .capacity) (trie-in (image-part (now (mem .entry)) (header-of h)))) (now (q .entry)) (length (now (scratch .entry))) room .refusal) (now (scratch .entry)) (now (scratch .exit)) ⌝ }
-{
-    if definitions::QUERY_LIMIT < q.len() {
-        return searching::no_rows(definitions::QUERY_TOO_LONG);
-    }
-    searching::search_image(&mem[HEADER_SIZE..HEADER_SIZE + h.payload], q, scratch, room)
-}
-
-// Finds the rows of a query, where so many rows have room; they stand at the front of scratch.
-pub fn find(mem: &[u8], q: &[u8], scratch: &mut [u8], room: usize) -> Finding
-    ensures found { λ r. ⌜ r ≡ finding-of (find-memory (now (mem .entry)) (now (q .entry)) (length (now (scratch .entry))) room) ⌝ }
-    ensures rows { λ _. ⌜ AtFront (find-memory (now (mem .entry)) (now (q .entry)) (length (now (scratch .entry))) room .rows) (now (scratch .exit)) ⌝ }
-    ensures scratch { λ _. ⌜ ScratchAfter (find-memory (now (mem .entry)) (now (q .entry)) (length (now (scratch .entry))) room .refusal) (now (scratch .entry)) (now (scratch .exit)) ⌝ }
-{
-    match inspecting::inspect(mem) {
-        Held::Broken => searching::no_rows(definitions::INDEX_RULE_BROKEN),
-        Held::Open(_) => searching::no_rows(definitions::BEFORE_FINISH),
-        Held::Finished(h) => find_finished(mem, h, q, scratch, room),
-    }
-}
-
 // What a search answers for what was found.
 fn answer_of(f: Finding) -> Answer
     ensures { λ r. ⌜ r ≡ answer-as (f .refusal) (f .count) ⌝ }
@@ -109,7 +77,7 @@ pub fn search(mem: &[u8], q: &[u8], scratch: &mut [u8], rows: &mut [Row]) -> Ans
     ensures rows { λ _. ⌜ numbers-of (now (rows .exit)) ≡ search-memory (now (mem .entry)) (now (q .entry)) (length (now (scratch .entry))) (numbers-of (now (rows .entry))) .buffer ⌝ }
     ensures scratch { λ _. ⌜ ScratchAfter (search-memory (now (mem .entry)) (now (q .entry)) (length (now (scratch .entry))) (numbers-of (now (rows .entry))) .refusal) (now (scratch .entry)) (now (scratch .exit)) ⌝ }
 {
-    let f = find(mem, q, scratch, rows.len());
+    let f = finding::find(mem, q, scratch, rows.len());
     rows::put_rows(rows, scratch, f.count);
     answer_of(f)
 }

@@ -11,8 +11,8 @@ use lib.Dec.{eqb}
 use borrow.Author.Tests.{eq-eqb, ne-eqb}
 use Rattle.definitions.proofs.Views.{Eq, eq}
 use Rattle.trie.specs.Build.{Entry}
-use Rattle.sort.specs.Records.{sorted}
-use Rattle.sort.proofs.Lists.{sumOf, sorted-same}
+use Rattle.records.specs.Records.{sorted}
+use Rattle.records.proofs.Lists.{sumOf, sorted-same}
 use Rattle.tails.specs.Tails.{Tail, numbered, tail-record, tail-records}
 use Rattle.tails.specs.Groups.{byte-at, Group, into-group, groups}
 use Rattle.tail_records.specs.Tail.{tails-in}

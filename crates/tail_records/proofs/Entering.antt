@@ -9,7 +9,7 @@ use lib.Seq.{sets, length-sets}
 use Rattle.words.specs.Words.{le64}
 use Rattle.words.proofs.Parts.{getD-sets-out}
 use Rattle.definitions.specs.Blocks.{Piece}
-use Rattle.sort.specs.Records.{recordBytes, recordsBytes}
+use Rattle.records.specs.Records.{recordBytes, recordsBytes}
 use Rattle.trie.specs.Build.{Entry, entered, entered-all}
 use Rattle.index_memory.specs.Layout.{piece-in, log-in}
 use Rattle.tails.specs.Tails.{tail-record}

@@ -12,7 +12,7 @@ use lib.Seq.{getD-at, getD-take, getD-drop}
 use Rattle.words.specs.Words.{bytesN, le64, bytes64}
 use Rattle.words.proofs.Laws.{top}
 use Rattle.words.proofs.Parts.{lt-or-ge, bytesN-lt, bytes64-le64}
-use Rattle.sort.proofs.Bytes.{Bytes}
+use Rattle.records.proofs.Bytes.{Bytes}
 use Rattle.tails.specs.Tails.{high}
 use Rattle.tail_records.specs.Tail.{high-bytes}
 

@@ -8,9 +8,9 @@ use mathlib.Core.List.{List, [], _∷_, _++_, List·Memᴰ as Mem, List·Memᴰ�
 use lib.ListN.{length, getD}
 use lib.Seq.{sets}
 use Rattle.words.proofs.Parts.{getD-sets-out}
-use Rattle.sort.specs.Records.{recordAt, records, recordsBytes}
-use Rattle.sort.proofs.Bytes.{length-records, recordAt-ext, records-ext, records-sets, records-append, getD-records}
-use Rattle.sort.proofs.Lists.{getD-mem}
+use Rattle.records.specs.Records.{recordAt, records, recordsBytes}
+use Rattle.records.proofs.Bytes.{length-records, recordAt-ext, records-ext, records-sets, records-append, getD-records}
+use Rattle.records.proofs.Lists.{getD-mem}
 use Rattle.tails.specs.Tails.{Tail, tail-record, tail-records}
 use Rattle.tail_records.specs.Tail.{tail-of-record, tails-of, record-in, tail-in, tails-in, ValidTail, ValidRecord, Held}
 use Rattle.tail_records.proofs.Tail.{tails-read, tails-valid, valid-fits}

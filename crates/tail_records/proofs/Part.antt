@@ -7,7 +7,7 @@ use mathlib.Core.List.{List}
 use lib.ListN.{length, getD, take, drop, length-take, length-drop, List·getD-eq-default}
 use lib.Seq.{getD-take, getD-drop, ext-getD}
 use Rattle.words.proofs.Parts.{lt-or-ge}
-use Rattle.sort.proofs.Bytes.{Bytes}
+use Rattle.records.proofs.Bytes.{Bytes}
 
 module _ (n : ℕ) (s : List ℕ) (at : ℕ) where
   pub part-in : (k : ℕ) → k < n → getD (take n (drop at s)) k 0 ≡ getD s (at + k) 0

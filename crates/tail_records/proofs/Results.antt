@@ -13,9 +13,9 @@ use Rattle.definitions.specs.Location.{Location, moved}
 use Rattle.definitions.specs.Blocks.{Piece}
 use Rattle.definitions.specs.Calls.{last-number}
 use Rattle.location.specs.Fits.{Fits}
-use Rattle.sort.specs.Records.{recordAt, records, recordsBytes, sorted}
-use Rattle.sort.proofs.Bytes.{Bytes, length-records}
-use Rattle.sort.proofs.Lists.{sorted-mem, length-sorted}
+use Rattle.records.specs.Records.{recordAt, records, recordsBytes, sorted}
+use Rattle.records.proofs.Bytes.{Bytes, length-records}
+use Rattle.records.proofs.Lists.{sorted-mem, length-sorted}
 use Rattle.trie.specs.Build.{Entry, parts, entered, entered-all}
 use Rattle.index_memory.specs.Layout.{piece-in, log-in}
 use Rattle.tails.specs.Tails.{Tail, numbered, tail-record, tail-records}

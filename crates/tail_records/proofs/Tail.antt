@@ -11,7 +11,7 @@ use lib.Dec.{eqb}
 use borrow.Author.Tests.{eq-eqb, ne-eqb}
 use Rattle.words.proofs.Laws.{top}
 use Rattle.words.proofs.Parts.{lt-or-ge}
-use Rattle.sort.proofs.Bytes.{Bytes, Fits}
+use Rattle.records.proofs.Bytes.{Bytes, Fits}
 use Rattle.tails.specs.Tails.{Tail, mark-of, tail-record, tail-records}
 use Rattle.tail_records.specs.Tail.{high-bytes, sixteen, tail-of-record, tails-of, ValidTail, ValidRecord}
 use Rattle.tail_records.proofs.High.{high-small, length-high-bytes, high-bytes-high}

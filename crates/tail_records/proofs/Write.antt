@@ -11,8 +11,8 @@ use Rattle.words.specs.Words.{le64, setLe64}
 use Rattle.words.proofs.Parts.{setLe64-sets}
 use Rattle.definitions.specs.Location.{Location, moved, location-at, location-bytes}
 use Rattle.location.proofs.Bytes.{put-numbers}
-use Rattle.sort.specs.Records.{recordBytes, recordsBytes}
-use Rattle.sort.proofs.Bytes.{recordBytes-sets, recordsBytes-sets}
+use Rattle.records.specs.Records.{recordBytes, recordsBytes}
+use Rattle.records.proofs.Bytes.{recordBytes-sets, recordsBytes-sets}
 use Rattle.trie.specs.Build.{Entry}
 use Rattle.index_memory.specs.Layout.{piece-in}
 use Rattle.tails.specs.Tails.{high, mark-of, numbered, tail-record, tail-records}

@@ -4,7 +4,7 @@ use mathlib.Core.Path.{_≡_}
 use mathlib.Core.List.{List, [], _∷_, _++_}
 use lib.ListN.{length, getD, take}
 use lib.Dec.{eqb}
-use Rattle.sort.specs.Records.{recordAt, records}
+use Rattle.records.specs.Records.{recordAt, records}
 use Rattle.location.specs.Fits.{Fits}
 use Rattle.tails.specs.Tails.{Tail, tail-record}
 

@@ -6,8 +6,8 @@ use mathlib.Core.Bool.{Bool, true, false, not, _&&_, cond}
 use mathlib.Core.List.{List, [], _∷_, _++_, List·Memᴰ·head as here, List·Memᴰ·tail as later}
 use lib.ListN.{length, getD}
 use lib.Dec.{leb, eqb}
-use Rattle.sort.specs.Records.{sorted}
-use Rattle.sort.proofs.Lists.{sumOf, sorted-same}
+use Rattle.records.specs.Records.{sorted}
+use Rattle.records.proofs.Lists.{sumOf, sorted-same}
 use Rattle.definitions.specs.Location.{Location, moved}
 use Rattle.definitions.specs.Blocks.{Piece, entry-charge, charge}
 use Rattle.definitions.proofs.Views.{Eq, eq}

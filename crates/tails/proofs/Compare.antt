@@ -9,8 +9,8 @@ use mathlib.Core.Logic.{_⊎_, inl, inr}
 use mathlib.Core.List.{List, _∷_}
 use lib.ListN.{length, getD, drop, List·getD-eq-default}
 use lib.Seq.{getD-drop, ext-getD}
-use Rattle.sort.specs.Records.{Le}
-use Rattle.sort.proofs.Order.{clash, lex-less, lex-same}
+use Rattle.records.specs.Records.{Le}
+use Rattle.records.proofs.Order.{clash, lex-less, lex-same}
 use Rattle.definitions.proofs.Order.{location-path}
 use Rattle.definitions.proofs.Views.{lt-or-le}
 use Rattle.trie.proofs.BuildPaths.{entry-path}

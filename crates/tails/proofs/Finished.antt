@@ -7,8 +7,8 @@ use mathlib.Core.Bool.{Bool, true, false, cond}
 use mathlib.Core.Logic.{_⊎_, inl, inr}
 use mathlib.Core.List.{List, [], _∷_, List·Memᴰ as Mem, List·Memᴰ·head as here, List·Memᴰ·tail as later, List·Memᴰ·cases-cons as split, List·Memᴰ·not-nil as not-nil}
 use lib.ListN.{length, drop, length-drop}
-use Rattle.sort.specs.Records.{lexLt, insert, sorted, Ordered}
-use Rattle.sort.proofs.Lists.{sorted-ordered}
+use Rattle.records.specs.Records.{lexLt, insert, sorted, Ordered}
+use Rattle.records.proofs.Lists.{sorted-ordered}
 use Rattle.definitions.specs.Location.{Location}
 use Rattle.definitions.specs.Blocks.{Piece}
 use Rattle.trie.specs.Trie.{root}

@@ -3,7 +3,7 @@ use Prim.Native.Nat.{ℕ, zero, suc, _≤_}
 use native.Mathlib.Omega.{arith}
 use mathlib.Core.Path.{_≡_, refl, sym, ap, _∙_, subst}
 use mathlib.Core.List.{List, [], _∷_, List·Memᴰ as Mem, List·Memᴰ·head as here, List·Memᴰ·tail as later}
-use Rattle.sort.specs.Records.{Ordered}
+use Rattle.records.specs.Records.{Ordered}
 use Rattle.trie.specs.Trie.{leaf, Node}
 use Rattle.trie.specs.Build.{Entry, behind, arrivals, kept-order, grow, build}
 use Rattle.tails.specs.Tails.{Tail, numbered, tail-records}

@@ -10,7 +10,7 @@ use lib.ListN.{length, getD, drop, List·getD-eq-default}
 use lib.Seq.{getD-drop}
 use Rattle.words.specs.Words.{bytesN, bytes64}
 use Rattle.words.proofs.Laws.{top}
-use Rattle.sort.proofs.Bytes.{Bytes}
+use Rattle.records.proofs.Bytes.{Bytes}
 use Rattle.definitions.proofs.Order.{mem-getD}
 use Rattle.definitions.proofs.Views.{lt-or-le}
 use Rattle.tails.specs.Tails.{high}

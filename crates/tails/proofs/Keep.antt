@@ -3,7 +3,7 @@
 use mathlib.Core.Path.{_≡_, refl, sym, ap, _∙_}
 use mathlib.Core.Bool.{Bool, true, false, not, _&&_, cond}
 use mathlib.Core.List.{List, [], _∷_, List·Memᴰ as Mem, List·Memᴰ·head as here, List·Memᴰ·tail as later}
-use Rattle.sort.proofs.Order.{clash}
+use Rattle.records.proofs.Order.{clash}
 use Rattle.tails.specs.Tails.{Tail}
 use Rattle.tails.specs.Groups.{run, after-run, wholes}
 use Rattle.tails.specs.Runs.{Pairs}

@@ -9,8 +9,8 @@ use mathlib.Core.List.{List, [], _∷_, List·Memᴰ as Mem, List·Memᴰ·head 
 use lib.ListN.{length}
 use lib.Dec.{eqb}
 use borrow.Author.Tests.{eqb-true, eqb-false, eq-eqb, not-true}
-use Rattle.sort.specs.Records.{Le, Ordered}
-use Rattle.sort.proofs.Order.{clash}
+use Rattle.records.specs.Records.{Le, Ordered}
+use Rattle.records.proofs.Order.{clash}
 use Rattle.tails.specs.Tails.{Tail, mark-of, tail-record, tail-records}
 use Rattle.tails.specs.Groups.{ends-as, run, after-run, byte-at, below}
 use Rattle.tails.specs.Runs.{Agree, SoundPath, Upto, Pairs, Run}

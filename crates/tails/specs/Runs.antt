@@ -3,7 +3,7 @@ use Prim.Native.Nat.{ℕ, _≤_, _<_}
 use mathlib.Core.Path.{_≡_}
 use mathlib.Core.List.{List, [], _∷_, List·Memᴰ as Mem}
 use lib.ListN.{length, getD}
-use Rattle.sort.specs.Records.{Le}
+use Rattle.records.specs.Records.{Le}
 use Rattle.tails.specs.Tails.{Tail, tail-record}
 
 -- the same bytes below place n

@@ -5,7 +5,7 @@ use mathlib.Core.List.{List, [], _∷_, _++_}
 use lib.ListN.{length, getD, drop}
 use Rattle.definitions.specs.Location.{Location}
 use Rattle.trie.specs.Build.{Entry}
-use Rattle.sort.specs.Records.{sorted}
+use Rattle.records.specs.Records.{sorted}
 
 -- an entry and its number in the order of arrival
 pub record Tail : Type 0 where

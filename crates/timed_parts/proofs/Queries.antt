@@ -14,10 +14,10 @@ use Rattle.definitions.specs.Causes.{number, scratch-too-small, too-many-rows, 
 use Rattle.trie.specs.Trie.{Trie}
 use Rattle.trie.specs.Find.{table-found}
 use Rattle.trie.specs.Rule.{Rule}
-use Rattle.image.specs.Held.{trie-in}
-use Rattle.image.specs.Reading.{Layout, right, RightImage}
-use Rattle.image.specs.Reading as R
-use Rattle.image.specs.Savable.{AllBytes}
+use Rattle.image_format.specs.Held.{trie-in}
+use Rattle.image_format.specs.Reading.{Layout, right, RightImage}
+use Rattle.image_format.specs.Reading as R
+use Rattle.image_format.specs.Savable.{AllBytes}
 use Rattle.index_rule.specs.Check.{check-image}
 use Rattle.index_rule.proofs.Theorems.{check-image-is}
 use Rattle.searching.specs.declared.Finding.{Finding}

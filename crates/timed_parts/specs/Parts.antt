@@ -8,8 +8,8 @@ use lib.Dec.{ltb, eqb}
 use Rattle.definitions.specs.Causes.{number, query-too-long, ScratchAfter}
 use Rattle.definitions.specs.Calls.{query-limit}
 use Rattle.trie.specs.Trie.{Trie}
-use Rattle.image.specs.Held.{trie-in}
-use Rattle.image.specs.Reading.{Layout, right, refused}
+use Rattle.image_format.specs.Held.{trie-in}
+use Rattle.image_format.specs.Reading.{Layout, right, refused}
 use Rattle.index_rule.specs.Check.{check-image}
 use Rattle.searching.specs.Search as S
 

@@ -1,13 +1,13 @@
 // Parts of the calls that the benchmark times by themselves: the layout, the test of an image, the search behind one test.
-use image::Layout;
+use fields::Layout;
 use searching::Finding;
 ghost use mathlib.Core.Path.{_≡_};
 ghost use Prim.Native.Nat.{_≤_, min};
 ghost use lib.ListN.{length};
 ghost use Rattle.trie.specs.Rule.{Rule};
-ghost use Rattle.image.specs.Answers.{layout-of};
-ghost use Rattle.image.specs.Held.{trie-in};
-ghost use Rattle.image.specs.Reading.{read-image, RightImage};
+ghost use Rattle.fields.specs.Answers.{layout-of};
+ghost use Rattle.image_format.specs.Held.{trie-in};
+ghost use Rattle.image_format.specs.Reading.{read-image, RightImage};
 ghost use Rattle.index_rule.specs.Check.{check-image};
 ghost use Rattle.definitions.specs.Causes.{ScratchAfter};
 ghost use Rattle.searching.specs.Search.{finding-of, search-answer};

@@ -1,7 +1,7 @@
 -- `answering::answer_end` meets its contract. Assumes nothing.
 use native.Mathlib.Omega.{arith}
 use denote.Ref.{now}
-use Rattle.answering.proofs.Answering.{end-none, end-line}
+use Rattle.answering.proofs.KeptLines.{end-none, end-line}
 use borrow.Author.Needs.{needs}
 use Rattle.answering.proofs.answer_end.Statement.{statement}
 use Rattle.answering.proofs.answer_end.Tie as tie

@@ -2,7 +2,7 @@
 use native.Mathlib.Omega.{arith}
 use lib.ListN.{length-take}
 use denote.Ref.{now}
-use Rattle.answering.proofs.Answering.{kept-line, kept-long}
+use Rattle.answering.proofs.KeptLines.{kept-line, kept-long}
 use borrow.Author.Needs.{needs}
 use Rattle.answering.proofs.answer_kept.Statement.{statement}
 use Rattle.answering.proofs.answer_kept.Tie as tie

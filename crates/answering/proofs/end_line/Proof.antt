@@ -1,7 +1,7 @@
 -- `answering::end_line` meets its contract. Assumes nothing.
 use native.Mathlib.Omega.{arith}
 use denote.Ref.{now}
-use Rattle.answering.proofs.Answering.{line-at-hand, kept-same}
+use Rattle.answering.proofs.KeptLines.{line-at-hand, kept-same}
 use borrow.Author.Needs.{needs}
 use Rattle.answering.proofs.end_line.Statement.{statement}
 use Rattle.answering.proofs.end_line.Tie as tie

@@ -3,7 +3,7 @@ use native.Mathlib.Omega.{arith}
 use mathlib.Core.Path.{refl, _∙_}
 use borrow.Author.Needs.{needs}
 use denote.Ref.{now}
-use Rattle.sort.proofs.Bytes.{Bytes}
+use Rattle.records.proofs.Bytes.{Bytes}
 use Rattle.index_memory.specs.Layout.{log-in}
 use Rattle.index_memory.specs.Answers.{header-of}
 use Rattle.index_memory.proofs.Holding.{open-is}

@@ -4,7 +4,7 @@ use lib.ListN.{drop}
 use denote.Ref.{now}
 use borrow.Author.Needs.{needs}
 use Rattle.forms.proofs.Ways.{number-read, number-bad, no-kind, no-address, no-creation, no-end, no-bytes, block-good}
-use Rattle.forms.specs.ReadLine.{number}
+use Rattle.numerals.specs.Numerals.{number}
 use Rattle.forms.proofs.block_form.Statement.{statement}
 use Rattle.forms.proofs.block_form.Tie as tie
 

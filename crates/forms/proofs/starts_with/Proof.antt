@@ -4,8 +4,8 @@ use Prim.Native.Nat.{_-_, _≤_}
 use mathlib.Core.Path.{_≡_, refl, _∙_}
 use lib.ListN.{length, drop}
 use denote.Ref.{now}
-use Rattle.forms.proofs.Steps.{starts-all, starts-out, starts-off, starts-on}
-use Rattle.forms.specs.ReadLine.{starts}
+use Rattle.numerals.proofs.Steps.{starts-all, starts-out, starts-off, starts-on}
+use Rattle.numerals.specs.Numerals.{starts}
 use Rattle.forms.proofs.starts_with.Statement.{statement}
 use Rattle.forms.proofs.starts_with.Tie as tie
 

@@ -1,5 +1,5 @@
 -- `helmapricot_search` keeps the contract of the call that it exports: `HandsOut`'s walk at `search`. Assumes nothing.
-use Rattle.string_index.specs.Finish.{search-memory}
+use Rattle.string_index.specs.Search.{search-memory}
 use contract.Running.{givenOf, tables, tablesOf}
 use denote.Triple.Spec.{tripleOf}
 use denote.Triple.Table.{entered, cited}

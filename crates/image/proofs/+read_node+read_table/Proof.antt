@@ -4,13 +4,13 @@ use native.Mathlib.Omega.{arith}
 use mathlib.Core.Path.{_∙_, _≡_, ap, refl, sym}
 use lib.ListN.{length}
 use borrow.Author.Needs.{needs}
-use Rattle.image.proofs.AnswerLaws.{head-refused, head-right, step-refused, step-right, step-with, table-refused, table-right}
+use Rattle.fields.proofs.AnswerLaws.{head-refused, head-right, step-refused, step-right, step-with, table-refused, table-right}
 use Rattle.image.proofs.EndedWell.{head-inv}
-use Rattle.image.proofs.Heads.{head-bound}
-use Rattle.image.proofs.Nodes.{child-by, child-sum, node-done, node-head, node-open, node-table, node-zero, run-end, run-on, run-refused, run-skip, run-start, run-to, table-sum, turn-there, turn-wrong}
-use Rattle.image.proofs.Tables.{open-within}
-use Rattle.image.specs.Answers.{table-in, turn-of}
-use Rattle.image.specs.Reading.{all-met, child, gap, none-due, open-table, read-head, read-node, read-table, read-turns, turn-at, wrong}
+use Rattle.fields.proofs.Heads.{head-bound}
+use Rattle.fields.proofs.Nodes.{child-by, child-sum, node-done, node-head, node-open, node-table, node-zero, run-end, run-on, run-refused, run-skip, run-start, run-to, table-sum, turn-there, turn-wrong}
+use Rattle.fields.proofs.Tables.{open-within}
+use Rattle.fields.specs.Answers.{table-in, turn-of}
+use Rattle.image_format.specs.Reading.{all-met, child, gap, none-due, open-table, read-head, read-node, read-table, read-turns, turn-at, wrong}
 use borrow.Fn.Kinds.{In}
 use borrow.Fn.PlainCycle.{Measures, is, falls, and}
 use Rattle.image.proofs.read_node.Reads as read-node
@@ -19,13 +19,13 @@ use Rattle.image.proofs.+read_node+read_table.Lts-read_node as read-nod
 use Rattle.image.proofs.read_table.Reads as read-table
 use Rattle.image.proofs.read_table.Kinds as read-table-kinds
 use Rattle.image.proofs.+read_node+read_table.Lts-read_table as read-table-lts
-use Rattle.image.proofs.all_met.Reads as all-met-reads
-use Rattle.image.proofs.next_turn.Reads as next-turn-reads
-use Rattle.image.proofs.open_table.Reads as open-table-reads
-use Rattle.image.proofs.read_head.Reads as read-head-reads
-use Rattle.image.proofs.refuse.Reads as refuse-reads
-use Rattle.image.proofs.thin.thin_run.Reads as thin-run-reads
-use Rattle.image.proofs.turn_at.Reads as turn-at-reads
+use Rattle.fields.proofs.all_met.Reads as all-met-reads
+use Rattle.fields.proofs.next_turn.Reads as next-turn-reads
+use Rattle.fields.proofs.open_table.Reads as open-table-reads
+use Rattle.fields.proofs.read_head.Reads as read-head-reads
+use Rattle.fields.proofs.refuse.Reads as refuse-reads
+use Rattle.fields.proofs.thin_run.Reads as thin-run-reads
+use Rattle.fields.proofs.turn_at.Reads as turn-at-reads
 use Rattle.image.proofs.+read_node+read_table.{statement}
 use Rattle.image.proofs.+read_node+read_table.Tie.{close}
 

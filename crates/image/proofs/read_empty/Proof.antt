@@ -4,9 +4,9 @@ use native.Mathlib.Omega.{arith}
 use mathlib.Core.Path.{_∙_, _≡_, ap, refl, sym}
 use lib.ListN.{length}
 use borrow.Author.Needs.{needs}
-use Rattle.image.proofs.AnswerLaws.{step-right, step-with}
+use Rattle.fields.proofs.AnswerLaws.{step-right, step-with}
 use Rattle.image.proofs.Roots.{counts-cut, counts-end, counts-on, counts-wrong}
-use Rattle.image.specs.Reading.{done, read-counts}
+use Rattle.image_format.specs.Reading.{done, read-counts}
 use Rattle.image.proofs.read_empty.Statement.{statement}
 use Rattle.image.proofs.read_empty.Tie as tie
 

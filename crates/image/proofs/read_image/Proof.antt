@@ -1,9 +1,9 @@
 -- `image::read_image` meets its contract. Assumes nothing.
 use mathlib.Core.Path.{_∙_, sym}
 use borrow.Author.Needs.{needs}
-use Rattle.image.proofs.AnswerLaws.{step-refused, step-right}
+use Rattle.fields.proofs.AnswerLaws.{step-refused, step-right}
 use Rattle.image.proofs.Roots.{image-left-over, image-refused, image-right}
-use Rattle.image.specs.Reading.{read-root}
+use Rattle.image_format.specs.Reading.{read-root}
 use Rattle.image.proofs.read_image.Statement.{statement}
 use Rattle.image.proofs.read_image.Tie as tie
 

@@ -1,8 +1,8 @@
 -- `image_vectors::judge` meets its contract. Assumes nothing.
 use mathlib.Core.Path.{sym, ap, _∙_}
 use denote.Ref.{now}
-use Rattle.image.specs.Reading.{right, refused}
-use Rattle.image.specs.Answers.{layout-of}
+use Rattle.image_format.specs.Reading.{right, refused}
+use Rattle.fields.specs.Answers.{layout-of}
 use Rattle.image_vectors.proofs.Saying.{said-read}
 use borrow.Author.Needs.{needs}
 use Rattle.image_vectors.proofs.judge.Statement.{statement}

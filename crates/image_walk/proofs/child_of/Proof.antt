@@ -2,7 +2,7 @@
 use mathlib.Core.Path.{ap, _∙_}
 use mathlib.Core.List.{List}
 use borrow.Author.Needs.{needs}
-use Rattle.image.specs.Held.{Entry}
+use Rattle.image_format.specs.Held.{Entry}
 use Rattle.image_walk.specs.Tables.{entries-at, node-for, child-at}
 use Rattle.image_walk.specs.declared.Node.{Node}
 use Rattle.image_walk.proofs.Laid.{laid-bounds}

@@ -2,7 +2,7 @@
 use Prim.Native.Nat.{ℕ, _-_, _≤_, _<_}
 use native.Mathlib.Omega.{arith}
 use mathlib.Core.Path.{_≡_, ap, _∙_}
-use Rattle.image.specs.Held.{sparse-entries}
+use Rattle.image_format.specs.Held.{sparse-entries}
 use Rattle.image_walk.specs.Tables.{node-for}
 use Rattle.image_walk.proofs.Entries.{sparse-end, sparse-met, sparse-on}
 use Rattle.image_walk.proofs.sparse_child.Statement.{statement}

@@ -2,7 +2,7 @@
 use mathlib.Core.Path.{sym, ap, _∙_}
 use borrow.Author.Needs.{needs}
 use denote.Ref.{now}
-use Rattle.image.specs.Answers.{layout-of}
+use Rattle.fields.specs.Answers.{layout-of}
 use Rattle.index_rule.proofs.Whole.{check-fails, check-holds, check-refused}
 use Rattle.index_rule.proofs.check.Statement.{statement}
 use Rattle.index_rule.proofs.check.Tie as tie

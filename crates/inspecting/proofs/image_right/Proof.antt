@@ -6,7 +6,7 @@ use lib.ListN.{take, drop}
 use borrow.Author.Tests.{eq-eqb, ne-eqb}
 use borrow.Author.Needs.{needs}
 use denote.Ref.{now}
-use Rattle.image.specs.Answers.{layout-of}
+use Rattle.fields.specs.Answers.{layout-of}
 use Rattle.index_memory.specs.Answers.{header-of}
 use Rattle.inspecting.proofs.Facts.{image-room, image-small, same-part, image-refused, image-right, other-nodes, same-nodes}
 use Rattle.inspecting.proofs.image_right.Statement.{statement}

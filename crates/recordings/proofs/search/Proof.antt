@@ -54,12 +54,11 @@ use Rattle.rows.proofs.Row as T
 use Rattle.rows.proofs.Row.Laws as T′
 use Rattle.string_index.specs.declared.Answer.{Answer}
 use Rattle.string_index.specs.Answers.{answer-as}
-use Rattle.string_index.specs.Finish.{Found, search-memory}
+use Rattle.string_index.specs.Search.{Found, search-memory}
 use Rattle.string_index.proofs.Answer as E
 use Rattle.string_index.proofs.Answer.Laws as E′
 use Rattle.string_index.proofs.search as g
 use Rattle.string_index.proofs.search.Symbol as g-def
-use Rattle.string_index.proofs.search.Symbol.{name as #string-index·search}
 use Rattle.string_index.proofs.search.Met as g-thm
 use Rattle.recordings.specs.declared.Handed.{Handed}
 use Rattle.recordings.specs.Handed.{handed}
@@ -67,10 +66,11 @@ use Rattle.recordings.proofs.Handed.Laws as S′
 use Rattle.recordings.proofs.Handed as S
 use Rattle.recordings.proofs.Returned.{before, is-handed}
 use Rattle.recordings.proofs.Arrays.{R, mach, array-out, array-room}
-use Rattle.recordings.proofs.search.Key.{name as #recordings·search}
 use Rattle.recordings.proofs.search as f
 use Rattle.recordings.proofs.search.Statement as stated
 use Rattle.recordings.proofs.search.Code as code
+use Rattle.string_index.proofs.search.Symbol.{name as #string-index·search}
+use Rattle.recordings.proofs.search.Key.{name as #recordings·search}
 
 -- the rows of the types of the answer and of the result
 abbrev ER : RattleType

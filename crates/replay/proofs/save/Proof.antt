@@ -6,7 +6,7 @@ use lib.ListN.{length-take, replicate, length-replicate}
 use denote.Ref.{now}
 use Rattle.saving.specs.Saving.{save-memory}
 use Rattle.replies.proofs.Writing.{written-same}
-use Rattle.answering.proofs.Replying.{length-refused}
+use Rattle.form_answers.proofs.Replying.{length-refused}
 use Rattle.replay.specs.Replay.{save-answer}
 use Rattle.replay.proofs.Replaying.{saved-line, refused-line}
 use borrow.Author.Needs.{needs}

@@ -2,7 +2,7 @@
 use mathlib.Core.Path.{sym, ap, _∙_}
 use borrow.Author.Needs.{needs}
 use denote.Ref.{now}
-use Rattle.image.specs.Answers.{layout-of}
+use Rattle.fields.specs.Answers.{layout-of}
 use Rattle.index_memory.specs.Answers.{header-of}
 use Rattle.index_memory.specs.Record.{Done}
 use Rattle.saving.specs.Answers.{loaded-as}

@@ -1,7 +1,7 @@
 -- `searching::find_loosely` meets its contract: what has room with more places kept than there are has room. Assumes nothing.
 use mathlib.Core.Path.{sym}
 use borrow.Author.Needs.{needs}
-use Rattle.sort.proofs.Order.{clash}
+use Rattle.records.proofs.Order.{clash}
 use Rattle.searching.proofs.Laying.{ending-most, found-loosely}
 use Rattle.searching.proofs.find_loosely.Statement.{statement}
 use Rattle.searching.proofs.find_loosely.Tie as tie

@@ -5,7 +5,7 @@ use denote.Ref.{now}
 use Rattle.index_memory.specs.Record.{Done}
 use Rattle.inspecting.specs.Held.{Inspects}
 use Rattle.string_index.specs.Answers.{finished-as}
-use Rattle.string_index.proofs.Calling.{finish-as}
+use Rattle.string_index.proofs.FinishCall.{finish-as}
 use Rattle.string_index.proofs.finish.Statement.{statement}
 use Rattle.string_index.proofs.finish.Tie as tie
 

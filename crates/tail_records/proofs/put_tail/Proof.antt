@@ -7,7 +7,7 @@ use denote.Ref.{now}
 use lib.Seq.{sets}
 use Rattle.definitions.specs.Location.{Location, moved}
 use Rattle.location.specs.Plain.{plain}
-use Rattle.sort.specs.Records.{recordBytes}
+use Rattle.records.specs.Records.{recordBytes}
 use Rattle.tail_records.proofs.Write.{tail-numbers}
 use borrow.Author.Needs.{needs}
 use Rattle.tail_records.proofs.put_tail.Statement.{statement}

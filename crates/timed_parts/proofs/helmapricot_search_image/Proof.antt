@@ -3,8 +3,8 @@ use mathlib.Core.Path.{refl, sym, ap, _∙_, subst}
 use lib.ListN.{length}
 use denote.Ref.{now}
 use borrow.Author.Needs.{needs}
-use Rattle.image.specs.Answers.{layout-of}
-use Rattle.image.specs.Reading.{Layout, right}
+use Rattle.fields.specs.Answers.{layout-of}
+use Rattle.image_format.specs.Reading.{Layout, right}
 use Rattle.index_rule.proofs.Theorems.{check-image-is}
 use Rattle.timed_parts.specs.Parts.{last-of, found-in, counted-in}
 use Rattle.timed_parts.proofs.Queries.{right-image, said-refused, said-right}

@@ -4,7 +4,7 @@ use lib.ListN.{length}
 use denote.Ref.{now}
 use Prim.Native.Nat.{ℕ, _≤_, min}
 use borrow.Author.Needs.{needs}
-use Rattle.image.specs.Held.{trie-in}
+use Rattle.image_format.specs.Held.{trie-in}
 use Rattle.timed_parts.proofs.Queries.{size-within, says-too-long, says-refused, says-found}
 use Rattle.timed_parts.proofs.search_right.Statement.{statement}
 use Rattle.timed_parts.proofs.search_right.Tie as tie

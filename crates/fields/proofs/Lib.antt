@@ -1,0 +1,5 @@
+pub mod Heads
+pub mod Tables
+pub mod Nodes
+pub mod AnswerLaws
+pub mod ThinNodes

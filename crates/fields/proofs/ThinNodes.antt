@@ -1,0 +1,119 @@
+-- Thin nodes read one as another. Assumes nothing.
+use Prim.Native.Nat.{ℕ, _+_, _*_, _-_, _≤_, _<_}
+use native.Mathlib.Omega.{arith}
+use mathlib.Core.Bool.{false, true}
+use mathlib.Core.List.{List}
+use mathlib.Core.Path.{_∙_, _≡_, ap, refl, subst, sym}
+use lib.Dec.{eqb}
+use lib.ListN.{getD, length}
+use borrow.Author.Tests.{eqb-true}
+use Rattle.words.specs.Words.{le64}
+use Rattle.fields.proofs.Heads.{head-lists, list-past, lists-ready}
+use Rattle.fields.proofs.Nodes.{child-node, end-sparse, node-done, node-table, run-end, run-on, run-refused, run-start}
+use Rattle.fields.proofs.Tables.{open-ready, slot-arrival}
+use Rattle.tables.proofs.Entries.{fault-end, fault-on}
+use Rattle.image_format.specs.Kinds.{fits}
+use Rattle.image_format.specs.Reading.{Step, Table, done, fault, head, offset, open-table, read-child, read-head, read-node, sparse-table, table}
+use Rattle.fields.specs.Thin.{Thin, ThinRun}
+
+pub not-true : {P : Type 0} → false ≡ true → P
+not-true e = let z : _≡_ {A = ℕ} 0 1 = cc in absurd (omega arith)
+
+-- with the test of the flag
+pub by-flag : (s : List ℕ) (at : ℕ) → (getD s (at + 42) 0 ≡ 1 → Thin s at) → eqb (getD s (at + 42) 0) 1 ≡ true → Thin s at
+by-flag s at f e = f (eqb-true _ _ e)
+
+fits-one : fits 3 1 ≡ true
+unfolding fits
+fits-one = refl
+
+module _ (s : List ℕ) (at : ℕ) (t : Thin s at) where
+  abbrev the-table : Table
+  the-table = sparse-table 3 (at + 25) 1
+
+  thin-head : head 3 (at + 25) 0 ≡ read-head s at
+  thin-head =
+      subst (λ (k : ℕ). head k (at + 25) 0 ≡ read-head s at) (t .kind)
+      (lists-ready s (getD s at 0) (at + 1) (at + 9) 0 (at + 17) 0 (at + 25) 0
+      (list-past s (at + 1) (at + 9) 0 (sym (t .prefixes)) (omega arith) (omega (arith, t .within)))
+      (list-past s (at + 9) (at + 17) 0 (sym (t .chunks)) (omega arith) (omega (arith, t .within)))
+      (list-past s (at + 17) (at + 25) 0 (sym (t .suffixes)) (omega arith) (omega (arith, t .within))) ∙
+      head-lists s at (omega (arith, t .within)) (omega (arith, t .kind)) (omega (arith, t .kind)))
+
+  thin-table : table the-table ≡ open-table s 3 (at + 25)
+  thin-table =
+      open-ready s 3 (at + 25) (omega arith) 1 0 (sym (t .count)) (omega (arith, t .within)) fits-one
+      (fault-end s (at + 25 + 8) 1 1 (omega arith) ∙ fault-on s (at + 25 + 8) 1 0 (omega arith) (omega arith) (omega (arith, t .within))) refl
+
+  thin-child : (rd : ℕ → Step) → rd (at + 43) ≡ read-child s rd the-table 0 (at + 42)
+  thin-child rd =
+      let e : at + 43 ≡ at + 42 + 1 = omega arith in
+      let o : at + 25 + 8 + 0 * 9 + 1 ≡ at + 34 = omega arith in
+      ap rd e ∙
+      child-node s rd the-table 0 (at + 42) (le64 s (at + 25 + 8 + 0 * 9 + 1)) (slot-arrival s the-table 0 (omega arith) refl)
+      (ap (le64 s) o ∙ t .offset) (omega (arith, t .within)) (t .flag)
+
+  module _ (left : ℕ) (h : left ≡ 0 → ⊥) where
+    pub thin-refused : (c : ℕ) → fault c ≡ read-node s (left - 1) (at + 43) → fault c ≡ read-node s left at
+    thin-refused c e =
+        let rd = read-node s (left - 1) in
+        let g : at + 42 ≡ the-table .start = omega arith in
+        node-table s left at h c 3 (at + 25) 0 the-table thin-head thin-table
+        (run-refused s rd the-table 1 0 (the-table .start) 0 0 0 c (omega arith) (subst (λ (x : ℕ). fault c ≡ read-child s rd the-table 0 x) g (e ∙ thin-child rd)) ∙
+        run-start s rd the-table)
+
+    pub thin-right : (next nodes entries : ℕ) → done next 1 nodes entries ≡ read-node s (left - 1) (at + 43) → done next 1 (nodes + 1) entries ≡ read-node s left at
+    thin-right next nodes entries e =
+        let rd = read-node s (left - 1) in
+        let g : at + 42 ≡ the-table .start = omega arith in
+        let n : 0 + nodes + 1 ≡ nodes + 1 = omega arith in
+        let m : 0 + (0 + entries) ≡ entries = omega arith in
+        subst (λ (x : ℕ). done next 1 (nodes + 1) x ≡ read-node s left at) m
+        (subst (λ (x : ℕ). done next 1 x (0 + (0 + entries)) ≡ read-node s left at) n
+        (node-done s left at h 3 (at + 25) 0 the-table next 1 (0 + nodes) (0 + entries) thin-head thin-table
+        (end-sparse the-table next (0 + 1) (0 + nodes) (0 + entries) (omega arith) ∙
+        run-end s rd the-table 1 (0 + 1) next (0 + 1) (0 + nodes) (0 + entries) (omega arith) ∙
+        run-on s rd the-table 1 0 (the-table .start) 0 0 0 next 1 nodes entries (omega arith) (subst (λ (x : ℕ). done next 1 nodes entries ≡ read-child s rd the-table 0 x) g (e ∙ thin-child rd)) ∙
+        run-start s rd the-table)))
+
+-- no thin nodes
+pub run-none : (s : List ℕ) (at left : ℕ) → at ≤ length s → ThinRun s at left 0
+run-none s at left h = record {
+  few = omega arith;
+  within = omega arith;
+  refused = λ c e. here (λ (x : Step). fault c ≡ x) e;
+  right = λ next nodes entries e. subst (λ (x : ℕ). done next 1 x entries ≡ read-node s left at) (sums nodes) (here (λ (x : Step). done next 1 nodes entries ≡ x) e);
+}
+  where
+    as-many : left - 0 ≡ left
+    as-many = omega arith
+
+    as-far : at + 43 * 0 ≡ at
+    as-far = omega arith
+
+    sums : (a : ℕ) → a ≡ a + 0
+    sums a = omega arith
+
+    here : (P : Step → Type 0) → P (read-node s (left - 0) (at + 43 * 0)) → P (read-node s left at)
+    here P e = subst (λ (x : ℕ). P (read-node s left x)) as-far (subst (λ (x : ℕ). P (read-node s x (at + 43 * 0))) as-many e)
+
+-- one thin node more
+pub run-more : (s : List ℕ) (at left k : ℕ) → ThinRun s at left k → k < left → Thin s (at + 43 * k) → ThinRun s at left (k + 1)
+run-more s at left k r l t = record {
+  few = omega arith;
+  within = omega (arith, t .within);
+  refused = λ c e. r .refused c (thin-refused s (at + 43 * k) t (left - k) (omega arith) c (there (λ (x : Step). fault c ≡ x) e));
+  right = λ next nodes entries e. subst (λ (x : ℕ). done next 1 x entries ≡ read-node s left at) (sums nodes) (r .right next (nodes + 1) entries (thin-right s (at + 43 * k) t (left - k) (omega arith) next nodes entries (there (λ (x : Step). done next 1 nodes entries ≡ x) e)));
+}
+  where
+    further : at + 43 * (k + 1) ≡ at + 43 * k + 43
+    further = omega arith
+
+    fewer : left - (k + 1) ≡ left - k - 1
+    fewer = omega arith
+
+    sums : (a : ℕ) → a + 1 + k ≡ a + (k + 1)
+    sums a = omega arith
+
+    there : (P : Step → Type 0) → P (read-node s (left - (k + 1)) (at + 43 * (k + 1))) → P (read-node s (left - k - 1) (at + 43 * k + 43))
+    there P e = subst (λ (x : ℕ). P (read-node s (left - k - 1) x)) further (subst (λ (x : ℕ). P (read-node s x (at + 43 * (k + 1)))) fewer e)

@@ -1,0 +1,58 @@
+-- `image::thin::thin_run` meets its contract. Assumes nothing.
+use Prim.Native.Nat.{_-_}
+use native.Mathlib.Omega.{arith}
+use borrow.Author.Needs.{needs}
+use borrow.Author.Tests.{not-false}
+use Rattle.fields.proofs.ThinNodes.{run-more, run-none}
+use Rattle.fields.specs.Thin.{ThinRun}
+use Rattle.fields.proofs.thin_run.Statement.{statement}
+use Rattle.fields.proofs.thin_run.Tie as tie
+
+abbrev Inv-loop : tie.InvT-loop
+Inv-loop s at most k₀ k = ThinRun s at most k
+
+abbrev μ-loop : tie.MeasureT-loop
+μ-loop s at most k₀ k = most - k
+
+loop-holds : tie.Need-loop-holds Inv-loop μ-loop
+loop-holds c = run-none _ _ _ (omega arith)
+
+mul-is-thin : tie.Need-mul-is-thin Inv-loop μ-loop
+mul-is-thin c = search needs
+
+add-is-thin : tie.Need-add-is-thin Inv-loop μ-loop
+add-is-thin c = search needs
+
+is-thin-requires : tie.Need-is-thin-requires Inv-loop μ-loop
+is-thin-requires c κs = search needs
+
+returns : tie.Need-returns Inv-loop μ-loop
+returns c = c .before .before .before .loop .inv
+
+add-k : tie.Need-add-k Inv-loop μ-loop
+add-k c = search needs
+
+loop-less : tie.Need-loop-less Inv-loop μ-loop
+loop-less c = search needs
+
+loop-again : tie.Need-loop-again Inv-loop μ-loop
+loop-again c = run-more _ _ _ _ (c .before .before .before .loop .inv) (omega arith) (c .before .is-thin .ensures (not-false _ (c .if1 .left)))
+
+returns-2 : tie.Need-returns-2 Inv-loop μ-loop
+returns-2 c = c .before .loop .inv
+
+pub thin-run-spec : {M : Type 1} → statement M
+thin-run-spec =
+    tie.close
+    (tie.spec
+    Inv-loop
+    μ-loop
+    loop-holds
+    mul-is-thin
+    add-is-thin
+    is-thin-requires
+    returns
+    add-k
+    loop-less
+    loop-again
+    returns-2)

@@ -1,0 +1,2 @@
+pub mod FindCall
+pub mod Calling

@@ -1,0 +1,64 @@
+-- `string_index::find_finished` meets its contract: the image passed the test, so what is found is that by its pieces. Assumes nothing.
+use native.Mathlib.Omega.{arith}
+use borrow.Author.Needs.{needs}
+use borrow.Author.Tests.{lt-ltb}
+use denote.Ref.{now}
+use Rattle.index_memory.specs.Answers.{header-of}
+use Rattle.finding.proofs.FindCall.{none-front, unchanged}
+use Rattle.finding.proofs.Calling.{searchable, answered-part}
+use Rattle.finding.proofs.find_finished.Statement.{statement}
+use Rattle.finding.proofs.find_finished.Tie as tie
+
+no-rows-requires : tie.Need-no-rows-requires
+no-rows-requires c κs = search needs
+
+returns : tie.Need-returns
+returns c =
+    let long = c .before .if1 .taken in
+    (rw (lt-ltb 256 _ long) (c .no-rows .ensures), (rw (lt-ltb 256 _ long) (none-front _), unchanged _ _))
+
+add-search-image : tie.Need-add-search-image
+add-search-image c = search needs
+
+sub-search-image : tie.Need-sub-search-image
+sub-search-image c = search needs
+
+part-search-image-start : tie.Need-part-search-image-start
+part-search-image-start c = search needs
+
+part-search-image-end : tie.Need-part-search-image-end
+part-search-image-end c = search needs
+
+search-image-requires : tie.Need-search-image-requires
+search-image-requires c κs =
+    let test = c .before .before .before in
+    let known = test .before .before .before in
+    let start = known .before in
+    let a = start .args in
+    let w = searchable (now (a .mem)) (header-of (a .h)) (λ j. omega (arith, known .shared-slice-known .given j)) (omega arith) (start .pre) in
+    (w .0, w .1, omega (arith, test .if1 .left))
+
+same-length : tie.Need-same-length
+same-length c = search needs
+
+returns-2 : tie.Need-returns-2
+returns-2 c =
+    let test = c .before .before .before .before .before .before in
+    let known = test .before .before .before in
+    let start = known .before in
+    let a = start .args in
+    answered-part (now (a .mem)) (header-of (a .h)) (λ j. omega (arith, known .shared-slice-known .given j)) (omega arith) (start .pre) (now (a .q)) (now (a .scratch)) _ _ (omega (arith, test .if1 .left)) (search needs) (c .before .before .search-image .ensures)
+
+pub find-finished-spec : {M : Type 1} → statement M
+find-finished-spec =
+    tie.close
+    (tie.spec
+    no-rows-requires
+    returns
+    add-search-image
+    sub-search-image
+    part-search-image-start
+    part-search-image-end
+    search-image-requires
+    same-length
+    returns-2)

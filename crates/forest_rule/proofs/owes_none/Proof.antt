@@ -1,0 +1,20 @@
+-- `index_rule::owes_none` meets its contract. Assumes nothing.
+use Rattle.single_runs.proofs.RunLaws.{none-say}
+use borrow.Author.Needs.{needs}
+use Rattle.forest_rule.proofs.owes_none.Statement.{statement}
+use Rattle.forest_rule.proofs.owes_none.Tie as tie
+
+child-lists-requires : tie.Need-child-lists-requires
+child-lists-requires c κs = search needs
+
+is-union-requires : tie.Need-is-union-requires
+is-union-requires c κs = search needs
+
+same-length : tie.Need-same-length
+same-length c = search needs
+
+returns : tie.Need-returns
+returns c = let f = c .before .before .before .before .before .before .child-lists in let g = c .before .before .is-union in none-say _ _ _ _ _ (f .ensures) (g .ensures .0)
+
+pub owes-none-spec : {M : Type 1} → statement M
+owes-none-spec = tie.close (tie.spec child-lists-requires is-union-requires same-length returns)

@@ -1,0 +1,249 @@
+// The index rule at all nodes below the root: each child with its fronts, runs of nodes with one child at once.
+use image_walk::Slot;
+ghost use mathlib.Core.Path.{_≡_};
+ghost use mathlib.Core.Bool.{true, false};
+ghost use Prim.Native.Nat.{_+_, _*_, _≤_, _<_};
+ghost use lib.ListN.{length};
+ghost use Rattle.node_rule.specs.Parts.{HasTable};
+ghost use Rattle.single_runs.specs.Says.{ChildAsked, ChildSays, ChildrenAsked, ChildrenSays};
+ghost use Rattle.single_runs.specs.Runs.{LeafSays, LoneSays, SaysNone};
+ghost use Rattle.single_runs.specs.Singles.{SinglesSay};
+
+// Whether the child in a table of one entry has neither chunk nor suffix.
+fn owes_none(s: &[u8], table: usize, lists: &mut [usize]) -> bool
+    requires { ⌜ HasTable (now s) table 1 × (1025 ≤ length (now lists)) ⌝ }
+    ensures { λ r. ⌜ SaysNone (now (s .entry)) table r ⌝ }
+{
+    let count = node_rule::child_lists(s, table, 1, lists);
+    location_lists::is_union(s, 0, 0, 0, lists, count)
+}
+
+// Whether a leaf is right, if found is true.
+struct Leaf {
+    pub found: bool,
+    pub right: bool,
+}
+
+fn no_leaf() -> Leaf
+    ensures { λ r. ⌜ (r .found ≡ false) × (r .right ≡ false) ⌝ }
+{
+    Leaf {
+        found: false,
+        right: false,
+    }
+}
+
+// The children in two tables of one entry, of a node and of its front, if they are leaves by the same byte.
+fn leaf_right(s: &[u8], table: usize, other: usize, lists: &mut [usize]) -> Leaf
+    requires { ⌜ HasTable (now s) table 1 × HasTable (now s) other 1 × (1025 ≤ length (now lists)) ⌝ }
+    ensures { λ r. ⌜ (r .found ≡ true → LeafSays (now (s .entry)) table other (r .right)) ⌝ }
+{
+    let slot = image_walk::slot_in(s, table, 1, 0);
+    let Slot::Taken { byte, at } = slot else {
+        return no_leaf();
+    };
+    let front = image_walk::slot_in(s, other, 1, 0);
+    let Slot::Taken { byte: b, at: to } = front else {
+        return no_leaf();
+    };
+    if byte != b {
+        return no_leaf();
+    }
+    let c = image_walk::node_at(s, at);
+    if !single_runs::is_leaf(c) {
+        return no_leaf();
+    }
+    let f = image_walk::node_at(s, to);
+    if f.children != 0 {
+        return no_leaf();
+    }
+    let n = fronts::add_front(lists, 0, f);
+    Leaf {
+        found: true,
+        right: location_lists::is_union(s, c.prefixes, c.prefix_count, 1, lists, n),
+    }
+}
+
+// Where the run below a node ends, and whether its last node is right; or all below it, if the run ended at leaves.
+struct Lone {
+    pub levels: usize,
+    pub table: usize,
+    pub right: bool,
+    pub ended: bool,
+}
+
+fn no_run(table: usize) -> Lone
+    ensures { λ r. ⌜ (r .levels ≡ 0) × (r .table ≡ table) × (r .right ≡ true) × (r .ended ≡ false) ⌝ }
+{
+    Lone {
+        levels: 0,
+        table,
+        right: true,
+        ended: false,
+    }
+}
+
+// A run that ended at leaves.
+fn leaf_run(table: usize, right: bool) -> Lone
+    ensures { λ r. ⌜ (r .levels ≡ 0) × (r .table ≡ table) × (r .right ≡ right) × (r .ended ≡ true) ⌝ }
+{
+    Lone {
+        levels: 0,
+        table,
+        right,
+        ended: true,
+    }
+}
+
+// The run below a node that has no front.
+fn run_without_front(s: &[u8], table: usize, children: usize, left: usize) -> Lone
+    requires { ⌜ HasTable (now s) table children ⌝ }
+    ensures { λ r. ⌜ SinglesSay (now (s .entry)) table children left (r .levels) (r .table) (r .right) (r .ended) ⌝ }
+{
+    if children != 1 {
+        return no_run(table);
+    }
+    let run = single_runs::single_run(s, table, left);
+    Lone {
+        levels: run.levels,
+        table: run.table,
+        right: true,
+        ended: false,
+    }
+}
+
+// The run below a node at depth that has fronts; its last front is put on the stack.
+fn run_with_front(
+    s: &[u8],
+    table: usize,
+    children: usize,
+    depth: usize,
+    fronts: &mut [usize],
+    count: usize,
+    lists: &mut [usize],
+    left: usize,
+) -> Lone
+    requires { ⌜ ChildrenAsked (now s) table children depth (now fronts) count (now lists) left ⌝ }
+    ensures { λ r. ⌜ LoneSays (now (s .entry)) table children depth (now (fronts .entry)) count left (now (fronts .exit)) (r .levels) (r .table) (r .right) (r .ended) ⌝ }
+{
+    if count != 1 {
+        return no_run(table);
+    }
+    if children != 1 {
+        return no_run(table);
+    }
+    let from = depth * 768;
+    if fronts[from + 1] != 1 {
+        return no_run(table);
+    }
+    let run = single_runs::common_run(s, table, fronts[from], left);
+    let leaf = leaf_right(s, run.table, run.other, lists);
+    if leaf.found {
+        return leaf_run(table, leaf.right);
+    }
+    if run.levels == 0 {
+        return no_run(table);
+    }
+    fronts::put_front(fronts, (depth + run.levels) * 768, run.other, 1, 0);
+    Lone {
+        levels: run.levels,
+        table: run.table,
+        right: owes_none(s, run.table, lists),
+        ended: false,
+    }
+}
+
+// The run below a node at depth, if there is one.
+fn lone_run(
+    s: &[u8],
+    table: usize,
+    children: usize,
+    depth: usize,
+    fronts: &mut [usize],
+    count: usize,
+    lists: &mut [usize],
+    left: usize,
+) -> Lone
+    requires { ⌜ ChildrenAsked (now s) table children depth (now fronts) count (now lists) left ⌝ }
+    ensures { λ r. ⌜ LoneSays (now (s .entry)) table children depth (now (fronts .entry)) count left (now (fronts .exit)) (r .levels) (r .table) (r .right) (r .ended) ⌝ }
+{
+    if count == 0 {
+        return run_without_front(s, table, children, left);
+    }
+    run_with_front(s, table, children, depth, fronts, count, lists, left)
+}
+
+// One child of a node at depth, by byte at index at: its prefixes are the chunks and prefixes of its fronts, one address
+// further on, and it and all below it is right, where left levels are left below it.
+fn child_right(
+    s: &[u8],
+    byte: u8,
+    at: usize,
+    depth: usize,
+    fronts: &mut [usize],
+    count: usize,
+    lists: &mut [usize],
+    left: usize,
+) -> bool
+    requires { ⌜ ChildAsked (now s) at depth (now fronts) count (now lists) left ⌝ }
+    ensures { λ r. ⌜ ChildSays (now (s .entry)) byte at depth (now (fronts .entry)) count left (now (fronts .exit)) r ⌝ }
+{
+    let c = image_walk::node_at(s, at);
+    let found = fronts::next_fronts(s, byte, depth, fronts, count, lists, at);
+    if !location_lists::is_union(s, c.prefixes, c.prefix_count, 1, lists, found.lists) {
+        return false;
+    }
+    // The nodes below come first, so that the image is read in its order.
+    if !children_right(
+        s,
+        c.table,
+        c.children,
+        depth + 1,
+        fronts,
+        found.fronts,
+        lists,
+        left,
+    ) {
+        return false;
+    }
+    node_rule::node_right(s, c, depth + 1, lists)
+}
+
+// The children in the table of a node at depth: each is right, and each child of a front is a front of one of them.
+pub fn children_right(
+    s: &[u8],
+    table: usize,
+    children: usize,
+    depth: usize,
+    fronts: &mut [usize],
+    count: usize,
+    lists: &mut [usize],
+    left: usize,
+) -> bool
+    requires { ⌜ ChildrenAsked (now s) table children depth (now fronts) count (now lists) left ⌝ }
+    ensures { λ r. ⌜ ChildrenSays (now (s .entry)) table children depth (now (fronts .entry)) count left (now (fronts .exit)) r ⌝ }
+{
+    let run = lone_run(s, table, children, depth, fronts, count, lists, left);
+    if run.ended {
+        return run.right;
+    }
+    if !run.right {
+        return false;
+    }
+    let levels = left - run.levels;
+    if levels == 0 {
+        return true;
+    }
+    let here = depth + run.levels;
+    let mut j = 0;
+    while j < children {
+        let slot = image_walk::slot_in(s, run.table, children, j);
+        j += 1;
+        if let Slot::Taken { byte, at } = slot {
+            if !child_right(s, byte, at, here, fronts, count, lists, levels - 1) {
+                return false;
+            }
+        }
+    }
+    fronts::fronts_within(s, run.table, children, fronts, here * 768, count)
+}

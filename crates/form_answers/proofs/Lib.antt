@@ -1,0 +1,4 @@
+pub mod Replying
+pub mod Blocks
+pub mod Finding
+pub mod LineForms

@@ -1,0 +1,5 @@
+pub mod Masks
+pub mod Fronts
+pub mod Ahead
+pub mod FrontRule
+pub mod Marks

@@ -1,0 +1,57 @@
+-- `image::kinds::kind_of` meets its contract. Assumes nothing.
+use Prim.Native.Nat.{_-_, _≤_, ℕ}
+use native.Mathlib.Omega.{arith}
+use mathlib.Core.Logic.{inl, inr, ⊎-elim}
+use mathlib.Core.Path.{_≡_, subst, sym}
+use borrow.Author.Needs.{needs}
+use Rattle.image_format.proofs.KindRule.{at-range, beyond, beyond-all, kind-none}
+use Rattle.image_format.proofs.kind_of.Statement.{statement}
+use Rattle.image_format.proofs.kind_of.Tie as tie
+
+abbrev Inv-loop : tie.InvT-loop
+Inv-loop children i₀ i = (i ≤ 3) × (beyond-all i ≤ children)
+
+abbrev μ-loop : tie.MeasureT-loop
+μ-loop children i₀ i = 3 - i
+
+loop-holds : tie.Need-loop-holds Inv-loop μ-loop
+loop-holds c = search needs
+
+mul-k : tie.Need-mul-k Inv-loop μ-loop
+mul-k c = search needs
+
+array-copy-out-k : tie.Need-array-copy-out-k Inv-loop μ-loop
+array-copy-out-k c = search needs
+
+returns : tie.Need-returns Inv-loop μ-loop
+returns c = at-range (c .before .before .before .before .before .before .loop .i) (c .before .before .before .before .before .before .before .args .children) (omega arith) (c .before .before .if1 .taken) (c .if2 .taken)
+
+add-i : tie.Need-add-i Inv-loop μ-loop
+add-i c = search needs
+
+loop-less : tie.Need-loop-less Inv-loop μ-loop
+loop-less c = search needs
+
+loop-again : tie.Need-loop-again Inv-loop μ-loop
+loop-again c =
+    (omega arith, beyond (c .before .before .before .before .loop .i) (c .before .before .before .before .before .args .children) (omega arith) (c .before .before .before .before .loop .inv .1) (⊎-elim (λ w. inr (w .2 .left)) (λ w. inl (w .left)) (c .if1 .came)))
+
+returns-2 : tie.Need-returns-2 Inv-loop μ-loop
+returns-2 c =
+    let e : c .before .loop .i ≡ 3 = omega arith in
+    sym (kind-none _ (subst (λ (k : ℕ). beyond-all k ≤ c .before .before .args .children) e (c .before .loop .inv .1)))
+
+pub kind-of-spec : {M : Type 1} → statement M
+kind-of-spec =
+    tie.close
+    (tie.spec
+    Inv-loop
+    μ-loop
+    loop-holds
+    mul-k
+    array-copy-out-k
+    returns
+    add-i
+    loop-less
+    loop-again
+    returns-2)

@@ -1,0 +1,6 @@
+pub mod Kinds
+pub mod Image
+pub mod Reading
+pub mod Held
+pub mod Savable
+pub mod Promises

@@ -1,0 +1,43 @@
+-- `forms::count_bytes` meets its contract: the opening parenthesis, and what stands behind it. Assumes nothing.
+use mathlib.Core.Path.{ap, _∙_}
+use denote.Ref.{now}
+use borrow.Author.Needs.{needs}
+use Rattle.numerals.proofs.Steps.{bytes-out, bytes-not, bytes-so}
+use Rattle.numerals.specs.NumeralAnswers.{counted}
+use Rattle.numerals.proofs.count_bytes.Statement.{statement}
+use Rattle.numerals.proofs.count_bytes.Tie as tie
+
+returns : tie.Need-returns
+returns c =
+    let a = c .before .before .args in
+    ap (counted 0) (bytes-out (now (a .line)) (a .at) (c .if1 .taken))
+
+shared-slice-read-if2 : tie.Need-shared-slice-read-if2
+shared-slice-read-if2 c = search needs
+
+returns-2 : tie.Need-returns-2
+returns-2 c =
+    let a = c .before .before .before .before .args in
+    ap (counted 0) (bytes-not (now (a .line)) (a .at) (c .before .before .if1 .left) (c .if2 .taken))
+
+add-count-pairs : tie.Need-add-count-pairs
+add-count-pairs c = search needs
+
+count-pairs-requires : tie.Need-count-pairs-requires
+count-pairs-requires c κs = search needs
+
+returns-3 : tie.Need-returns-3
+returns-3 c =
+    let a = c .before .before .before .before .before .args in
+    c .count-pairs .ensures ∙ ap (counted 0) (bytes-so (now (a .line)) (a .at) (c .before .before .before .if1 .left) (c .before .if2 .left))
+
+pub count-bytes-spec : {M : Type 1} → statement M
+count-bytes-spec =
+    tie.close
+    (tie.spec
+    returns
+    shared-slice-read-if2
+    returns-2
+    add-count-pairs
+    count-pairs-requires
+    returns-3)

@@ -1,0 +1,58 @@
+-- `forms::digit_value` meets its contract: 0 to 9, a to f, or neither. Assumes nothing.
+use native.Mathlib.Omega.{arith}
+use mathlib.Core.Path.{sym, _∙_}
+use mathlib.Core.Bool.{true}
+use borrow.Author.Needs.{needs}
+use Rattle.numerals.proofs.Steps.{digit-tells, nibble-digit, nibble-low, nibble-high, nibble-letter}
+use Rattle.numerals.proofs.digit_value.Statement.{statement}
+use Rattle.numerals.proofs.digit_value.Tie as tie
+
+digit-requires : tie.Need-digit-requires
+digit-requires c κs = search needs
+
+sub-wide : tie.Need-sub-wide
+sub-wide c = digit-tells (c .before .before .args .b) true (sym (c .before .digit .ensures) ∙ c .if1 .taken) .0
+
+wide-requires : tie.Need-wide-requires
+wide-requires c κs = search needs
+
+returns : tie.Need-returns
+returns c =
+    let b = c .before .before .before .args .b in
+    c .wide .ensures .0 ∙ nibble-digit b (sym (c .before .before .digit .ensures) ∙ c .before .if1 .taken)
+
+returns-2 : tie.Need-returns-2
+returns-2 c =
+    let b = c .before .before .before .args .b in
+    nibble-low b (sym (c .before .before .digit .ensures) ∙ c .before .if1 .left) (omega arith)
+
+returns-3 : tie.Need-returns-3
+returns-3 c =
+    let b = c .before .before .before .before .args .b in
+    nibble-high b (sym (c .before .before .before .digit .ensures) ∙ c .before .before .if1 .left) (omega arith) (omega arith)
+
+add-wide : tie.Need-add-wide
+add-wide c = search needs
+
+wide-requires-2 : tie.Need-wide-requires-2
+wide-requires-2 c κs = search needs
+
+returns-4 : tie.Need-returns-4
+returns-4 c =
+    let b = c .before .before .before .before .before .args .b in
+    let d = sym (c .before .before .before .before .digit .ensures) ∙ c .before .before .before .if1 .left in
+    nibble-letter b d (omega arith) (omega arith) (c .wide2 .result) (c .wide2 .ensures .0)
+
+pub digit-value-spec : {M : Type 1} → statement M
+digit-value-spec =
+    tie.close
+    (tie.spec
+    digit-requires
+    sub-wide
+    wide-requires
+    returns
+    returns-2
+    returns-3
+    add-wide
+    wide-requires-2
+    returns-4)

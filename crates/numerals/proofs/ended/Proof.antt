@@ -1,0 +1,30 @@
+-- `forms::ended` meets its contract: a space, another byte, or the line's end. Assumes nothing.
+use denote.Ref.{now}
+use borrow.Author.Needs.{needs}
+use Rattle.numerals.proofs.Steps.{ends-out, ends-not, ends-so}
+use Rattle.numerals.proofs.ended.Statement.{statement}
+use Rattle.numerals.proofs.ended.Tie as tie
+
+returns : tie.Need-returns
+returns c =
+    let a = c .before .args in
+    ends-out (now (a .line)) (a .at) (a .x) (c .if1 .taken)
+
+shared-slice-read-if2 : tie.Need-shared-slice-read-if2
+shared-slice-read-if2 c = search needs
+
+returns-2 : tie.Need-returns-2
+returns-2 c =
+    let a = c .before .before .before .args in
+    ends-not (now (a .line)) (a .at) (a .x) (c .before .before .if1 .left) (c .if2 .taken)
+
+add-t4 : tie.Need-add-t4
+add-t4 c = search needs
+
+returns-3 : tie.Need-returns-3
+returns-3 c =
+    let a = c .before .before .before .args in
+    ends-so (now (a .line)) (a .at) (a .x) (c .before .before .if1 .left) (c .if2 .left)
+
+pub ended-spec : {M : Type 1} → statement M
+ended-spec = tie.close (tie.spec returns shared-slice-read-if2 returns-2 add-t4 returns-3)

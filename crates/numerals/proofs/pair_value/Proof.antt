@@ -1,0 +1,50 @@
+-- `forms::pair_value` meets its contract: both bytes are digits, or one is none. Assumes nothing.
+use borrow.Author.Needs.{needs}
+use Rattle.numerals.proofs.Steps.{pair-first, pair-second, pair-both}
+use Rattle.numerals.proofs.pair_value.Statement.{statement}
+use Rattle.numerals.proofs.pair_value.Tie as tie
+
+digit-value-requires : tie.Need-digit-value-requires
+digit-value-requires c κs = search needs
+
+digit-value-requires-2 : tie.Need-digit-value-requires-2
+digit-value-requires-2 c κs = search needs
+
+returns : tie.Need-returns
+returns c =
+    let s = c .before .before .before in
+    let h = c .before .before .digit-value in
+    let l = c .before .digit-value2 in
+    pair-first (s .args .a) (s .args .b) (h .result) (l .result) (h .ensures) (l .ensures) (c .if1 .taken)
+
+returns-2 : tie.Need-returns-2
+returns-2 c =
+    let s = c .before .before .before .before in
+    let h = c .before .before .before .digit-value in
+    let l = c .before .before .digit-value2 in
+    pair-second (s .args .a) (s .args .b) (h .result) (l .result) (h .ensures) (l .ensures) (c .before .if1 .left) (c .if2 .taken)
+
+mul-result : tie.Need-mul-result
+mul-result c = search needs
+
+add-result : tie.Need-add-result
+add-result c = search needs
+
+returns-3 : tie.Need-returns-3
+returns-3 c =
+    let s = c .before .before .before .before in
+    let h = c .before .before .before .digit-value in
+    let l = c .before .before .digit-value2 in
+    pair-both (s .args .a) (s .args .b) (h .result) (l .result) (h .ensures) (l .ensures) (c .before .if1 .left) (c .if2 .left)
+
+pub pair-value-spec : {M : Type 1} → statement M
+pair-value-spec =
+    tie.close
+    (tie.spec
+    digit-value-requires
+    digit-value-requires-2
+    returns
+    returns-2
+    mul-result
+    add-result
+    returns-3)

@@ -1,0 +1,5 @@
+pub mod Order
+pub mod Lists
+pub mod Bytes
+pub mod Compare
+pub mod Repeats

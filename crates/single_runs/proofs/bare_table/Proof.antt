@@ -1,0 +1,60 @@
+-- `index_rule::runs::bare_table` meets its contract. Assumes nothing.
+use native.Mathlib.Omega.{arith}
+use borrow.Author.Tests.{not-false}
+use Rattle.single_runs.proofs.RunLaws.{bare-none, bare-room, bare-some, laid-room}
+use borrow.Author.Needs.{needs}
+use Rattle.single_runs.proofs.bare_table.Statement.{statement}
+use Rattle.single_runs.proofs.bare_table.Tie as tie
+
+is-bare-requires : tie.Need-is-bare-requires
+is-bare-requires c κs = search needs
+
+returns : tie.Need-returns
+returns c = search needs
+
+add-get64 : tie.Need-add-get64
+add-get64 c = search needs
+
+get64-requires : tie.Need-get64-requires
+get64-requires c κs = let r = laid-room _ _ (c .before .before .before .pre) in omega arith
+
+add-lone-table : tie.Need-add-lone-table
+add-lone-table c = search needs
+
+lone-table-requires : tie.Need-lone-table-requires
+lone-table-requires c κs = let r = laid-room _ _ (c .before .before .before .before .before .pre) in omega arith
+
+returns-2 : tie.Need-returns-2
+returns-2 c = λ z. bare-none _ _ (c .before .before .before .before .is-bare .ensures (not-false _ (c .before .before .before .if1 .left))) _ _ (c .before .before .get64 .ensures) (c .before .if2 .taken) (c .lone-table .ensures z)
+
+add-lone-table-2 : tie.Need-add-lone-table-2
+add-lone-table-2 c = search needs
+
+mul-lone-table : tie.Need-mul-lone-table
+mul-lone-table c = let r = bare-room _ _ (c .before .before .before .is-bare .ensures (not-false _ (c .before .before .if1 .left))) _ (c .before .before .before .before .before .pre) (c .before .get64 .ensures) in omega arith
+
+add-lone-table-3 : tie.Need-add-lone-table-3
+add-lone-table-3 c = let r = bare-room _ _ (c .before .before .before .is-bare .ensures (not-false _ (c .before .before .if1 .left))) _ (c .before .before .before .before .before .pre) (c .before .get64 .ensures) in omega arith
+
+lone-table-requires-2 : tie.Need-lone-table-requires-2
+lone-table-requires-2 c κs = bare-room _ _ (c .before .before .before .is-bare .ensures (not-false _ (c .before .before .if1 .left))) _ (c .before .before .before .before .before .pre) (c .before .get64 .ensures)
+
+returns-3 : tie.Need-returns-3
+returns-3 c = λ z. bare-some _ _ (c .before .before .before .before .is-bare .ensures (not-false _ (c .before .before .before .if1 .left))) _ _ (c .before .before .get64 .ensures) (c .lone-table2 .ensures z)
+
+pub bare-table-spec : {M : Type 1} → statement M
+bare-table-spec =
+    tie.close
+    (tie.spec
+    is-bare-requires
+    returns
+    add-get64
+    get64-requires
+    add-lone-table
+    lone-table-requires
+    returns-2
+    add-lone-table-2
+    mul-lone-table
+    add-lone-table-3
+    lone-table-requires-2
+    returns-3)

@@ -1,0 +1,28 @@
+-- `index_rule::singles::has_single` meets its contract. Assumes nothing.
+use native.Mathlib.Omega.{arith}
+use mathlib.Core.Path.{refl}
+use denote.Ref.{now}
+use Rattle.single_runs.proofs.RunLaws.{behind, laid-behind, not-so, table-room}
+use Rattle.single_runs.proofs.SingleLaws.{single-in}
+use borrow.Author.Needs.{needs}
+use Rattle.single_runs.proofs.has_single.Statement.{statement}
+use Rattle.single_runs.proofs.has_single.Tie as tie
+
+byte-behind-requires : tie.Need-byte-behind-requires
+byte-behind-requires c κs = search needs
+
+returns : tie.Need-returns
+returns c = not-so
+
+add-is-single : tie.Need-add-is-single
+add-is-single c = let r = table-room _ _ (c .before .before .before .pre) in omega arith
+
+is-single-requires : tie.Need-is-single-requires
+is-single-requires c κs = let u = c .before .before .before in let x = c .before .byte-behind in laid-behind (now (u .args .s)) (u .args .table) (x .result) (x .ensures) (c .if1 .left) (u .pre)
+
+returns-2 : tie.Need-returns-2
+returns-2 c = λ e. let a = c .before .before .before .before .args in let x = c .before .before .byte-behind in single-in (now (a .s)) (a .table) _ (behind (now (a .s)) (a .table) (x .result) (x .ensures) (c .before .if1 .left)) refl (c .is-single .ensures e)
+
+pub has-single-spec : {M : Type 1} → statement M
+has-single-spec =
+    tie.close (tie.spec byte-behind-requires returns add-is-single is-single-requires returns-2)

@@ -1,0 +1,251 @@
+// Runs of nodes with one child, stepped over at once.
+use image_walk::Node;
+use image_walk::Slot;
+ghost use mathlib.Core.Path.{_≡_};
+ghost use mathlib.Core.Bool.{false, true};
+ghost use Rattle.single_runs.specs.Runs.{is-leaf, BareAt, LoneTable, Bare, Thin, byte-behind, Down, RunTo};
+ghost use Prim.Native.Nat.{_+_, _≤_};
+ghost use lib.ListN.{length};
+ghost use Rattle.image_walk.specs.Parts.{parts-at};
+ghost use Rattle.image_walk.specs.Tables.{slot-in};
+ghost use Rattle.image_walk.specs.Here.{Laid};
+ghost use Rattle.node_rule.specs.Parts.{HasTable};
+ghost use Rattle.definitions.specs.Location.{location-at};
+ghost use Rattle.single_runs.specs.Singles.{Single, SingleIn, SinglesTo};
+
+// Whether a node is a leaf with one prefix, and neither chunk nor suffix.
+pub fn is_leaf(n: Node) -> bool
+    ensures { λ r. ⌜ r ≡ is-leaf n ⌝ }
+{
+    if n.children != 0 {
+        return false;
+    }
+    if n.chunk_count != 0 {
+        return false;
+    }
+    if n.suffix_count != 0 {
+        return false;
+    }
+    n.prefix_count == 1
+}
+
+// Whether the node at an index is of kind 3 and has neither prefix nor chunk.
+// Compared with 0 a word would be tested byte by byte, so the counts are compared with each other.
+fn is_bare(s: &[u8], at: usize) -> bool
+    requires { ⌜ Laid (now s) at ⌝ }
+    ensures { λ r. ⌜ (r ≡ true → BareAt (now (s .entry)) at) ⌝ }
+{
+    let kind = s[at];
+    let prefixes = words::get64(s, at + 1);
+    let chunks = words::get64(s, at + 9);
+    if prefixes != chunks {
+        return false;
+    }
+    if chunks != (kind / 4) as u64 {
+        return false;
+    }
+    kind == 3
+}
+
+// Whether it has no suffix either, and one child.
+fn is_thin(s: &[u8], at: usize) -> bool
+    requires { ⌜ Laid (now s) at ⌝ }
+    ensures { λ r. ⌜ (r ≡ true → Thin (parts-at (now (s .entry)) at) (at + 33)) ⌝ }
+{
+    if !is_bare(s, at) {
+        return false;
+    }
+    let suffixes = words::get64(s, at + 17);
+    let children = words::get64(s, at + 25);
+    if suffixes != children / 2 {
+        return false;
+    }
+    children == 1
+}
+
+// The table behind its count at an index, if that is 1, or else 0.
+fn lone_table(s: &[u8], behind: usize) -> usize
+    requires { ⌜ behind + 8 ≤ length (now s) ⌝ }
+    ensures { λ r. ⌜ ((r ≡ 0 → ⊥) → LoneTable (now (s .entry)) behind r) ⌝ }
+{
+    if words::get64(s, behind) != 1 {
+        return 0;
+    }
+    behind + 8
+}
+
+// The table of the node at an index, if that has one child and neither prefix nor chunk, or else 0.
+fn bare_table(s: &[u8], at: usize) -> usize
+    requires { ⌜ Laid (now s) at ⌝ }
+    ensures { λ r. ⌜ ((r ≡ 0 → ⊥) → Bare (parts-at (now (s .entry)) at) r) ⌝ }
+{
+    if !is_bare(s, at) {
+        return 0;
+    }
+    let n = words::get64(s, at + 17) as usize;
+    if n == 0 {
+        return lone_table(s, at + 25);
+    }
+    lone_table(s, at + 25 + 24 * n)
+}
+
+// No byte.
+const NO_BYTE: usize = 256;
+
+// The byte of the only child in a table of one entry, if the child stands right behind it, or else no byte.
+fn byte_behind(s: &[u8], table: usize) -> usize
+    requires { ⌜ HasTable (now s) table 1 ⌝ }
+    ensures { λ r. ⌜ r ≡ byte-behind (slot-in (now (s .entry)) table 1 0) (table + 10) ⌝ }
+{
+    let slot = image_walk::slot_in(s, table, 1, 0);
+    let Slot::Taken { byte, at } = slot else {
+        return NO_BYTE;
+    };
+    if at != table + 10 {
+        return NO_BYTE;
+    }
+    byte as usize
+}
+
+// The tables of two nodes, if both is true.
+struct Pair {
+    pub table: usize,
+    pub other: usize,
+    pub both: bool,
+}
+
+fn apart() -> Pair
+    ensures { λ r. ⌜ (r .both ≡ false) × (r .table ≡ 0) × (r .other ≡ 0) ⌝ }
+{
+    Pair {
+        table: 0,
+        other: 0,
+        both: false,
+    }
+}
+
+// The children in two tables of one entry, if their bytes are the same and neither is owed or owes a location.
+fn both_down(s: &[u8], table: usize, other: usize) -> Pair
+    requires { ⌜ HasTable (now s) table 1 × HasTable (now s) other 1 ⌝ }
+    ensures { λ r. ⌜ (r .both ≡ true → Down (now (s .entry)) table other (r .table) (r .other)) ⌝ }
+{
+    // The child stands behind the table. A sum, and not the offset, lets the next loads start before this one ends.
+    let due = table + 10;
+    let front_due = other + 10;
+    let byte = byte_behind(s, table);
+    if byte == NO_BYTE {
+        return apart();
+    }
+    if byte_behind(s, other) != byte {
+        return apart();
+    }
+    if !is_thin(s, due) {
+        return apart();
+    }
+    let next = bare_table(s, front_due);
+    if next == 0 {
+        return apart();
+    }
+    Pair {
+        table: due + 33,
+        other: next,
+        both: true,
+    }
+}
+
+// How many levels a run goes on, and the tables where it ends.
+pub struct Run {
+    pub levels: usize,
+    pub table: usize,
+    pub other: usize,
+}
+
+// The run from a node and its front on, by their tables, which have one entry.
+pub fn common_run(s: &[u8], table: usize, other: usize, most: usize) -> Run
+    requires { ⌜ HasTable (now s) table 1 × HasTable (now s) other 1 ⌝ }
+    ensures { λ r. ⌜ RunTo (now (s .entry)) table other most (r .levels) (r .table) (r .other) ⌝ }
+{
+    let mut levels = 0;
+    let mut t = table;
+    let mut o = other;
+    while levels < most {
+        let p = both_down(s, t, o);
+        if !p.both {
+            return Run {
+                levels,
+                table: t,
+                other: o,
+            };
+        }
+        t = p.table;
+        o = p.other;
+        levels += 1;
+    }
+    Run {
+        levels,
+        table: t,
+        other: o,
+    }
+}
+
+// Whether the node at an index is of kind 3 and has one suffix, one child, and neither prefix nor chunk.
+fn is_single(s: &[u8], at: usize) -> bool
+    requires { ⌜ Laid (now s) at ⌝ }
+    ensures { λ r. ⌜ (r ≡ true → Single (now (s .entry)) at) ⌝ }
+{
+    if !is_bare(s, at) {
+        return false;
+    }
+    if words::get64(s, at + 17) != 1 {
+        return false;
+    }
+    words::get64(s, at + 49) == 1
+}
+
+// Whether the child in a table of one entry stands behind it and is such a node.
+fn has_single(s: &[u8], table: usize) -> bool
+    requires { ⌜ HasTable (now s) table 1 ⌝ }
+    ensures { λ r. ⌜ (r ≡ true → SingleIn (now (s .entry)) table) ⌝ }
+{
+    if byte_behind(s, table) == NO_BYTE {
+        return false;
+    }
+    is_single(s, table + 10)
+}
+
+// Whether the node in a table, which is such a node, has a child that is one too, with the same suffix.
+fn goes_on(s: &[u8], table: usize) -> bool
+    requires { ⌜ HasTable (now s) table 1 × SingleIn (now s) table ⌝ }
+    ensures { λ r. ⌜ (r ≡ true → SingleIn (now (s .entry)) (table + 67) × (location-at (now (s .entry)) (table + 35) ≡ location-at (now (s .entry)) (table + 102))) ⌝ }
+{
+    if !has_single(s, table + 67) {
+        return false;
+    }
+    location_lists::is_at(s, table + 102, location::location_at(s, table + 35))
+}
+
+// How many levels such a run goes on, and the table where it ends.
+pub struct SingleRun {
+    pub levels: usize,
+    pub table: usize,
+}
+
+// The run from a table of one entry on.
+pub fn single_run(s: &[u8], table: usize, most: usize) -> SingleRun
+    requires { ⌜ HasTable (now s) table 1 ⌝ }
+    ensures { λ r. ⌜ SinglesTo (now (s .entry)) table most (r .levels) (r .table) ⌝ }
+{
+    if !has_single(s, table) {
+        return SingleRun { levels: 0, table };
+    }
+    let mut levels = 0;
+    let mut t = table;
+    while levels < most {
+        if !goes_on(s, t) {
+            return SingleRun { levels, table: t };
+        }
+        t += 67;
+        levels += 1;
+    }
+    SingleRun { levels, table: t }
+}
