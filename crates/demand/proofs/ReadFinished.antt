@@ -12,7 +12,7 @@ use Rattle.trie.proofs.Test.{rule-test-is}
 use Rattle.trie.proofs.BuildPaths.{node-short}
 use Rattle.trie.proofs.BuildRule.{SoundPiece, apart-build, trie-of-rule}
 use Rattle.trie.proofs.BuildCounts.{trie-of-nodes, trie-of-entries}
-use Rattle.image.proofs.Sizes.{savable}
+use Rattle.image_format.proofs.Sizes.{savable}
 use Rattle.index_memory.specs.Index.{opened, finished, read-index}
 use Rattle.index_memory.proofs.Holding.{OpenIs, open-is}
 use Rattle.finished_memory.specs.Finished.{finished-memory}

@@ -8,10 +8,10 @@ use lib.Dec.{eqb}
 use lib.ListN.{getD, length}
 use borrow.Author.Tests.{eqb-true}
 use Rattle.words.specs.Words.{le64}
-use Rattle.fields.proofs.Heads.{head-lists, list-past, lists-ready}
-use Rattle.fields.proofs.Nodes.{child-node, end-sparse, node-done, node-table, run-end, run-on, run-refused, run-start}
-use Rattle.fields.proofs.Tables.{open-ready, slot-arrival}
-use Rattle.tables.proofs.Entries.{fault-end, fault-on}
+use Rattle.image_format.proofs.Heads.{head-lists, list-past, lists-ready}
+use Rattle.image_format.proofs.Nodes.{child-node, end-sparse, node-done, node-table, run-end, run-on, run-refused, run-start}
+use Rattle.image_format.proofs.Tables.{open-ready, slot-arrival}
+use Rattle.image_format.proofs.Entries.{fault-end, fault-on}
 use Rattle.image_format.specs.Kinds.{fits}
 use Rattle.image_format.specs.Reading.{Step, Table, done, fault, head, offset, open-table, read-child, read-head, read-node, sparse-table, table}
 use Rattle.fields.specs.Thin.{Thin, ThinRun}

@@ -1,10 +1,7 @@
 -- What the answers of the code mean, and what its functions ask of each other. Assumes nothing.
-use Prim.Native.Nat.{ℕ, _+_, _*_, _≤_, _<_}
-use mathlib.Core.Path.{_≡_}
 use mathlib.Core.Bool.{cond}
-use mathlib.Core.List.{List}
 use lib.Dec.{eqb}
-use Rattle.image_format.specs.Reading.{ListRead, past, cut, HeadRead, head, no-head, Table, TableRead, table, no-table, Turn, child, gap, none-due, wrong, skip, slot-at, Step, done, fault, Layout, right, refused}
+use Rattle.image_format.specs.Reading.{ListRead, past, cut, HeadRead, head, no-head, Table, TableRead, table, no-table, Turn, child, gap, none-due, wrong, Step, done, fault, Layout, right, refused}
 use Rattle.fields.specs.declared.Layout.the-variants as layout
 use Rattle.fields.specs.declared.Past.{Past}
 use Rattle.fields.specs.declared.Head.{Head}
@@ -40,18 +37,3 @@ turn-of due.Child = child
 turn-of due.Gap = gap
 turn-of due.Nothing = none-due
 turn-of (due.Wrong n) = wrong n
-
--- a table that lies within n bytes
-pub record Within (n : ℕ) (t : Table) : Type 0 where
-  pub entries : t .base + t .count * 9 ≤ n
-  pub offsets : t .kind ≡ 1 → t .base + 2048 ≤ n
-  pub few : t .kind ≡ 3 → t .turns ≤ t .count
-  pub bytes : t .kind ≡ 2 → t .turns ≡ 256
-  pub turns : t .turns ≤ 256
-  pub start : t .start ≤ n
-
--- the turns from i on and before r judge nothing
-pub record Skips (s : List ℕ) (t : Table) (i r : ℕ) : Type 0 where
-  pub from : i ≤ r
-  pub last : r < t .turns
-  pub none : (k : ℕ) → i ≤ k → k < r → skip ≡ slot-at s t k

@@ -5,7 +5,8 @@ ghost use lib.ListN.{length};
 ghost use lib.Dec.{eqb};
 ghost use mathlib.Core.Bool.{cond, true};
 ghost use Rattle.image_format.specs.Reading.{offset, slot-turn, turn-at, all-met, read-list, read-head, open-table};
-ghost use Rattle.fields.specs.Answers.{step-of, list-of, head-of, table-in, table-of, turn-of, Within, Skips};
+ghost use Rattle.fields.specs.Answers.{step-of, list-of, head-of, table-in, table-of, turn-of};
+ghost use Rattle.image_format.specs.Turns.{Within, Skips};
 ghost use Rattle.fields.specs.Thin.{Thin, ThinRun};
 
 // The nodes and entries of an image.

@@ -19,8 +19,8 @@ use Rattle.image_format.specs.Image.{image}
 use Rattle.image_format.specs.Reading.{Layout, right, refused, read-image}
 use Rattle.image_format.specs.Held.{trie-in}
 use Rattle.image_format.specs.Savable.{AllBytes, Savable}
-use Rattle.image.proofs.Sizes.{image-size}
-use Rattle.image.proofs.Theorems.{image-read, read-image-is}
+use Rattle.image_format.proofs.Sizes.{image-size}
+use Rattle.image_format.proofs.Theorems.{image-read, read-image-is}
 use Rattle.index_memory.specs.Layout.{Header, header-at, header-bytes, log-in}
 use Rattle.index_memory.specs.Index.{Index, broken, opened, finished, header-right, log-right, open-index, read-index, image-part, if-right, finished-index}
 use Rattle.index_memory.specs.Answers.{heading-at}

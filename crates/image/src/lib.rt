@@ -8,7 +8,8 @@ ghost use mathlib.Core.Path.{_≡_};
 ghost use Prim.Native.Nat.{_+_, _*_, _≤_, _<_};
 ghost use lib.ListN.{length};
 ghost use Rattle.image_format.specs.Reading.{read-table, read-node, read-counts, read-root, read-image};
-ghost use Rattle.fields.specs.Answers.{layout-of, step-of, table-in, Within};
+ghost use Rattle.fields.specs.Answers.{layout-of, step-of, table-in};
+ghost use Rattle.image_format.specs.Turns.{Within};
 
 // The children of a node, in the order of the layout, with as many levels yet allowed as left says.
 fn read_table(s: &[u8], c: Children, left: usize) -> Past

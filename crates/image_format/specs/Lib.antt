@@ -4,3 +4,5 @@ pub mod Reading
 pub mod Held
 pub mod Savable
 pub mod Promises
+pub mod Turns
+pub mod Entries

@@ -15,16 +15,16 @@ use Rattle.words.specs.Holding.{Holds}
 use Rattle.words.proofs.Holding.{holds-at, holds-le, holds-left, holds-right}
 use Rattle.definitions.proofs.Views.{Eq, eq, lt-or-le}
 use Rattle.trie.specs.Trie.{Forest, leaf, more, Node}
-use Rattle.image.proofs.ByByte.{Bytes, all-size, at-read, below-most, below-zero}
-use Rattle.image.proofs.Holding.{head-length}
-use Rattle.image.proofs.KindOne.{bytes-one, offsets-length, size-one, slot-length}
-use Rattle.image.proofs.KindThree.{AllRead, Distinct, bytes-three, size-three, table-holds, table-length}
-use Rattle.image.proofs.KindTwo.{bytes-two, offs-holds, offs-length, size-two}
-use Rattle.image.proofs.ListsBack.{entries-within, holds-lists}
-use Rattle.image.proofs.ReadBack.{Limits, Up, all-read}
-use Rattle.image.proofs.Shapes.{limits-of}
-use Rattle.image.proofs.Spots.{Spots, spot-at, spots-one, spots-three, spots-two}
-use Rattle.image.proofs.TrieBack.{entries-dense, entries-sparse}
+use Rattle.image_format.proofs.ByByte.{Bytes, all-size, at-read, below-most, below-zero}
+use Rattle.image_format.proofs.Holding.{head-length}
+use Rattle.image_format.proofs.KindOne.{bytes-one, offsets-length, size-one, slot-length}
+use Rattle.image_format.proofs.KindThree.{AllRead, Distinct, bytes-three, size-three, table-holds, table-length}
+use Rattle.image_format.proofs.KindTwo.{bytes-two, offs-holds, offs-length, size-two}
+use Rattle.image_format.proofs.ListsBack.{entries-within, holds-lists}
+use Rattle.image_format.proofs.ReadBack.{Limits, Up, all-read}
+use Rattle.image_format.proofs.Shapes.{limits-of}
+use Rattle.image_format.proofs.Spots.{Spots, spot-at, spots-one, spots-three, spots-two}
+use Rattle.image_format.proofs.TrieBack.{entries-dense, entries-sparse}
 use Rattle.image_format.specs.Held.{Entry, lists-in, sparse-entries, table-entries}
 use Rattle.image_format.specs.Image.{Child, ascending, children-bytes, children-of, children-size, lists-bytes, lists-size, node-bytes, size-below, slot-bytes, slot-offsets, slot-size, slots-bytes, slots-size, table-by-arrival, table-by-byte, with-byte}
 use Rattle.image_walk.specs.Parts.{chunk-list, suffix-list, behind-lists, table-at, children-at}

@@ -11,7 +11,7 @@ use Rattle.words.specs.Words.{le64}
 use Rattle.trie.specs.Rule.{Apart}
 use Rattle.trie.specs.Trie.{Forest, leaf, more, Lists, Node, child, node-at, walk}
 use Rattle.trie.proofs.Walk as trie
-use Rattle.image.proofs.Spots.{Spots}
+use Rattle.image_format.proofs.Spots.{Spots}
 use Rattle.image_format.specs.Held.{Entry, lists-in, table-entries}
 use Rattle.definitions.specs.Location.{locations-in}
 use Rattle.image_format.specs.Savable.{AllFit, AllKept, InBytes, Short}

@@ -5,9 +5,9 @@ use mathlib.Core.Path.{_≡_, refl, subst}
 use mathlib.Core.List.{List, []}
 use lib.ListN.{length, getD}
 use Rattle.trie.specs.Trie.{Node, Trie, empty, root}
-use Rattle.image.proofs.ReadBack.{all-read, holds-in, node-length}
-use Rattle.image.proofs.Shapes.{fitting}
-use Rattle.image.proofs.Theorems.{read-image-is}
+use Rattle.image_format.proofs.ReadBack.{all-read, holds-in, node-length}
+use Rattle.image_format.proofs.Shapes.{fitting}
+use Rattle.image_format.proofs.Theorems.{read-image-is}
 use Rattle.image_format.specs.Held.{trie-in}
 use Rattle.image_format.specs.Image.{children-of, image}
 use Rattle.image_format.specs.Reading.{read-image, right}

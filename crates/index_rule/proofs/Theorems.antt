@@ -13,7 +13,7 @@ use Rattle.trie.specs.Rule.{Rule}
 use Rattle.trie.specs.Test.{index-rule}
 use Rattle.trie.proofs.Test.{rule-test-is}
 use Rattle.trie.proofs.Walk.{lost}
-use Rattle.image.proofs.Theorems.{read-image-is}
+use Rattle.image_format.proofs.Theorems.{read-image-is}
 use Rattle.image_format.specs.Held.{trie-in}
 use Rattle.image_format.specs.Reading.{Layout, right, refused, read-image}
 use Rattle.image_format.specs.Savable.{AllBytes, Shaped, Short}

@@ -20,7 +20,7 @@ use Rattle.sort.proofs.Results.{length-sorted-bytes, length-dropRepeats-bytes, 
 use Rattle.definitions.specs.Location.{Location, normal, locations-in, locations-bytes}
 use Rattle.place_buffer.proofs.Triples.{triples, records-triples, triples-path, length-triples, normal-triples}
 use Rattle.image_format.specs.Image.{list-bytes}
-use Rattle.image.proofs.BytesRead.{locs-read}
+use Rattle.image_format.proofs.BytesRead.{locs-read}
 use Rattle.tails.specs.Tails.{Tail}
 use Rattle.tails.specs.Groups.{locations-of}
 use Rattle.list_writer.specs.Written.{Copied, Closed, ListWritten}

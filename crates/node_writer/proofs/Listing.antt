@@ -11,7 +11,7 @@ use Rattle.trie.specs.Trie.{Lists}
 use Rattle.tails.specs.Tails.{Tail}
 use Rattle.tails.specs.Groups.{locations-of, wholes}
 use Rattle.image_format.specs.Image.{list-bytes, lists-bytes, lists-size}
-use Rattle.image.proofs.Holding.{list-length}
+use Rattle.image_format.proofs.Holding.{list-length}
 use Rattle.tail_records.specs.Tail.{tails-in}
 use Rattle.tail_records.proofs.Memory.{tails-none, tails-ext}
 use Rattle.list_writer.specs.declared.End.{End}

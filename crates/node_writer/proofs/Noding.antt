@@ -17,9 +17,9 @@ use Rattle.tails.proofs.Runs.{goes, goes-is, longer, below-here}
 use Rattle.tails.proofs.Groups.{mem-bytes, groups-rising, group-run, byte-goes}
 use Rattle.image_format.specs.Kinds.{kind-of}
 use Rattle.image_format.specs.Image.{Child, children-of, nodes-in, entries-in, lists-bytes, lists-size, table-bytes, table-size, node-bytes, node-size}
-use Rattle.image.proofs.Holding.{head-length}
-use Rattle.image.proofs.ByByte.{total-nodes}
-use Rattle.image.proofs.Shapes.{count-nodes, count-entries}
+use Rattle.image_format.proofs.Holding.{head-length}
+use Rattle.image_format.proofs.ByByte.{total-nodes}
+use Rattle.image_format.proofs.Shapes.{count-nodes, count-entries}
 use Rattle.tails.specs.Runs.{Run}
 use Rattle.tails.specs.Weights.{group-weights}
 use Rattle.tail_records.specs.Tail.{tails-in}

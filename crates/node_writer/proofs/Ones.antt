@@ -19,7 +19,7 @@ use Rattle.trie.specs.Trie.{Lists, leaf, more, Node, entries-of, forest-nodes}
 use Rattle.tails.specs.Tails.{Tail}
 use Rattle.tails.specs.Groups.{ends-as, run, byte-at, below, groups, group-lists, group-node}
 use Rattle.image_format.specs.Image.{lists-bytes, lists-size}
-use Rattle.image.proofs.Holding.{head-length}
+use Rattle.image_format.proofs.Holding.{head-length}
 use Rattle.tails.specs.Runs.{Run}
 use Rattle.tails.specs.Weights.{weights, group-weights}
 use Rattle.tail_records.specs.Tail.{record-in, tail-of-record, tail-in, tails-in, Held, ValidRecord}

@@ -13,7 +13,7 @@ use Rattle.trie.specs.Trie.{Node}
 use Rattle.tails.specs.Tails.{Tail}
 use Rattle.tails.specs.Groups.{Group, arrive, by-arrival, group-forest}
 use Rattle.image_format.specs.Image.{Child, as-child, children-of, with-byte, ascending, size-below, children-size}
-use Rattle.image.proofs.ByByte.{total}
+use Rattle.image_format.proofs.ByByte.{total}
 use Rattle.tails.proofs.Children.{by-arrival-mem}
 use Rattle.tail_records.specs.Found.{no-group}
 use Rattle.node_writer.specs.Kids.{kid, kids, no-child}

@@ -15,8 +15,8 @@ use Rattle.tails.specs.Tails.{Tail}
 use Rattle.tails.specs.Groups.{Group, arrive, by-arrival, kept-groups, bytes-of}
 use Rattle.tails.proofs.Groups.{mem-bytes}
 use Rattle.image_format.specs.Image.{Child, as-child, children-of, nodes-in, node-bytes, node-size}
-use Rattle.image.proofs.ByByte.{total}
-use Rattle.image.proofs.Shapes.{count-nodes, count-entries}
+use Rattle.image_format.proofs.ByByte.{total}
+use Rattle.image_format.proofs.Shapes.{count-nodes, count-entries}
 use Rattle.tails.specs.Weights.{weights, group-weights}
 use Rattle.tail_records.specs.Found.{no-group}
 use Rattle.tail_records.specs.Ranks.{rank-of, firsts, Different}

@@ -8,7 +8,7 @@ use lib.ListN.{length, length-append}
 use Rattle.definitions.specs.Location.{Location, location-at, locations-in}
 use Rattle.definitions.specs.Program.{text, decimal, Reply, place, end, place-each, found}
 use Rattle.definitions.proofs.Decimal.{dec-decimal, length-dec}
-use Rattle.image.proofs.BytesRead.{count-locs}
+use Rattle.image_format.proofs.BytesRead.{count-locs}
 use Rattle.replies.specs.Written.{Written, reply-bytes}
 use Rattle.row_replies.specs.Program.{replies-bytes}
 

@@ -18,8 +18,8 @@ use Rattle.image_format.specs.Image.{image}
 use Rattle.image_format.specs.Held.{trie-in}
 use Rattle.image_format.specs.Reading.{Layout, right, refused, fault-of, nodes-in, entries-in}
 use Rattle.image_format.specs.Savable.{AllBytes, Savable}
-use Rattle.image.proofs.Sizes.{image-size}
-use Rattle.image.proofs.Theorems.{read-image-is}
+use Rattle.image_format.proofs.Sizes.{image-size}
+use Rattle.image_format.proofs.Theorems.{read-image-is}
 use Rattle.index_rule.specs.Check.{check-image}
 use Rattle.index_rule.proofs.Theorems.{check-image-is}
 use Rattle.index_memory.specs.Layout.{Header}

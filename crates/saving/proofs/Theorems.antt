@@ -18,7 +18,7 @@ use Rattle.image_format.specs.Image.{image}
 use Rattle.image_format.specs.Held.{trie-in}
 use Rattle.image_format.specs.Reading.{Layout, right, refused, fault-of, nodes-in, entries-in}
 use Rattle.image_format.specs.Savable.{Savable}
-use Rattle.image.proofs.Theorems.{image-read}
+use Rattle.image_format.proofs.Theorems.{image-read}
 use Rattle.index_rule.specs.Check.{and-rule, check-image}
 use Rattle.index_rule.proofs.Theorems.{check-image-is, index-rule-is}
 use Rattle.index_memory.specs.Index.{Index, broken, opened, finished, standing-of, read-index}

@@ -3,7 +3,7 @@ ghost use mathlib.Core.Path.{_≡_};
 ghost use Prim.Native.Nat.{_+_, _*_, _≤_};
 ghost use lib.ListN.{length};
 ghost use Rattle.image_format.specs.Reading.{find-byte, table-fault};
-ghost use Rattle.tables.specs.Entries.{Nearer, Least};
+ghost use Rattle.image_format.specs.Entries.{Nearer, Least};
 
 // The first of the n entries of a table whose byte is b, or n.
 pub fn find_byte(s: &[u8], base: usize, n: usize, b: u8) -> usize

@@ -4,7 +4,7 @@ use mathlib.Core.Path.{_∙_, refl, sym}
 use borrow.Author.Needs.{needs}
 use borrow.Author.Tests.{not-false, not-true}
 use Rattle.fields.proofs.AnswerLaws.{step-right, step-with}
-use Rattle.fields.proofs.Nodes.{end-dense, end-few, end-sparse}
+use Rattle.image_format.proofs.Nodes.{end-dense, end-few, end-sparse}
 use Rattle.fields.specs.Answers.{table-in}
 use Rattle.fields.proofs.all_met.Statement.{statement}
 use Rattle.fields.proofs.all_met.Tie as tie

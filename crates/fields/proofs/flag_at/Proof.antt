@@ -1,7 +1,7 @@
 -- `image::flag_at` meets its contract. Assumes nothing.
 use native.Mathlib.Omega.{arith}
 use borrow.Author.Needs.{needs}
-use Rattle.fields.proofs.Nodes.{flag-cut, flag-node, flag-none, flag-off, flag-other, flag-zero}
+use Rattle.image_format.proofs.Nodes.{flag-cut, flag-node, flag-none, flag-off, flag-other, flag-zero}
 use Rattle.fields.proofs.flag_at.Statement.{statement}
 use Rattle.fields.proofs.flag_at.Tie as tie
 

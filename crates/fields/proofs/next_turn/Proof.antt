@@ -1,6 +1,6 @@
 -- `image::next_turn` meets its contract. Assumes nothing.
 use native.Mathlib.Omega.{arith}
-use Rattle.fields.proofs.Tables.{skips-least, skips-none}
+use Rattle.image_format.proofs.Tables.{skips-least, skips-none}
 use Rattle.fields.specs.Answers.{table-in}
 use Rattle.fields.proofs.next_turn.Statement.{statement}
 use Rattle.fields.proofs.next_turn.Tie as tie

@@ -3,7 +3,7 @@ use native.Mathlib.Omega.{arith}
 use mathlib.Core.Path.{_∙_, refl}
 use borrow.Author.Needs.{needs}
 use Rattle.fields.proofs.AnswerLaws.{table-right, table-with}
-use Rattle.fields.proofs.Tables.{open-dense, open-dense-cut}
+use Rattle.image_format.proofs.Tables.{open-dense, open-dense-cut}
 use Rattle.fields.proofs.open_dense.Statement.{statement}
 use Rattle.fields.proofs.open_dense.Tie as tie
 

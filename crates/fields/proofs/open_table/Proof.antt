@@ -5,7 +5,7 @@ use mathlib.Core.Path.{_∙_, ap, refl, sym}
 use borrow.Author.Needs.{needs}
 use borrow.Author.Tests.{not-false, not-true}
 use Rattle.fields.proofs.AnswerLaws.{table-right, table-with}
-use Rattle.fields.proofs.Tables.{open-count, open-cut, open-dense, open-fault, open-ready, range-most, table-turns}
+use Rattle.image_format.proofs.Tables.{open-count, open-cut, open-dense, open-fault, open-ready, range-most, table-turns}
 use Rattle.image_format.specs.Reading.{open-table, table-fault}
 use Rattle.fields.proofs.open_table.Statement.{statement}
 use Rattle.fields.proofs.open_table.Tie as tie

@@ -5,7 +5,7 @@ use mathlib.Core.Path.{_∙_, _≡_, refl, sym}
 use lib.ListN.{getD}
 use borrow.Author.Needs.{needs}
 use Rattle.fields.proofs.AnswerLaws.{head-right, head-with, list-refused, list-right}
-use Rattle.fields.proofs.Heads.{head-end, head-lists, head-over, head-zero, list-bound, lists-cut, lists-cut-2, lists-cut-3, lists-ready}
+use Rattle.image_format.proofs.Heads.{head-end, head-lists, head-over, head-zero, list-bound, lists-cut, lists-cut-2, lists-cut-3, lists-ready}
 use Rattle.image_format.specs.Reading.{past, read-head, read-list, read-lists}
 use Rattle.fields.proofs.read_head.Statement.{statement}
 use Rattle.fields.proofs.read_head.Tie as tie

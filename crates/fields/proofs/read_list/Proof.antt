@@ -2,7 +2,7 @@
 use native.Mathlib.Omega.{arith}
 use mathlib.Core.Path.{_∙_, refl, sym}
 use Rattle.fields.proofs.AnswerLaws.{list-right, list-with}
-use Rattle.fields.proofs.Heads.{list-cut, list-past, list-short}
+use Rattle.image_format.proofs.Heads.{list-cut, list-past, list-short}
 use borrow.Author.Needs.{needs}
 use Rattle.fields.proofs.read_list.Statement.{statement}
 use Rattle.fields.proofs.read_list.Tie as tie

@@ -1,8 +1,8 @@
 -- `image::turn_at` meets its contract. Assumes nothing.
 use native.Mathlib.Omega.{arith}
 use borrow.Author.Needs.{needs}
-use Rattle.fields.proofs.Nodes.{turn-by, turn-read}
-use Rattle.fields.proofs.Tables.{slot-arrival, slot-byte, slot-dense, slot-skip}
+use Rattle.image_format.proofs.Nodes.{turn-by, turn-read}
+use Rattle.image_format.proofs.Tables.{slot-arrival, slot-byte, slot-dense, slot-skip}
 use Rattle.fields.specs.Answers.{table-in}
 use Rattle.image_format.specs.Reading.{find-byte, skip}
 use Rattle.fields.proofs.turn_at.Statement.{statement}

@@ -5,10 +5,10 @@ use mathlib.Core.Path.{_∙_, _≡_, ap, refl, sym}
 use lib.ListN.{length}
 use borrow.Author.Needs.{needs}
 use Rattle.fields.proofs.AnswerLaws.{head-refused, head-right, step-refused, step-right, step-with, table-refused, table-right}
-use Rattle.image.proofs.EndedWell.{head-inv}
-use Rattle.fields.proofs.Heads.{head-bound}
-use Rattle.fields.proofs.Nodes.{child-by, child-sum, node-done, node-head, node-open, node-table, node-zero, run-end, run-on, run-refused, run-skip, run-start, run-to, table-sum, turn-there, turn-wrong}
-use Rattle.fields.proofs.Tables.{open-within}
+use Rattle.image_format.proofs.EndedWell.{head-inv}
+use Rattle.image_format.proofs.Heads.{head-bound}
+use Rattle.image_format.proofs.Nodes.{child-by, child-sum, node-done, node-head, node-open, node-table, node-zero, run-end, run-on, run-refused, run-skip, run-start, run-to, table-sum, turn-there, turn-wrong}
+use Rattle.image_format.proofs.Tables.{open-within}
 use Rattle.fields.specs.Answers.{table-in, turn-of}
 use Rattle.image_format.specs.Reading.{all-met, child, gap, none-due, open-table, read-head, read-node, read-table, read-turns, turn-at, wrong}
 use borrow.Fn.Kinds.{In}

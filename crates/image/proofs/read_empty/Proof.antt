@@ -5,7 +5,7 @@ use mathlib.Core.Path.{_∙_, _≡_, ap, refl, sym}
 use lib.ListN.{length}
 use borrow.Author.Needs.{needs}
 use Rattle.fields.proofs.AnswerLaws.{step-right, step-with}
-use Rattle.image.proofs.Roots.{counts-cut, counts-end, counts-on, counts-wrong}
+use Rattle.image_format.proofs.Roots.{counts-cut, counts-end, counts-on, counts-wrong}
 use Rattle.image_format.specs.Reading.{done, read-counts}
 use Rattle.image.proofs.read_empty.Statement.{statement}
 use Rattle.image.proofs.read_empty.Tie as tie

@@ -2,7 +2,7 @@
 use mathlib.Core.Path.{_∙_, sym}
 use borrow.Author.Needs.{needs}
 use Rattle.fields.proofs.AnswerLaws.{step-refused, step-right}
-use Rattle.image.proofs.Roots.{image-left-over, image-refused, image-right}
+use Rattle.image_format.proofs.Roots.{image-left-over, image-refused, image-right}
 use Rattle.image_format.specs.Reading.{read-root}
 use Rattle.image.proofs.read_image.Statement.{statement}
 use Rattle.image.proofs.read_image.Tie as tie

@@ -3,7 +3,7 @@ use native.Mathlib.Omega.{arith}
 use mathlib.Core.Path.{_∙_}
 use borrow.Author.Needs.{needs}
 use Rattle.fields.proofs.AnswerLaws.{step-with}
-use Rattle.image.proofs.Roots.{root-cut, root-empty, root-node}
+use Rattle.image_format.proofs.Roots.{root-cut, root-empty, root-node}
 use Rattle.image_format.specs.Reading.{read-node}
 use Rattle.image.proofs.read_root.Statement.{statement}
 use Rattle.image.proofs.read_root.Tie as tie

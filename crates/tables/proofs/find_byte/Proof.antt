@@ -3,7 +3,7 @@ use Prim.Native.Nat.{_-_, _≤_, ℕ}
 use native.Mathlib.Omega.{arith}
 use mathlib.Core.Path.{_∙_, _≡_, ap}
 use borrow.Author.Needs.{needs}
-use Rattle.tables.proofs.Entries.{find-end, find-here, find-on}
+use Rattle.image_format.proofs.Entries.{find-end, find-here, find-on}
 use Rattle.image_format.specs.Reading.{find-byte}
 use Rattle.tables.proofs.find_byte.Statement.{statement}
 use Rattle.tables.proofs.find_byte.Tie as tie

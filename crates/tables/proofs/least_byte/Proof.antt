@@ -3,8 +3,8 @@ use Prim.Native.Nat.{_*_, _+_, _-_, _≤_, ℕ}
 use native.Mathlib.Omega.{arith}
 use mathlib.Core.Path.{_≡_, subst}
 use borrow.Author.Needs.{needs}
-use Rattle.tables.proofs.Entries.{least-more, least-none}
-use Rattle.tables.specs.Entries.{Least}
+use Rattle.image_format.proofs.Entries.{least-more, least-none}
+use Rattle.image_format.specs.Entries.{Least}
 use Rattle.tables.proofs.least_byte.Statement.{statement}
 use Rattle.tables.proofs.least_byte.Tie as tie
 

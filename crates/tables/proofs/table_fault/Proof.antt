@@ -4,7 +4,7 @@ use native.Mathlib.Omega.{arith}
 use mathlib.Core.Path.{_∙_, _≡_, ap}
 use lib.ListN.{length}
 use borrow.Author.Needs.{needs}
-use Rattle.tables.proofs.Entries.{fault-cut, fault-end, fault-on, fault-short, fault-twice}
+use Rattle.image_format.proofs.Entries.{fault-cut, fault-end, fault-on, fault-short, fault-twice}
 use Rattle.image_format.specs.Reading.{table-fault}
 use Rattle.tables.proofs.table_fault.Statement.{statement}
 use Rattle.tables.proofs.table_fault.Tie as tie

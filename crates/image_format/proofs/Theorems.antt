@@ -14,22 +14,22 @@ use Rattle.words.specs.Holding.{Holds}
 use Rattle.words.proofs.Holding.{holds-append, holds-get}
 use Rattle.trie.specs.Build.{grow}
 use Rattle.trie.specs.Trie.{Lists, Node, Trie, empty, entries, entries-of, forest-entries, forest-nodes, leaf, nodes, root}
-use Rattle.image.proofs.ByByte.{Bytes, at-most}
-use Rattle.image.proofs.BytesRead.{holds-read}
-use Rattle.image.proofs.EndedWell.{never}
+use Rattle.image_format.proofs.ByByte.{Bytes, at-most}
+use Rattle.image_format.proofs.BytesRead.{holds-read}
+use Rattle.image_format.proofs.EndedWell.{never}
 use Rattle.image_format.proofs.KindRule.{Fits, fits-view, one, some-range, three, two}
-use Rattle.image.proofs.KindThree.{Distinct}
-use Rattle.image.proofs.NodeSound.{child-sound}
-use Rattle.image.proofs.ReadBack.{Limits, all-read, holds-in, node-back, node-length}
-use Rattle.image.proofs.Roots.{image-right, root-node}
-use Rattle.image.proofs.Shapes.{count-entries, count-nodes, fitting, node-fits, shaped-of}
-use Rattle.image.proofs.TrieBack.{node-held}
+use Rattle.image_format.proofs.KindThree.{Distinct}
+use Rattle.image_format.proofs.NodeSound.{child-sound}
+use Rattle.image_format.proofs.ReadBack.{Limits, all-read, holds-in, node-back, node-length}
+use Rattle.image_format.proofs.Roots.{image-right, root-node}
+use Rattle.image_format.proofs.Shapes.{count-entries, count-nodes, fitting, node-fits, shaped-of}
+use Rattle.image_format.proofs.TrieBack.{node-held}
 use Rattle.image_format.specs.Held.{node-in, trie-in}
 use Rattle.image_format.specs.Image.{Child, children-of, entries-in, image, node-bytes, node-size, nodes-in}
 use Rattle.image_format.specs.Kinds.{fits, kind-of}
 use Rattle.image_format.specs.Reading.{Step, done, fault, read-counts, read-image, read-node, read-root, refused, right, to-the-end}
 use Rattle.image_format.specs.Savable.{AllBytes, Savable, Shaped, ShapedNode}
 use Rattle.image_format.specs.Promises.{ImageRead, ReadImageIs}
 
 -- ── the trie of an image, by its first byte ──
 

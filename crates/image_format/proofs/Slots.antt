@@ -4,9 +4,9 @@ use native.Mathlib.Omega.{arith}
 use mathlib.Core.List.{List, [], _++_, _∷_}
 use mathlib.Core.Path.{_≡_, ap, refl}
 use borrow.Author.Tests.{eq-eqb, ne-eqb}
-use Rattle.image.proofs.ByByte.{at-absent}
-use Rattle.image.proofs.KindThree.{Missing}
+use Rattle.image_format.proofs.ByByte.{at-absent}
+use Rattle.image_format.proofs.KindThree.{Missing}
 use Rattle.image_format.specs.Image.{Child, slot-offsets, slot-size, slots-bytes, slots-size, with-byte}
 
 -- a child alone has its byte
 pub at-self : (seen : List Child) (k : Child) (rest : List Child) → Missing (k .byte) seen → Missing (k .byte) rest → with-byte (k .byte) (seen ++ (k ∷ rest)) ≡ k ∷ []

@@ -10,14 +10,14 @@ use Rattle.words.specs.Words.{bytes64, le64}
 use Rattle.words.specs.Holding.{Holds}
 use Rattle.words.proofs.Holding.{holds-at, holds-le, holds-left, holds-right}
 use Rattle.trie.specs.Trie.{Lists, entries, entries-of, nodes}
-use Rattle.image.proofs.ByByte.{Bytes, One, all-entries, all-length, all-nodes, at-most, at-read, just, nobody, one-at}
-use Rattle.image.proofs.Holding.{holds-head}
+use Rattle.image_format.proofs.ByByte.{Bytes, One, all-entries, all-length, all-nodes, at-most, at-read, just, nobody, one-at}
+use Rattle.image_format.proofs.Holding.{holds-head}
 use Rattle.image_format.proofs.KindRule.{fits-one, kind-one, one}
-use Rattle.image.proofs.KindThree.{AllRead, Distinct}
-use Rattle.fields.proofs.Nodes.{child-node, child-none, end-dense, node-done}
-use Rattle.fields.proofs.Tables.{open-dense, slot-dense}
+use Rattle.image_format.proofs.KindThree.{AllRead, Distinct}
+use Rattle.image_format.proofs.Nodes.{child-node, child-none, end-dense, node-done}
+use Rattle.image_format.proofs.Tables.{open-dense, slot-dense}
 use Rattle.image_format.specs.Image.{Child, ascending, entries-in, lists-bytes, lists-size, node-bytes, node-size, nodes-in, slot-bytes, slot-offsets, slot-size, slots-bytes, slots-size, table-bytes, table-size, with-byte}
 use Rattle.image_format.specs.Reading.{Table, all-met, behind, dense-table, done, open-table, read-child, read-node, read-table, read-turns, table}
 
 pub offsets-length : (m b at : ℕ) (ks : List Child) → length (slot-offsets m b at ks) ≡ m * 8
 unfolding slot-offsets

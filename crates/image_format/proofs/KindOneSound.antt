@@ -13,19 +13,19 @@ use Rattle.words.specs.Holding.{Holds}
 use Rattle.words.proofs.Holding.{holds-append, holds-at}
 use Rattle.trie.specs.Build.{grow}
 use Rattle.trie.specs.Trie.{Forest, Node, more}
-use Rattle.image.proofs.ByByte.{Bytes, Rising, at-absent, rising-absent, rising-less}
-use Rattle.image.proofs.BytesRead.{holds-read}
-use Rattle.image.proofs.EndedWell.{Turned, by-gap, by-node, child-at, run-last, run-turn}
-use Rattle.image.proofs.KindThree.{Distinct, Missing}
-use Rattle.fields.proofs.Nodes.{Bounded, node-bound}
-use Rattle.image.proofs.ReadBack.{Limits}
-use Rattle.image.proofs.Slots.{at-self, past-offsets, past-size, past-slots}
-use Rattle.image.proofs.Sound.{Sound}
-use Rattle.fields.proofs.Tables.{slot-dense}
+use Rattle.image_format.proofs.ByByte.{Bytes, Rising, at-absent, rising-absent, rising-less}
+use Rattle.image_format.proofs.BytesRead.{holds-read}
+use Rattle.image_format.proofs.EndedWell.{Turned, by-gap, by-node, child-at, run-last, run-turn}
+use Rattle.image_format.proofs.KindThree.{Distinct, Missing}
+use Rattle.image_format.proofs.Nodes.{Bounded, node-bound}
+use Rattle.image_format.proofs.ReadBack.{Limits}
+use Rattle.image_format.proofs.Slots.{at-self, past-offsets, past-size, past-slots}
+use Rattle.image_format.proofs.Sound.{Sound}
+use Rattle.image_format.proofs.Tables.{slot-dense}
 use Rattle.image_format.specs.Held.{dense-entries, forest-by}
 use Rattle.image_format.specs.Image.{Child, as-child, children-of, node-bytes, node-size, slot-bytes, slot-offsets, slot-size, slots-bytes, slots-size, with-byte}
 use Rattle.image_format.specs.Reading.{Table, done, read-node, read-turns}
 use Rattle.image_format.specs.Savable.{AllBytes}
 
 -- every byte is below b
 unfoldable pub Lower : ℕ → List Child → Type 0

@@ -14,19 +14,19 @@ use Rattle.words.proofs.Holding.{holds-append, holds-at}
 use Rattle.definitions.proofs.Views.{lt}
 use Rattle.trie.specs.Build.{grow}
 use Rattle.trie.specs.Trie.{Node}
-use Rattle.image.proofs.ByByte.{One, at-absent, below-on, just, nobody, one-at}
-use Rattle.image.proofs.BytesRead.{holds-read}
-use Rattle.image.proofs.EndedWell.{Turned, by-gap, by-node, child-at, child-skipped, fault-apart, find-none, find-self, run-last, run-turn}
+use Rattle.image_format.proofs.ByByte.{One, at-absent, below-on, just, nobody, one-at}
+use Rattle.image_format.proofs.BytesRead.{holds-read}
+use Rattle.image_format.proofs.EndedWell.{Turned, by-gap, by-node, child-at, child-skipped, fault-apart, find-none, find-self, run-last, run-turn}
 use Rattle.image_format.proofs.KindRule.{one, three}
-use Rattle.image.proofs.KindThree.{BytesAt, Distinct, Missing}
-use Rattle.image.proofs.KindTwo.{OffsAt}
-use Rattle.image.proofs.ReadBack.{Limits}
-use Rattle.image.proofs.Sound.{Sound, sparse-bytes, sparse-length}
-use Rattle.fields.proofs.Tables.{slot-byte, slot-skip}
+use Rattle.image_format.proofs.KindThree.{BytesAt, Distinct, Missing}
+use Rattle.image_format.proofs.KindTwo.{OffsAt}
+use Rattle.image_format.proofs.ReadBack.{Limits}
+use Rattle.image_format.proofs.Sound.{Sound, sparse-bytes, sparse-length}
+use Rattle.image_format.proofs.Tables.{slot-byte, slot-skip}
 use Rattle.image_format.specs.Held.{forest-by, sparse-entries}
 use Rattle.image_format.specs.Image.{Child, as-child, ascending, children-bytes, children-of, children-size, node-bytes, node-size, size-below, table-by-byte, with-byte}
 use Rattle.image_format.specs.Reading.{Table, done, find-byte, read-child, read-node, read-turns, table-fault}
 use Rattle.image_format.specs.Savable.{AllBytes}
 
 -- the child that a byte finds
 found-child : (s : List ℕ) (T : ℕ → Node) (base m j b i : ℕ) → i ≡ find-byte s base b m j → i < j + m → Missing b [] →

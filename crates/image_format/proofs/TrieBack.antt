@@ -13,18 +13,18 @@ use Rattle.words.specs.Words.{bytes64, le64}
 use Rattle.words.specs.Holding.{Holds}
 use Rattle.words.proofs.Holding.{holds-at, holds-le, holds-left, holds-right}
 use Rattle.trie.specs.Trie.{Forest, Lists, leaf, more}
-use Rattle.image.proofs.ByByte.{Bytes, Rising, all-size, below-most, below-zero}
-use Rattle.image.proofs.Holding.{head-length}
-use Rattle.image.proofs.KindOne.{bytes-one, offsets-length, size-one}
-use Rattle.image.proofs.KindThree.{AllRead, Distinct, bytes-three, size-three, table-holds, table-length}
-use Rattle.image.proofs.KindTwo.{bytes-two, offs-holds, offs-length, size-two}
-use Rattle.image.proofs.ListsBack.{entries-within, holds-lists}
-use Rattle.image.proofs.ReadBack.{Limits, Up, all-read}
-use Rattle.image.proofs.Spots.{Spots, spot-at, spots-one, spots-three, spots-two}
+use Rattle.image_format.proofs.ByByte.{Bytes, Rising, all-size, below-most, below-zero}
+use Rattle.image_format.proofs.Holding.{head-length}
+use Rattle.image_format.proofs.KindOne.{bytes-one, offsets-length, size-one}
+use Rattle.image_format.proofs.KindThree.{AllRead, Distinct, bytes-three, size-three, table-holds, table-length}
+use Rattle.image_format.proofs.KindTwo.{bytes-two, offs-holds, offs-length, size-two}
+use Rattle.image_format.proofs.ListsBack.{entries-within, holds-lists}
+use Rattle.image_format.proofs.ReadBack.{Limits, Up, all-read}
+use Rattle.image_format.proofs.Spots.{Spots, spot-at, spots-one, spots-three, spots-two}
 use Rattle.image_format.specs.Held.{Entry, dense-entries, forest-by, list-end, lists-in, node-in, sparse-entries, table-entries}
 use Rattle.image_format.specs.Image.{ascending, children-bytes, children-of, children-size, lists-bytes, lists-size, node-bytes, node-size, size-below, slot-offsets, slots-bytes, table-by-arrival, table-by-byte}
 use Rattle.image_format.specs.Kinds.{fits}
 use Rattle.image_format.specs.Savable.{AllFit, ListsFit}
 
 pub entries-sparse : (s : List ℕ) (at t n : ℕ) → (getD s at 0 ≡ 1 → ⊥) → list-end s (list-end s (list-end s (at + 1))) ≡ t → n ≡ le64 s t → sparse-entries s (t + 8) n 0 ≡ table-entries s at
 unfolding table-entries

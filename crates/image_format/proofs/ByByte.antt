@@ -8,8 +8,8 @@ use lib.Dec.{eqb, ltb}
 use lib.ListN.{length}
 use borrow.Author.Tests.{eqb-false, eqb-true, le-ltb, lt-ltb, ltb-false, ltb-true, ne-eqb}
 use Rattle.trie.specs.Trie.{entries, nodes}
-use Rattle.image.proofs.KindThree.{AllRead, Distinct, Missing}
+use Rattle.image_format.proofs.KindThree.{AllRead, Distinct, Missing}
 use Rattle.image_format.specs.Image.{Child, ascending, children-size, entries-in, nodes-in, size-below, with-byte}
 
 -- the sum of a measure
 unfoldable pub total : (Child → ℕ) → List Child → ℕ

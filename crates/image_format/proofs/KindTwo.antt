@@ -13,14 +13,14 @@ use Rattle.words.specs.Words.{bytes64, le64}
 use Rattle.words.specs.Holding.{Holds}
 use Rattle.words.proofs.Holding.{holds-at, holds-le, holds-left, holds-right}
 use Rattle.trie.specs.Trie.{Lists, entries, entries-of, nodes}
-use Rattle.image.proofs.ByByte.{Bytes, One, absent-at, all-entries, all-nodes, all-size, at-read, below-most, below-on, below-zero, just, nobody, one-at}
-use Rattle.image.proofs.Holding.{holds-head}
+use Rattle.image_format.proofs.ByByte.{Bytes, One, absent-at, all-entries, all-nodes, all-size, at-read, below-most, below-on, below-zero, just, nobody, one-at}
+use Rattle.image_format.proofs.Holding.{holds-head}
 use Rattle.image_format.proofs.KindRule.{fits-two, kind-two, one, three}
-use Rattle.image.proofs.KindThree.{AllRead, BytesAt, Distinct, fault-free, find-absent}
-use Rattle.fields.proofs.Nodes.{child-node, child-skip, end-sparse, node-done}
-use Rattle.fields.proofs.Tables.{open-ready, slot-byte, slot-skip}
+use Rattle.image_format.proofs.KindThree.{AllRead, BytesAt, Distinct, fault-free, find-absent}
+use Rattle.image_format.proofs.Nodes.{child-node, child-skip, end-sparse, node-done}
+use Rattle.image_format.proofs.Tables.{open-ready, slot-byte, slot-skip}
 use Rattle.image_format.specs.Image.{Child, ascending, children-bytes, children-size, entries-in, lists-bytes, lists-size, node-bytes, node-size, nodes-in, size-below, table-by-byte, table-bytes, table-size, with-byte}
 use Rattle.image_format.specs.Reading.{Table, all-met, behind, done, find-byte, open-table, read-child, read-node, read-table, read-turns, sparse-table, table, table-fault}
 
 -- bytes and offsets of the table, from number j on; `at` is where the children begin
 unfoldable pub OffsAt : List ℕ → ℕ → ℕ → List Child → ℕ → List Child → Type 0

@@ -10,17 +10,17 @@ use Rattle.words.specs.Holding.{Holds}
 use Rattle.words.proofs.Holding.{holds-append, holds-at}
 use Rattle.trie.specs.Build.{grow}
 use Rattle.trie.specs.Trie.{Node, more}
-use Rattle.image.proofs.BytesRead.{holds-read}
-use Rattle.image.proofs.EndedWell.{Turned, by-gap, by-node, child-at, run-last, run-turn}
+use Rattle.image_format.proofs.BytesRead.{holds-read}
+use Rattle.image_format.proofs.EndedWell.{Turned, by-gap, by-node, child-at, run-last, run-turn}
 use Rattle.image_format.proofs.KindRule.{one}
-use Rattle.image.proofs.KindThree.{TableAt}
-use Rattle.image.proofs.ReadBack.{Limits}
-use Rattle.image.proofs.Sound.{Sound}
-use Rattle.fields.proofs.Tables.{slot-arrival}
+use Rattle.image_format.proofs.KindThree.{TableAt}
+use Rattle.image_format.proofs.ReadBack.{Limits}
+use Rattle.image_format.proofs.Sound.{Sound}
+use Rattle.image_format.proofs.Tables.{slot-arrival}
 use Rattle.image_format.specs.Held.{forest-by, sparse-entries}
 use Rattle.image_format.specs.Image.{Child, as-child, children-bytes, children-of, children-size, node-bytes, node-size, table-by-arrival}
 use Rattle.image_format.specs.Reading.{Table, done, read-node, read-turns}
 use Rattle.image_format.specs.Savable.{AllBytes}
 
 module _ (s : List ℕ) (all : AllBytes s) (d : ℕ) (T : ℕ → Node)
     (snd : (x next k n e : ℕ) → done next k n e ≡ read-node s d x → Sound s d x next (T x)) where

@@ -11,9 +11,9 @@ use Rattle.words.specs.Holding.{Holds}
 use Rattle.words.proofs.Holding.{holds-at, holds-left, holds-right, holds-le}
 use Rattle.definitions.specs.Location.{Location, location-bytes, locations-bytes}
 use Rattle.trie.specs.Trie.{Lists, entries-of}
-use Rattle.fields.proofs.Heads.{head-lists, list-past, lists-ready}
+use Rattle.image_format.proofs.Heads.{head-lists, list-past, lists-ready}
 use Rattle.image_format.specs.Image.{list-bytes, lists-bytes, lists-size}
 use Rattle.image_format.specs.Reading.{head, past, read-head, read-list, read-lists}
 
 locs-length : (ls : List Location) → length (locations-bytes ls) ≡ 24 * length ls
 unfolding locations-bytes

@@ -12,13 +12,13 @@ use Rattle.words.specs.Words.{bytes64, le64}
 use Rattle.words.specs.Holding.{Holds}
 use Rattle.words.proofs.Holding.{holds-at, holds-le, holds-left, holds-right}
 use Rattle.trie.specs.Trie.{Forest, leaf, more}
-use Rattle.image.proofs.ByByte.{Bytes, One, Rising, absent-last, at-absent, at-read, below-on, just, later-absent, nobody, one-at, rising-absent, rising-less}
-use Rattle.image.proofs.KindThree.{AllRead, Distinct, Missing, TableAt}
-use Rattle.image.proofs.KindTwo.{OffsAt}
-use Rattle.image.proofs.Slots.{at-self, past-offsets, past-size, past-slots}
+use Rattle.image_format.proofs.ByByte.{Bytes, One, Rising, absent-last, at-absent, at-read, below-on, just, later-absent, nobody, one-at, rising-absent, rising-less}
+use Rattle.image_format.proofs.KindThree.{AllRead, Distinct, Missing, TableAt}
+use Rattle.image_format.proofs.KindTwo.{OffsAt}
+use Rattle.image_format.proofs.Slots.{at-self, past-offsets, past-size, past-slots}
 use Rattle.image_format.specs.Held.{Entry, dense-entries, sparse-entries}
 use Rattle.image_format.specs.Image.{Child, as-child, ascending, children-bytes, children-of, children-size, node-bytes, node-size, size-below, slot-bytes, slot-offsets, slot-size, slots-bytes, slots-size, with-byte}
 use Rattle.image_format.specs.Kinds.{fits}
 
 -- each entry leads to the child's bytes
 unfoldable pub Spots : List ℕ → List Entry → Forest → Type 0

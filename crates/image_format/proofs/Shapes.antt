@@ -8,12 +8,12 @@ use Rattle.definitions.specs.Location.{locations-in}
 use Rattle.words.proofs.Laws.{le64-lt}
 use Rattle.trie.specs.Rule.{Absent, Apart}
 use Rattle.trie.specs.Trie.{Forest, Lists, Node, forest-entries, forest-nodes, leaf, more}
-use Rattle.image.proofs.ByByte.{Bytes, Rising, absent-last, later-absent}
-use Rattle.image.proofs.KindThree.{Distinct, Missing}
-use Rattle.image.proofs.ReadBack.{Limits, Up}
+use Rattle.image_format.proofs.ByByte.{Bytes, Rising, absent-last, later-absent}
+use Rattle.image_format.proofs.KindThree.{Distinct, Missing}
+use Rattle.image_format.proofs.ReadBack.{Limits, Up}
 use Rattle.image_format.specs.Held.{Entry, forest-by, lists-in, node-in, table-entries}
 use Rattle.image_format.specs.Image.{Child, as-child, children-of, entries-in, nodes-in}
 use Rattle.image_format.specs.Savable.{AllBytes, AllFit, AllKept, Ascending, InBytes, Kept, ListsFit, LocationsFit, ShapedNode, Short, siblings}
 
 -- ── from the trie to its children ──
 

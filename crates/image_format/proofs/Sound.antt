@@ -9,14 +9,14 @@ use Rattle.words.specs.Words.{le64}
 use Rattle.words.specs.Holding.{Holds}
 use Rattle.words.proofs.Holding.{holds-append, holds-at}
 use Rattle.trie.specs.Trie.{Forest, Node, more}
-use Rattle.image.proofs.ByByte.{Bytes}
-use Rattle.image.proofs.BytesRead.{count-locs, list-read}
-use Rattle.image.proofs.Holding.{list-length}
-use Rattle.image.proofs.KindThree.{BytesAt}
-use Rattle.image.proofs.ReadBack.{Limits}
+use Rattle.image_format.proofs.ByByte.{Bytes}
+use Rattle.image_format.proofs.BytesRead.{count-locs, list-read}
+use Rattle.image_format.proofs.Holding.{list-length}
+use Rattle.image_format.proofs.KindThree.{BytesAt}
+use Rattle.image_format.proofs.ReadBack.{Limits}
 use Rattle.image_format.specs.Held.{forest-by, list-end, lists-in, sparse-entries}
 use Rattle.image_format.specs.Image.{as-child, children-of, list-bytes, lists-bytes, lists-size, node-bytes, node-size}
 use Rattle.image_format.specs.Savable.{AllBytes}
 
 -- a child that was read from x to next, of the trie t
 pub record Sound (s : List ℕ) (d x next : ℕ) (t : Node) : Type 0 where

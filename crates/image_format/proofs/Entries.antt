@@ -8,8 +8,8 @@ use mathlib.Core.Path.{_≡_, refl, subst}
 use lib.ListN.{getD, length}
 use borrow.Author.Tests.{eq-eqb, le-leb, le-ltb, lt-leb, lt-ltb, ne-eqb}
 use Rattle.definitions.proofs.Views.{lt-or-le}
-use Rattle.tables.specs.Entries.{Least, Nearer}
+use Rattle.image_format.specs.Entries.{Least, Nearer}
 use Rattle.image_format.specs.Reading.{find-byte, table-fault}
 
 pub find-end : (s : List ℕ) (base b n j : ℕ) → n ≤ j → j ≡ find-byte s base b (n - j) j
 unfolding find-byte
