@@ -12,7 +12,7 @@ use Rattle.image_format.proofs.Heads.{head-lists, list-past, lists-ready}
 use Rattle.image_format.proofs.Nodes.{child-node, end-sparse, node-done, node-table, run-end, run-on, run-refused, run-start}
 use Rattle.image_format.proofs.Tables.{open-ready, slot-arrival}
 use Rattle.image_format.proofs.Entries.{fault-end, fault-on}
-use Rattle.image_format.specs.Kinds.{fits}
+use Rattle.kinds.specs.Kinds.{fits}
 use Rattle.image_format.specs.Reading.{Step, Table, done, fault, head, offset, open-table, read-child, read-head, read-node, sparse-table, table}
 use Rattle.fields.specs.Thin.{Thin, ThinRun}
 

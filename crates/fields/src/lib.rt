@@ -192,7 +192,7 @@ pub fn open_table(s: &[u8], kind: u8, at: usize) -> Children
         return refuse_children(definitions::CUT_SHORT);
     }
     let n = words::get64(s, at) as usize;
-    if !image_format::fits_kind(kind, n) {
+    if !kinds::fits_kind(kind, n) {
         return refuse_children(definitions::IMAGE_BROKEN);
     }
     let base = at + 8;
@@ -269,7 +269,7 @@ pub fn all_met(c: Children, met: usize, at: usize, nodes: usize, entries: usize)
     ensures { λ r. ⌜ step-of r ≡ all-met (table-in c) at met nodes entries ⌝ }
 {
     if c.kind == 1 {
-        if !image_format::fits_kind(1, met) {
+        if !kinds::fits_kind(1, met) {
             return refuse(definitions::IMAGE_BROKEN);
         }
     }

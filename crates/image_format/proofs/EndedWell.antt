@@ -9,11 +9,11 @@ use lib.ListN.{getD, length, length-append}
 use borrow.Author.Tests.{eq-eqb, eqb-false, eqb-true, leb-false, leb-true, ltb-false}
 use Rattle.words.specs.Words.{le64}
 use Rattle.image_format.proofs.Heads.{list-bound}
-use Rattle.image_format.proofs.KindRule.{Fits, fits-view, one, three, two}
+use Rattle.kinds.proofs.KindRule.{Fits, fits-view, one, three, two}
 use Rattle.image_format.proofs.KindThree.{BytesAt, Distinct, Missing, bytes-snoc}
 use Rattle.image_format.specs.Held.{list-end}
 use Rattle.image_format.specs.Image.{Child}
-use Rattle.image_format.specs.Kinds.{fits}
+use Rattle.kinds.specs.Kinds.{fits}
 use Rattle.image_format.specs.Reading.{ListRead, Step, Table, all-met, behind, behind-list, by-turn, child, cut, dense-table, done, fault, find-byte, flag-turn, gap, head, no-head, no-table, offset, open-table, past, read-child, read-head, read-list, read-lists, read-turns, skip, slot-at, sparse-table, table, table-fault, turn-at, wrong}
 
 pub never : {A : Type 0} {next k a b c : ℕ} → done next k a b ≡ fault c → A

@@ -12,7 +12,7 @@ use Rattle.words.proofs.Holding.{holds-at, holds-le, holds-left, holds-right}
 use Rattle.trie.specs.Trie.{Lists, entries, entries-of, nodes}
 use Rattle.image_format.proofs.ByByte.{Bytes, One, all-entries, all-length, all-nodes, at-most, at-read, just, nobody, one-at}
 use Rattle.image_format.proofs.Holding.{holds-head}
-use Rattle.image_format.proofs.KindRule.{fits-one, kind-one, one}
+use Rattle.kinds.proofs.KindRule.{fits-one, kind-one, one}
 use Rattle.image_format.proofs.KindThree.{AllRead, Distinct}
 use Rattle.image_format.proofs.Nodes.{child-node, child-none, end-dense, node-done}
 use Rattle.image_format.proofs.Tables.{open-dense, slot-dense}

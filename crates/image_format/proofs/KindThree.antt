@@ -12,7 +12,7 @@ use Rattle.words.specs.Holding.{Holds}
 use Rattle.words.proofs.Holding.{holds-at, holds-le, holds-left, holds-right}
 use Rattle.trie.specs.Trie.{Lists, entries, entries-of, nodes}
 use Rattle.image_format.proofs.Holding.{holds-head}
-use Rattle.image_format.proofs.KindRule.{fits-three, kind-three, one}
+use Rattle.kinds.proofs.KindRule.{fits-three, kind-three, one}
 use Rattle.image_format.proofs.Nodes.{child-node, end-sparse, node-done}
 use Rattle.image_format.proofs.Tables.{open-ready, slot-arrival}
 use Rattle.image_format.specs.Image.{Child, children-bytes, children-size, entries-in, lists-bytes, lists-size, node-bytes, node-size, nodes-in, table-by-arrival, table-bytes, table-size}

@@ -12,7 +12,7 @@ use Rattle.trie.specs.Build.{grow}
 use Rattle.trie.specs.Trie.{Node, more}
 use Rattle.image_format.proofs.BytesRead.{holds-read}
 use Rattle.image_format.proofs.EndedWell.{Turned, by-gap, by-node, child-at, run-last, run-turn}
-use Rattle.image_format.proofs.KindRule.{one}
+use Rattle.kinds.proofs.KindRule.{one}
 use Rattle.image_format.proofs.KindThree.{TableAt}
 use Rattle.image_format.proofs.ReadBack.{Limits}
 use Rattle.image_format.proofs.Sound.{Sound}

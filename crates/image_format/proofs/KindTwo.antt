@@ -15,7 +15,7 @@ use Rattle.words.proofs.Holding.{holds-at, holds-le, holds-left, holds-right}
 use Rattle.trie.specs.Trie.{Lists, entries, entries-of, nodes}
 use Rattle.image_format.proofs.ByByte.{Bytes, One, absent-at, all-entries, all-nodes, all-size, at-read, below-most, below-on, below-zero, just, nobody, one-at}
 use Rattle.image_format.proofs.Holding.{holds-head}
-use Rattle.image_format.proofs.KindRule.{fits-two, kind-two, one, three}
+use Rattle.kinds.proofs.KindRule.{fits-two, kind-two, one, three}
 use Rattle.image_format.proofs.KindThree.{AllRead, BytesAt, Distinct, fault-free, find-absent}
 use Rattle.image_format.proofs.Nodes.{child-node, child-skip, end-sparse, node-done}
 use Rattle.image_format.proofs.Tables.{open-ready, slot-byte, slot-skip}

@@ -17,7 +17,7 @@ use Rattle.trie.specs.Trie.{Node}
 use Rattle.image_format.proofs.ByByte.{One, at-absent, below-on, just, nobody, one-at}
 use Rattle.image_format.proofs.BytesRead.{holds-read}
 use Rattle.image_format.proofs.EndedWell.{Turned, by-gap, by-node, child-at, child-skipped, fault-apart, find-none, find-self, run-last, run-turn}
-use Rattle.image_format.proofs.KindRule.{one, three}
+use Rattle.kinds.proofs.KindRule.{one, three}
 use Rattle.image_format.proofs.KindThree.{BytesAt, Distinct, Missing}
 use Rattle.image_format.proofs.KindTwo.{OffsAt}
 use Rattle.image_format.proofs.ReadBack.{Limits}

@@ -1,4 +1,3 @@
-pub mod KindRule
 pub mod Entries
 pub mod Heads
 pub mod Tables

@@ -11,7 +11,7 @@ use Rattle.words.proofs.Holding.{holds-at, holds-le, holds-left, holds-right}
 use Rattle.definitions.specs.Location.{Location, locations-in, locations-bytes}
 use Rattle.trie.specs.Trie.{Lists, entries-of}
 use Rattle.image_format.proofs.Holding.{list-length}
-use Rattle.image_format.proofs.KindRule.{one, two}
+use Rattle.kinds.proofs.KindRule.{one, two}
 use Rattle.image_format.specs.Held.{list-end, lists-in}
 use Rattle.image_format.specs.Image.{list-bytes, lists-bytes, lists-size}
 use Rattle.image_format.specs.Savable.{ListsFit, LocationsFit}

@@ -16,7 +16,7 @@ use Rattle.image_format.proofs.EndedWell.{Open, dense, fault-apart, hea
 use Rattle.image_format.proofs.Holding.{head-length}
 use Rattle.image_format.proofs.KindOne.{bytes-one, offsets-length, size-one}
 use Rattle.image_format.proofs.KindOneSound.{apart-rising, lower-nil, one-inv}
-use Rattle.image_format.proofs.KindRule.{Fits, fits-view, one, three, two}
+use Rattle.kinds.proofs.KindRule.{Fits, fits-view, one, three, two}
 use Rattle.image_format.proofs.KindThree.{BytesAt, Distinct, bytes-three, size-three, table-length}
 use Rattle.image_format.proofs.KindThreeSound.{table-back, three-inv}
 use Rattle.image_format.proofs.KindTwo.{bytes-two, offs-length, size-two}

@@ -13,7 +13,7 @@ use borrow.Author.Tests.{eq-eqb, le-leb, leb-false, lt-leb, ne-eqb}
 use Rattle.image_format.proofs.Heads.{head-bound}
 use Rattle.image_format.proofs.Tables.{open-within}
 use Rattle.image_format.specs.Turns.{Skips}
-use Rattle.image_format.specs.Kinds.{fits}
+use Rattle.kinds.specs.Kinds.{fits}
 use Rattle.image_format.specs.Reading.{HeadRead, Slot, Step, Table, TableRead, Turn, all-met, behind, behind-head, behind-table, by-turn, child, done, fault, flag-turn, gap, head, no-head, no-table, none-due, offset, open-table, read-child, read-head, read-node, read-table, read-turns, skip, slot-at, slot-turn, table, turn-at, wrong}
 
 -- ── what stands where a flag is due ──

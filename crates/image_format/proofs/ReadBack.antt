@@ -18,7 +18,7 @@ use Rattle.image_format.proofs.KindOne.{back-one, offsets-length, slot-
 use Rattle.image_format.proofs.KindThree.{AllRead, Distinct, back-three, children-length, table-length}
 use Rattle.image_format.proofs.KindTwo.{back-two, offs-length}
 use Rattle.image_format.specs.Image.{Child, as-child, ascending, children-bytes, children-of, children-size, entries-in, lists-size, node-bytes, node-size, nodes-in, slot-bytes, slot-offsets, slot-size, slots-bytes, slots-size, table-by-arrival, table-by-byte, table-bytes, table-size, with-byte}
-use Rattle.image_format.specs.Kinds.{kind-of}
+use Rattle.kinds.specs.Kinds.{kind-of}
 use Rattle.image_format.specs.Reading.{done, read-node}
 
 append-read : (d : ℕ) (xs ys : List Child) → AllRead d xs → AllRead d ys → AllRead d (xs ++ ys)

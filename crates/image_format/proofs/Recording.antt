@@ -9,7 +9,7 @@ use Rattle.definitions.specs.Starred.{bytes-at}
 use Rattle.trie.specs.Build.{trie-of}
 use Rattle.trie.specs.Trie.{Forest, leaf, more, no-lists, root}
 use Rattle.image_format.specs.Image.{as-child, children-bytes, children-of, children-size, image, list-bytes, lists-bytes, lists-size, node-bytes, node-size, table-by-arrival, table-bytes, table-size}
-use Rattle.image_format.specs.Kinds.{fits, kind-of}
+use Rattle.kinds.specs.Kinds.{fits, kind-of}
 use Rattle.image_format.specs.Reading.{Layout, all-met, find-byte, open-table, read-child, read-counts, read-head, read-image, read-list, read-lists, read-node, read-root, read-table, read-turns, refused, right, slot-at, table-fault, turn-at}
 
 -- one block 61 at 5, 1-2: an image of 124 bytes, with the offset 66 in its table

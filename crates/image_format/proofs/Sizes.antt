@@ -10,12 +10,12 @@ use lib.ListN.{length, length-replicate}
 use Rattle.definitions.proofs.Views.{lt-or-le}
 use Rattle.trie.specs.Trie.{Forest, Lists, Trie, empty, entries, entries-of, leaf, more, nodes, root}
 use Rattle.image_format.proofs.ByByte.{Bytes, One, all-length, all-size, at-most, just, nobody, one-at}
-use Rattle.image_format.proofs.KindRule.{kind-one, kind-three, kind-two}
+use Rattle.kinds.proofs.KindRule.{kind-one, kind-three, kind-two}
 use Rattle.image_format.proofs.KindThree.{Distinct}
 use Rattle.image_format.proofs.ReadBack.{Limits, all-read, node-length}
 use Rattle.image_format.proofs.Shapes.{count-entries, count-nodes, fitting}
 use Rattle.image_format.specs.Image.{Child, as-child, ascending, children-of, children-size, entries-in, image, lists-size, node-size, nodes-in, slot-size, slots-size, table-size, with-byte}
-use Rattle.image_format.specs.Kinds.{kind-of}
+use Rattle.kinds.specs.Kinds.{kind-of}
 use Rattle.image_format.specs.Savable.{Savable, Shaped}
 use Rattle.image_format.specs.Promises.{ImageSize}
 

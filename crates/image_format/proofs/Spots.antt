@@ -18,7 +18,7 @@ use Rattle.image_format.proofs.KindTwo.{OffsAt}
 use Rattle.image_format.proofs.Slots.{at-self, past-offsets, past-size, past-slots}
 use Rattle.image_format.specs.Held.{Entry, dense-entries, sparse-entries}
 use Rattle.image_format.specs.Image.{Child, as-child, ascending, children-bytes, children-of, children-size, node-bytes, node-size, size-below, slot-bytes, slot-offsets, slot-size, slots-bytes, slots-size, with-byte}
-use Rattle.image_format.specs.Kinds.{fits}
+use Rattle.kinds.specs.Kinds.{fits}
 
 -- each entry leads to the child's bytes
 unfoldable pub Spots : List ℕ → List Entry → Forest → Type 0

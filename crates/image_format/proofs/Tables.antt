@@ -11,10 +11,10 @@ use lib.ListN.{getD, length}
 use borrow.Author.Tests.{eq-eqb, eqb-false, eqb-true, le-leb, le-ltb, leb-true, lt-leb, lt-ltb, ltb-false, ne-eqb}
 use Rattle.words.specs.Words.{le64}
 use Rattle.trie.specs.Trie.{entries}
-use Rattle.image_format.proofs.KindRule.{Fits, fits-view, one, three, two}
+use Rattle.kinds.proofs.KindRule.{Fits, fits-view, one, three, two}
 use Rattle.image_format.specs.Turns.{Skips, Within}
 use Rattle.image_format.specs.Entries.{Least}
-use Rattle.image_format.specs.Kinds.{fits}
+use Rattle.kinds.specs.Kinds.{fits}
 use Rattle.image_format.specs.Reading.{Table, dense-table, find-byte, no-table, offset, open-table, skip, slot-at, sparse-table, table, table-fault}
 
 pub find-most : (s : List ℕ) (base b k j : ℕ) → find-byte s base b k j ≤ j + k

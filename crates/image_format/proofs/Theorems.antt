@@ -17,7 +17,7 @@ use Rattle.trie.specs.Trie.{Lists, Node, Trie, empty, entries, entries-of, fore
 use Rattle.image_format.proofs.ByByte.{Bytes, at-most}
 use Rattle.image_format.proofs.BytesRead.{holds-read}
 use Rattle.image_format.proofs.EndedWell.{never}
-use Rattle.image_format.proofs.KindRule.{Fits, fits-view, one, some-range, three, two}
+use Rattle.kinds.proofs.KindRule.{Fits, fits-view, one, some-range, three, two}
 use Rattle.image_format.proofs.KindThree.{Distinct}
 use Rattle.image_format.proofs.NodeSound.{child-sound}
 use Rattle.image_format.proofs.ReadBack.{Limits, all-read, holds-in, node-back, node-length}
@@ -26,7 +26,7 @@ use Rattle.image_format.proofs.Shapes.{count-entries, count-nodes, fitt
 use Rattle.image_format.proofs.TrieBack.{node-held}
 use Rattle.image_format.specs.Held.{node-in, trie-in}
 use Rattle.image_format.specs.Image.{Child, children-of, entries-in, image, node-bytes, node-size, nodes-in}
-use Rattle.image_format.specs.Kinds.{fits, kind-of}
+use Rattle.kinds.specs.Kinds.{fits, kind-of}
 use Rattle.image_format.specs.Reading.{Step, done, fault, read-counts, read-image, read-node, read-root, refused, right, to-the-end}
 use Rattle.image_format.specs.Savable.{AllBytes, Savable, Shaped, ShapedNode}
 use Rattle.image_format.specs.Promises.{ImageRead, ReadImageIs}

@@ -23,7 +23,7 @@ use Rattle.image_format.proofs.ReadBack.{Limits, Up, all-read}
 use Rattle.image_format.proofs.Spots.{Spots, spot-at, spots-one, spots-three, spots-two}
 use Rattle.image_format.specs.Held.{Entry, dense-entries, forest-by, list-end, lists-in, node-in, sparse-entries, table-entries}
 use Rattle.image_format.specs.Image.{ascending, children-bytes, children-of, children-size, lists-bytes, lists-size, node-bytes, node-size, size-below, slot-offsets, slots-bytes, table-by-arrival, table-by-byte}
-use Rattle.image_format.specs.Kinds.{fits}
+use Rattle.kinds.specs.Kinds.{fits}
 use Rattle.image_format.specs.Savable.{AllFit, ListsFit}
 
 pub entries-sparse : (s : List ℕ) (at t n : ℕ) → (getD s at 0 ≡ 1 → ⊥) → list-end s (list-end s (list-end s (at + 1))) ≡ t → n ≡ le64 s t → sparse-entries s (t + 8) n 0 ≡ table-entries s at

@@ -7,7 +7,7 @@ use lib.Dec.{ltb, eqb}
 use Rattle.words.specs.Words.{bytes64}
 use Rattle.definitions.specs.Location.{Location, locations-bytes}
 use Rattle.trie.specs.Trie.{Lists, Forest, leaf, more, Trie, empty, root, entries-of}
-use Rattle.image_format.specs.Kinds.{kind-of}
+use Rattle.kinds.specs.Kinds.{kind-of}
 
 -- ── lists: a count (8) and 24 bytes a location ──
 

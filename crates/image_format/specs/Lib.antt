@@ -1,4 +1,3 @@
-pub mod Kinds
 pub mod Image
 pub mod Reading
 pub mod Held

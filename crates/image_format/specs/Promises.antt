@@ -1,22 +1,13 @@
 -- What a reader may conclude of images. Assumes nothing.
 use Prim.Native.Nat.{ℕ, _+_, _*_, _^_, _≤_, _<_}
 use mathlib.Core.Path.{_≡_}
-use mathlib.Core.Bool.{true}
 use mathlib.Core.List.{List}
 use lib.ListN.{length}
 use Rattle.trie.specs.Trie.{Trie, nodes, entries}
-use Rattle.image_format.specs.Kinds.{fits, kind-of}
 use Rattle.image_format.specs.Image.{image}
 use Rattle.image_format.specs.Held.{trie-in}
 use Rattle.image_format.specs.Reading.{right, read-image}
 use Rattle.image_format.specs.Savable.{AllBytes, Shaped, Savable}
-
--- every count of children has its kind, and no other kind's range has it
-abbrev pub SomeRange : Type 0
-SomeRange = (n : ℕ) → n ≤ 256 → fits (kind-of n) n ≡ true
-
-abbrev pub OneRange : Type 0
-OneRange = (k n : ℕ) → fits k n ≡ true → (n ≤ 256) × (k ≡ kind-of n)
 
 -- an image is read right, and gives back its trie
 abbrev pub ImageRead : Type 0

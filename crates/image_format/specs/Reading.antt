@@ -7,7 +7,7 @@ use lib.ListN.{length, getD}
 use lib.Dec.{leb, ltb, eqb}
 use Rattle.words.specs.Words.{le64}
 use Rattle.definitions.specs.Causes.{number, cut-short, unknown-kind, image-broken}
-use Rattle.image_format.specs.Kinds.{fits}
+use Rattle.kinds.specs.Kinds.{fits}
 
 -- ── lists ──
 

@@ -13,7 +13,7 @@ use Rattle.definitions.proofs.Views.{Eq, eq}
 use Rattle.trie.specs.Trie.{Forest, leaf, Node}
 use Rattle.image_format.specs.Held.{Entry, table-entries}
 use Rattle.image_format.specs.Image.{children-of, node-bytes}
-use Rattle.image_format.specs.Kinds.{kind-of}
+use Rattle.kinds.specs.Kinds.{kind-of}
 use Rattle.image_walk.specs.Parts.{behind-lists, table-at, children-at, parts-at}
 use Rattle.image_walk.specs.Tables.{slot-in, slots-from}
 use Rattle.image_walk.specs.Bounds.{Bounds}

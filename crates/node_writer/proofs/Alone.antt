@@ -14,7 +14,7 @@ use Rattle.words.proofs.Holding.{holds-at, holds-append}
 use Rattle.trie.specs.Trie.{Lists, Forest, leaf, more, Node, entries-of, forest-nodes, forest-entries}
 use Rattle.tails.specs.Tails.{Tail}
 use Rattle.tails.specs.Groups.{ends-as, after-run, byte-at, below, groups, group-lists, group-node}
-use Rattle.image_format.specs.Kinds.{kind-of}
+use Rattle.kinds.specs.Kinds.{kind-of}
 use Rattle.image_format.specs.Image.{Child, as-child, children-of, lists-bytes, lists-size, children-bytes, children-size, table-by-arrival, table-bytes, table-size, node-bytes, node-size}
 use Rattle.image_format.proofs.Holding.{head-length}
 use Rattle.tails.specs.Weights.{weights, group-weights}

@@ -14,12 +14,12 @@ use Rattle.words.proofs.Parts.{length-bytes64}
 use Rattle.words.proofs.Holding.{holds-at, holds-append, holds-ext}
 use Rattle.definitions.proofs.Views.{Eq, eq, lt-or-le}
 use Rattle.tails.specs.Groups.{Group, by-arrival, kept-groups}
-use Rattle.image_format.specs.Kinds.{kind-of}
+use Rattle.kinds.specs.Kinds.{kind-of}
 use Rattle.image_format.specs.Image.{Child, nodes-in, entries-in, children-size, children-bytes, size-below, ascending, table-by-arrival, table-by-byte, slot-offsets, slots-bytes, slots-size, table-bytes, table-size}
 use Rattle.image_format.proofs.ByByte.{total-nodes, total-entries}
 use Rattle.image_format.proofs.KindOne.{offsets-length}
 use Rattle.image_format.proofs.KindThree.{table-length}
-use Rattle.image_format.proofs.KindRule.{kind-one, kind-two, kind-three}
+use Rattle.kinds.proofs.KindRule.{kind-one, kind-two, kind-three}
 use Rattle.tails.specs.Weights.{group-weights}
 use Rattle.tail_records.specs.Found.{no-group}
 use Rattle.tail_records.specs.Ranks.{rank-of, with-rank, firsts}

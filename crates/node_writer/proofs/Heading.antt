@@ -16,7 +16,7 @@ use Rattle.tails.proofs.High.{sound-bytes}
 use Rattle.tails.proofs.Keep.{keep, keep-mem, Kept, pairs-keep}
 use Rattle.tails.proofs.Runs.{longer, longer-is, below-here, bytes-upto}
 use Rattle.tails.proofs.Budget.{budget}
-use Rattle.image_format.specs.Kinds.{kind-of}
+use Rattle.kinds.specs.Kinds.{kind-of}
 use Rattle.image_format.specs.Image.{lists-bytes, lists-size}
 use Rattle.tails.specs.Runs.{Pairs, Run}
 use Rattle.tails.specs.Weights.{weights, group-weights}

@@ -15,7 +15,7 @@ use Rattle.tails.proofs.High.{sound-bytes}
 use Rattle.tails.proofs.Keep.{keep-mem}
 use Rattle.tails.proofs.Runs.{goes, goes-is, longer, below-here}
 use Rattle.tails.proofs.Groups.{mem-bytes, groups-rising, group-run, byte-goes}
-use Rattle.image_format.specs.Kinds.{kind-of}
+use Rattle.kinds.specs.Kinds.{kind-of}
 use Rattle.image_format.specs.Image.{Child, children-of, nodes-in, entries-in, lists-bytes, lists-size, table-bytes, table-size, node-bytes, node-size}
 use Rattle.image_format.proofs.Holding.{head-length}
 use Rattle.image_format.proofs.ByByte.{total-nodes}

@@ -9,7 +9,7 @@ use lib.Dec.{eqb}
 use Rattle.words.specs.Words.{bytes64}
 use Rattle.words.proofs.Parts.{length-bytes64}
 use Rattle.trie.specs.Trie.{Lists, Forest, leaf, more}
-use Rattle.image_format.specs.Kinds.{kind-of}
+use Rattle.kinds.specs.Kinds.{kind-of}
 use Rattle.image_format.specs.Image.{Child, children-bytes, children-size, table-by-arrival, table-by-byte, size-below, with-byte, ascending, slot-size, slot-bytes, slot-offsets, slots-bytes, slots-size, table-bytes, table-size, lists-bytes, lists-size, node-bytes, node-size, as-child, children-of}
 use Rattle.image_format.proofs.Holding.{head-length}
 use Rattle.image_format.proofs.KindThree.{table-length}

@@ -15,7 +15,7 @@ use Rattle.words.proofs.Parts.{getD-sets-out, length-bytes64}
 use Rattle.definitions.proofs.Views.{Eq, eq}
 use Rattle.trie.specs.Trie.{Node, entries-of, forest-nodes, forest-entries}
 use Rattle.tails.specs.Groups.{Group, group-node}
-use Rattle.image_format.specs.Kinds.{kind-of}
+use Rattle.kinds.specs.Kinds.{kind-of}
 use Rattle.image_format.specs.Image.{Child, children-of, children-size, nodes-in, entries-in, slots-size, node-bytes, node-size}
 use Rattle.tails.specs.Runs.{Run}
 use Rattle.tails.specs.Weights.{weights}

@@ -9,8 +9,8 @@ use lib.Seq.{sets}
 use Rattle.words.specs.Words.{bytes64}
 use Rattle.definitions.proofs.Views.{lt-or-le}
 use Rattle.tails.specs.Groups.{byte-at}
-use Rattle.image_format.specs.Kinds.{kind-of}
-use Rattle.image_format.proofs.KindRule.{kind-one, kind-two, kind-three}
+use Rattle.kinds.specs.Kinds.{kind-of}
+use Rattle.kinds.proofs.KindRule.{kind-one, kind-two, kind-three}
 use Rattle.tail_records.specs.Tail.{tail-in, record-in, ValidRecord}
 use Rattle.tail_records.specs.Ranks.{rank-of, with-rank, firsts}
 use Rattle.tail_records.proofs.Buffer.{grouped-firsts}

@@ -16,9 +16,9 @@ use Rattle.definitions.proofs.Views.{Eq, eq, lt-or-le}
 use Rattle.trie.specs.Build.{Rising}
 use Rattle.tails.specs.Tails.{Tail}
 use Rattle.tails.specs.Groups.{Group, groups, bytes-of}
-use Rattle.image_format.specs.Kinds.{kind-of}
+use Rattle.kinds.specs.Kinds.{kind-of}
 use Rattle.image_format.specs.Image.{Child, nodes-in, entries-in}
-use Rattle.image_format.proofs.KindRule.{kind-one, kind-two, kind-three}
+use Rattle.kinds.proofs.KindRule.{kind-one, kind-two, kind-three}
 use Rattle.tails.specs.Runs.{Run}
 use Rattle.tails.specs.Weights.{group-weights}
 use Rattle.tail_records.specs.Tail.{tail-in, tails-in}

@@ -8,7 +8,7 @@ use Rattle.words.specs.Holding.{Holds}
 use Rattle.definitions.specs.Location.{normal}
 use Rattle.trie.specs.Trie.{Lists, entries-of}
 use Rattle.tails.specs.Groups.{locations-of, wholes, below, group-lists, groups}
-use Rattle.image_format.specs.Kinds.{kind-of}
+use Rattle.kinds.specs.Kinds.{kind-of}
 use Rattle.image_format.specs.Image.{lists-bytes, lists-size}
 use Rattle.tails.specs.Runs.{Run}
 use Rattle.tails.specs.Weights.{weights, group-weights}

@@ -8,7 +8,7 @@ use Rattle.trie.specs.Trie.{Node, entries-of, forest-nodes, forest-entries}
 use Rattle.trie.specs.Build.{Rising}
 use Rattle.tails.specs.Tails.{Tail}
 use Rattle.tails.specs.Groups.{Group, kept-groups, group-node, bytes-of}
-use Rattle.image_format.specs.Kinds.{kind-of}
+use Rattle.kinds.specs.Kinds.{kind-of}
 use Rattle.image_format.specs.Image.{Child, children-of, nodes-in, entries-in, table-bytes, table-size, node-bytes, node-size}
 use Rattle.tails.specs.Runs.{Run}
 use Rattle.tails.specs.Weights.{weights, group-weights}

@@ -7,7 +7,7 @@ use Rattle.words.specs.Words.{bytes64}
 use Rattle.words.specs.Holding.{Holds}
 use Rattle.trie.specs.Trie.{Node, entries-of, forest-nodes, forest-entries}
 use Rattle.tails.specs.Groups.{byte-at, group-lists}
-use Rattle.image_format.specs.Kinds.{kind-of}
+use Rattle.kinds.specs.Kinds.{kind-of}
 use Rattle.image_format.specs.Image.{children-of, lists-size, node-bytes, node-size}
 use Rattle.tails.specs.Runs.{Run}
 use Rattle.tails.specs.Weights.{weights}

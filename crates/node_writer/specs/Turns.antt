@@ -6,7 +6,7 @@ use lib.ListN.{length, getD, set}
 use lib.Seq.{sets}
 use Rattle.words.specs.Words.{bytes64}
 use Rattle.tails.specs.Groups.{Group, groups}
-use Rattle.image_format.specs.Kinds.{kind-of}
+use Rattle.kinds.specs.Kinds.{kind-of}
 use Rattle.tail_records.specs.Tail.{tails-in, Held}
 use Rattle.tail_records.specs.Found.{no-group, Grouped}
 use Rattle.tail_records.specs.Ranks.{rank-of, with-rank, firsts, Different}

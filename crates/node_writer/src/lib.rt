@@ -38,7 +38,7 @@ fn put_count(mem: &mut [u8], at: usize, n: usize) -> Table
     requires { ⌜ (n ≤ 256) × (at + 8 + 64 * n ≤ length (now mem)) ⌝ }
     ensures { λ r. ⌜ Opened (now (mem .entry)) (now (mem .exit)) at n r ⌝ }
 {
-    let kind = image_format::kind_of(n);
+    let kind = kinds::kind_of(n);
     if kind == 1 {
         return Table {
             kind,
@@ -238,7 +238,7 @@ fn put_head(
     let parts = tail_records::run_end(mem, work, lo, hi, d, false);
     let below = tail_records::run_end(mem, work, parts, hi, d, true);
     let n = tail_records::find_groups(mem, work, below, hi, d, groups);
-    mem[at] = image_format::kind_of(n);
+    mem[at] = kinds::kind_of(n);
     let end = put_lists(mem, work, lo, parts, below, hi, behind_kind(e));
     Head {
         below,
@@ -293,7 +293,7 @@ fn put_link(mem: &mut [u8], work: usize, i: usize, d: usize, e: End) -> End
     ensures { λ r. ⌜ LinkWritten (now (mem .entry)) (now (mem .exit)) work i d e r ⌝ }
 {
     let at = e.at;
-    mem[at] = image_format::kind_of(1);
+    mem[at] = kinds::kind_of(1);
     let front = put_link_lists(mem, work, i, behind_kind(e));
     let table = front.at;
     let byte = tail_records::tail_byte(mem, work, i, d);
@@ -314,7 +314,7 @@ fn put_leaf(mem: &mut [u8], work: usize, i: usize, d: usize, e: End) -> End
 {
     let at = e.at;
     let parts = tail_records::run_end(mem, work, i, i + 1, d, false);
-    mem[at] = image_format::kind_of(0);
+    mem[at] = kinds::kind_of(0);
     let front = put_leaf_lists(mem, work, i, parts, behind_kind(e));
     let table = front.at;
     words::put64(mem, table, 0);

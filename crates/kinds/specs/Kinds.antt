@@ -3,7 +3,7 @@ use Prim.Native.Nat.{ℕ}
 use mathlib.Core.Bool.{Bool, true, false, _&&_, cond}
 use mathlib.Core.List.{List, [], _∷_}
 use lib.Dec.{leb, eqb}
-use Rattle.image_format.specs.declared.KindRange.{KindRange}
+use Rattle.kinds.specs.declared.KindRange.{KindRange}
 
 -- kind 3 for 0 to 8, 2 for 9 to 96, 1 for 97 to 256
 abbrev pub kinds : List KindRange

@@ -1,9 +1,9 @@
 -- `image::kinds::fits_kind` meets its contract. Assumes nothing.
 use native.Mathlib.Omega.{arith}
 use borrow.Author.Needs.{needs}
-use Rattle.image_format.proofs.KindRule.{fits-high, fits-low}
-use Rattle.image_format.proofs.fits_kind.Statement.{statement}
-use Rattle.image_format.proofs.fits_kind.Tie as tie
+use Rattle.kinds.proofs.KindRule.{fits-high, fits-low}
+use Rattle.kinds.proofs.fits_kind.Statement.{statement}
+use Rattle.kinds.proofs.fits_kind.Tie as tie
 
 sub-i : tie.Need-sub-i
 sub-i c = search needs

@@ -4,9 +4,9 @@ use native.Mathlib.Omega.{arith}
 use mathlib.Core.Logic.{inl, inr, ⊎-elim}
 use mathlib.Core.Path.{_≡_, subst, sym}
 use borrow.Author.Needs.{needs}
-use Rattle.image_format.proofs.KindRule.{at-range, beyond, beyond-all, kind-none}
-use Rattle.image_format.proofs.kind_of.Statement.{statement}
-use Rattle.image_format.proofs.kind_of.Tie as tie
+use Rattle.kinds.proofs.KindRule.{at-range, beyond, beyond-all, kind-none}
+use Rattle.kinds.proofs.kind_of.Statement.{statement}
+use Rattle.kinds.proofs.kind_of.Tie as tie
 
 abbrev Inv-loop : tie.InvT-loop
 Inv-loop children i₀ i = (i ≤ 3) × (beyond-all i ≤ children)

@@ -9,9 +9,9 @@ use mathlib.Core.Path.{_∙_, _≡_, refl, sym}
 use lib.Dec.{eqb, leb}
 use lib.ListN.{getD}
 use borrow.Author.Tests.{eqb-true, le-leb, leb-false, leb-true, lt-leb}
-use Rattle.image_format.specs.Kinds.{fits, kind-of, kinds}
-use Rattle.image_format.specs.declared.KindRange.{KindRange}
-use Rattle.image_format.specs.Promises.{SomeRange, OneRange}
+use Rattle.kinds.specs.Kinds.{fits, kind-of, kinds}
+use Rattle.kinds.specs.declared.KindRange.{KindRange}
+use Rattle.kinds.specs.KindPromises.{SomeRange, OneRange}
 
 -- ── the kind of a count ──
 
