@@ -1,7 +1,7 @@
 -- The memory in which the image of a log stands, closed. Assumes nothing.
 use Prim.Native.Nat.{ℕ, _+_, _-_, _*_, _≤_}
 use native.Mathlib.Omega.{arith}
-use mathlib.Core.Path.{_≡_, sym, ap, subst, _∙_}
+use mathlib.Core.Path.{_≡_, ap, subst, _∙_}
 use mathlib.Core.Logic.{inr}
 use mathlib.Core.List.{List}
 use lib.ListN.{length, getD}
@@ -12,6 +12,7 @@ use Rattle.trie.specs.Trie.{Trie, nodes, entries}
 use Rattle.trie.specs.Build.{trie-of}
 use Rattle.image_format.specs.Image.{image}
 use Rattle.tally.specs.Tallied.{finished}
+use Rattle.tally.specs.declared.Tally.{Tally}
 use Rattle.index_memory.specs.Layout.{Header, log-in}
 use Rattle.index_memory.specs.Answers.{header-of, with-tally}
 use Rattle.index_memory.specs.declared.Header as C
@@ -52,24 +53,27 @@ module _ (m : List ℕ) (c : Capacity) (pieces : ℕ) (b : Bytes m) (o : OpenIs 
   behind : (k : ℕ) → needed c ≤ k → getD s′ k 0 ≡ getD m k 0
   behind k l = v .behind k (omega arith) ∙ w .kept k (inr (omega (arith, w .count, few-tails m c pieces b o)))
 
-  room : Closable s′ h
-  room = record {
-    nodes = small-nodes m c pieces b o;
-    entries = small-entries m c pieces b o;
-    payload = omega (arith, v .within, ends);
-    held = omega (arith, long, held-memory m c pieces b o);
-  }
+  -- a header of that capacity, whatever its tally and phase
+  pub room-for : (g : Header) → g .capacity ≡ c → 64 + g .payload ≤ needed c → Closable s′ g
+  room-for g same fits =
+      let n : g .capacity .nodes ≡ c .nodes = ap (λ (x : Capacity). x .nodes) same in
+      let e : g .capacity .entries ≡ c .entries = ap (λ (x : Capacity). x .entries) same in
+      record {
+        nodes = omega (arith, small-nodes m c pieces b o);
+        entries = omega (arith, small-entries m c pieces b o);
+        payload = omega arith;
+        held = omega (arith, long, held-memory m c pieces b o);
+      }
 
   stand : closed s′ h ≡ finished-memory m c t
   stand = ap (closed s′) is-header ∙ closed-is m s′ c t long stands (omega (arith, v .within, ends)) (held-memory m c pieces b o) behind
 
   -- that header, as it is made of the old one: the tally is lent to `finish`
-  module _ (old new : C.Header) (same : header-of old .capacity ≡ c) (e : new ≡ with-tally old (finished (r .nodes) (r .entries)) (r .at - 64)) where
-    made : header-of new ≡ h
-    made = ap header-of e ∙ (λ i. record { capacity = same i; phase = 1; nodes = r .nodes; entries = r .entries; payload = r .at - 64 })
+  module _ (old new : C.Header) (same : header-of old .capacity ≡ c) where
+    pub closable : (y : Tally) → new ≡ with-tally old y (r .at - 64) → Closable s′ (header-of new)
+    closable y e = room-for (header-of new) (ap (λ (x : C.Header). header-of x .capacity) e ∙ same) (omega (arith, ap (λ (x : C.Header). header-of x .payload) e, v .within, ends))
 
-    pub closable : Closable s′ (header-of new)
-    closable = subst (Closable s′) (sym made) room
-
-    pub closes : closed s′ (header-of new) ≡ finished-memory m c t
-    closes = ap (closed s′) made ∙ stand
+    pub closes : new ≡ with-tally old (finished (r .nodes) (r .entries)) (r .at - 64) → closed s′ (header-of new) ≡ finished-memory m c t
+    closes e =
+        let made : header-of new ≡ h = ap header-of e ∙ (λ i. record { capacity = same i; phase = 1; nodes = r .nodes; entries = r .entries; payload = r .at - 64 }) in
+        ap (closed s′) made ∙ stand

@@ -97,7 +97,7 @@ put-finished-requires c κs =
     let r = c .before .before .before .before .before .before .before .before .before .sort-tails in
     let v = c .before .before .before .before .before .put-image in
     let k = c .before .closed in
-    closable m room (a .h .payload) b o (r .last .0) (r .result) (r .ensures) (v .last .0) (v .result) (v .ensures) (a .h) (k .result) refl (k .ensures)
+    closable m room (a .h .payload) b o (r .last .0) (r .result) (r .ensures) (v .last .0) (v .result) (v .ensures) (a .h) (k .result) refl _ (k .ensures)
 
 same-length : tie.Need-same-length
 same-length c = search needs
