@@ -1,5 +1,5 @@
 #!/usr/bin/env python3
-"""Makes the vectors of crates/image_vectors: images, sound and damaged, and what document 01 says of each.
+"""Makes the vectors of crates/test_image_vectors: images, sound and damaged, and what document 01 says of each.
 
     oracle/image_vectors.py DIR     writes DIR/data/images and DIR/stdout
 

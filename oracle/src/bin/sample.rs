@@ -1,6 +1,6 @@
 //! Writes recordings for a program to replay, and what the published index answers to them.
 //!
-//!     cd oracle && cargo run --release --offline --bin sample -- ../crates/replay
+//!     cd oracle && cargo run --release --offline --bin sample -- ../crates/test_replay
 //!
 //! writes DIR/data/recordings, in the forms of `places`, with a line (new) between two recordings and (save) where an image is
 //! asked for, and DIR/stdout. No call is refused in it, and document 01 says of every answer that the Rust is met. Prints
@@ -260,7 +260,7 @@ fn missing(s: &Sample) -> Vec<String> {
 }
 
 fn main() {
-    let dir = std::env::args().nth(1).unwrap_or("../crates/replay".into());
+    let dir = std::env::args().nth(1).unwrap_or("../crates/test_replay".into());
     let mut s = Sample::default();
     let mut r = Random::new(1);
     documented(&mut s);

@@ -11,15 +11,6 @@ returns c =
     let a = c .before .before .before .before .args in
     end-none (now (a .mem)) (now (a .line)) (now (a .out)) (a .n) (omega arith)
 
-answer-kept-requires : tie.Need-answer-kept-requires
-answer-kept-requires c κs = search needs
-
-same-length : tie.Need-same-length
-same-length c = search needs
-
-same-length-2 : tie.Need-same-length-2
-same-length-2 c = search needs
-
 returns-2 : tie.Need-returns-2
 returns-2 c =
     let a = c .before .before .before .before .before .before .before .before .before .before .before .args in
@@ -27,4 +18,4 @@ returns-2 c =
 
 pub answer-end-spec : {M : Type 1} → statement M
 answer-end-spec =
-    tie.close (tie.spec returns answer-kept-requires same-length same-length-2 returns-2)
+    tie.close (tie.spec returns (λ c κs. search needs) (λ c. search needs) (λ c. search needs) returns-2)

@@ -7,12 +7,6 @@ use borrow.Author.Needs.{needs}
 use Rattle.answering.proofs.answer_kept.Statement.{statement}
 use Rattle.answering.proofs.answer_kept.Tie as tie
 
-put-refused-requires : tie.Need-put-refused-requires
-put-refused-requires c κs = search needs
-
-same-length : tie.Need-same-length
-same-length c = search needs
-
 returns : tie.Need-returns
 returns c =
     let a = c .before .before .before .before .before .before .before .before .args in
@@ -20,15 +14,6 @@ returns c =
 
 slice-aggregate-answer : tie.Need-slice-aggregate-answer
 slice-aggregate-answer c = simp length-take (omega arith)
-
-answer-requires : tie.Need-answer-requires
-answer-requires c κs = search needs
-
-same-length-2 : tie.Need-same-length-2
-same-length-2 c = search needs
-
-same-length-3 : tie.Need-same-length-3
-same-length-3 c = search needs
 
 returns-2 : tie.Need-returns-2
 returns-2 c =
@@ -39,11 +24,11 @@ pub answer-kept-spec : {M : Type 1} → statement M
 answer-kept-spec =
     tie.close
     (tie.spec
-    put-refused-requires
-    same-length
+    (λ c κs. search needs)
+    (λ c. search needs)
     returns
     slice-aggregate-answer
-    answer-requires
-    same-length-2
-    same-length-3
+    (λ c κs. search needs)
+    (λ c. search needs)
+    (λ c. search needs)
     returns-2)

@@ -27,9 +27,6 @@ loop-holds c =
     let a = c .before .before .before .before .args in
     (going-start (now (a .mem)) (now (a .line)) (a .n) (now (a .input)) (a .p) (now (a .out)) (omega arith) (omega arith), omega arith, omega arith, refl, refl, refl)
 
-line-end-requires : tie.Need-line-end-requires Inv-loop μ-loop
-line-end-requires c κs = search needs
-
 sub-keep : tie.Need-sub-keep Inv-loop μ-loop
 sub-keep c =
     let k = c .before .before .line-end in
@@ -47,18 +44,6 @@ part-keep-end c =
     let k = c .before .before .line-end in
     let w = ended (now (c .before .before .before .before .before .before .before .before .before .args .input)) (c .before .before .before .before .loop .next) (k .result) (omega arith) (k .ensures) in
     omega (arith, w .from, w .within)
-
-keep-requires : tie.Need-keep-requires Inv-loop μ-loop
-keep-requires c κs = search needs
-
-same-length : tie.Need-same-length Inv-loop μ-loop
-same-length c = search needs
-
-same-length-2 : tie.Need-same-length-2 Inv-loop μ-loop
-same-length-2 c = search needs
-
-same-length-3 : tie.Need-same-length-3 Inv-loop μ-loop
-same-length-3 c = search needs
 
 returns : tie.Need-returns Inv-loop μ-loop
 returns c =
@@ -85,9 +70,6 @@ part-end-line-end c =
     let w = ended (now (c .before .before .before .before .before .before .before .before .before .before .args .input)) (c .before .before .before .before .before .loop .next) (k .result) (omega arith) (k .ensures) in
     omega (arith, w .from, w .within)
 
-end-line-requires : tie.Need-end-line-requires Inv-loop μ-loop
-end-line-requires c κs = search needs
-
 add-next : tie.Need-add-next Inv-loop μ-loop
 add-next c =
     let k = c .before .before .before .before .before .before .before .before .before .before .before .before .line-end in
@@ -96,15 +78,6 @@ add-next c =
 
 sub-if2 : tie.Need-sub-if2 Inv-loop μ-loop
 sub-if2 c = omega (arith, c .before .before .before .before .before .before .end-line .ensures .short)
-
-same-length-4 : tie.Need-same-length-4 Inv-loop μ-loop
-same-length-4 c = search needs
-
-same-length-5 : tie.Need-same-length-5 Inv-loop μ-loop
-same-length-5 c = search needs
-
-same-length-6 : tie.Need-same-length-6 Inv-loop μ-loop
-same-length-6 c = search needs
 
 returns-2 : tie.Need-returns-2 Inv-loop μ-loop
 returns-2 c =
@@ -129,15 +102,6 @@ loop-again c =
     let g = going-on (now (a .mem)) (now (a .line)) (a .n) (l .inv .0) (k .result) (omega arith) w (c .before .before .before .before .before .before .before .end-line .last .1 .0) (omega (arith, w .within)) (c .before .before .before .before .before .before .before .end-line .ensures) (omega arith) in
     (g, omega arith, omega arith, search needs, search needs, search needs)
 
-same-length-7 : tie.Need-same-length-7 Inv-loop μ-loop
-same-length-7 c = search needs
-
-same-length-8 : tie.Need-same-length-8 Inv-loop μ-loop
-same-length-8 c = search needs
-
-same-length-9 : tie.Need-same-length-9 Inv-loop μ-loop
-same-length-9 c = search needs
-
 returns-3 : tie.Need-returns-3 Inv-loop μ-loop
 returns-3 c =
     let a = c .before .before .before .before .before .before .args in
@@ -150,28 +114,28 @@ answer-lines-spec =
     Inv-loop
     μ-loop
     loop-holds
-    line-end-requires
+    (λ c κs. search needs)
     sub-keep
     part-keep-start
     part-keep-end
-    keep-requires
-    same-length
-    same-length-2
-    same-length-3
+    (λ c κs. search needs)
+    (λ c. search needs)
+    (λ c. search needs)
+    (λ c. search needs)
     returns
     sub-end-line
     part-end-line-start
     part-end-line-end
-    end-line-requires
+    (λ c κs. search needs)
     add-next
     sub-if2
-    same-length-4
-    same-length-5
-    same-length-6
+    (λ c. search needs)
+    (λ c. search needs)
+    (λ c. search needs)
     returns-2
     loop-less
     loop-again
-    same-length-7
-    same-length-8
-    same-length-9
+    (λ c. search needs)
+    (λ c. search needs)
+    (λ c. search needs)
     returns-3)

@@ -8,30 +8,15 @@ use borrow.Author.Needs.{needs}
 use Rattle.answering.proofs.keep.Statement.{statement}
 use Rattle.answering.proofs.keep.Tie as tie
 
-add-result : tie.Need-add-result
-add-result c = search needs
-
 returns : tie.Need-returns
 returns c =
     let a = c .before .before .before .args in
     keep-long (now (a .line)) (a .n) (now (a .part)) (c .before .before .before .pre) (omega arith)
 
-add-result-2 : tie.Need-add-result-2
-add-result-2 c = search needs
-
 returns-2 : tie.Need-returns-2
 returns-2 c =
     let a = c .before .before .before .before .args in
     keep-over (now (a .line)) (a .n) (now (a .part)) (c .before .before .before .before .pre) (omega arith) (omega arith)
-
-copy-requires : tie.Need-copy-requires
-copy-requires c κs = search needs
-
-add-result-3 : tie.Need-add-result-3
-add-result-3 c = search needs
-
-same-length : tie.Need-same-length
-same-length c = search needs
 
 returns-3 : tie.Need-returns-3
 returns-3 c =
@@ -43,11 +28,11 @@ pub keep-spec : {M : Type 1} → statement M
 keep-spec =
     tie.close
     (tie.spec
-    add-result
+    (λ c. search needs)
     returns
-    add-result-2
+    (λ c. search needs)
     returns-2
-    copy-requires
-    add-result-3
-    same-length
+    (λ c κs. search needs)
+    (λ c. search needs)
+    (λ c. search needs)
     returns-3)

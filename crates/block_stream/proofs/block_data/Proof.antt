@@ -25,21 +25,6 @@ no-data s at (Block b) (inr k) e = absurd (omega arith)
 no-data s at End k e = ap data-of e
 no-data s at (Refused n) k e = ap data-of e
 
-read-block-requires : tie.Need-read-block-requires
-read-block-requires c κs = search needs
-
-enum-known-r : tie.Need-enum-known-r
-enum-known-r c = search needs
-
-sub-result : tie.Need-sub-result
-sub-result c = search needs
-
-part-result-start : tie.Need-part-result-start
-part-result-start c = search needs
-
-part-result-end : tie.Need-part-result-end
-part-result-end c = search needs
-
 returns : tie.Need-returns
 returns c =
     let f = c .before .before .read-block in
@@ -82,11 +67,11 @@ pub block-data-spec : {M : Type 1} → statement M
 block-data-spec =
     tie.close
     (tie.spec
-    read-block-requires
-    enum-known-r
-    sub-result
-    part-result-start
-    part-result-end
+    (λ c κs. search needs)
+    (λ c. search needs)
+    (λ c. search needs)
+    (λ c. search needs)
+    (λ c. search needs)
     returns
     sub-result-2
     part-result-start-2

@@ -13,16 +13,10 @@ returns c =
     let a = c .before .before .args in
     (past (now (a .s)) (a .at) (omega arith), tt)
 
-sub-left : tie.Need-sub-left
-sub-left c = search needs
-
 returns-2 : tie.Need-returns-2
 returns-2 c =
     let a = c .before .before .before .args in
     (at-end (now (a .s)) (a .at) (omega arith), tt)
-
-shared-slice-read-kind : tie.Need-shared-slice-read-kind
-shared-slice-read-kind c = search needs
 
 returns-3 : tie.Need-returns-3
 returns-3 c =
@@ -34,40 +28,10 @@ returns-4 c =
     let a = c .before .before .before .before .before .before .args in
     (cut-field (now (a .s)) (a .at) (omega arith) (omega arith) (omega arith), tt)
 
-add-get64 : tie.Need-add-get64
-add-get64 c = search needs
-
-get64-requires : tie.Need-get64-requires
-get64-requires c κs = search needs
-
 returns-5 : tie.Need-returns-5
 returns-5 c =
     let a = c .before .before .before .before .before .before .before .before .args in
     (cut-data (now (a .s)) (a .at) (omega arith) (omega arith) (omega arith) (omega arith), tt)
-
-add-start : tie.Need-add-start
-add-start c = search needs
-
-add-get64-2 : tie.Need-add-get64-2
-add-get64-2 c = search needs
-
-get64-requires-2 : tie.Need-get64-requires-2
-get64-requires-2 c κs = search needs
-
-add-get64-3 : tie.Need-add-get64-3
-add-get64-3 c = search needs
-
-get64-requires-3 : tie.Need-get64-requires-3
-get64-requires-3 c κs = search needs
-
-add-get64-4 : tie.Need-add-get64-4
-add-get64-4 c = search needs
-
-get64-requires-4 : tie.Need-get64-requires-4
-get64-requires-4 c κs = search needs
-
-add-t17 : tie.Need-add-t17
-add-t17 c = search needs
 
 returns-6 : tie.Need-returns-6
 returns-6 c =
@@ -85,20 +49,20 @@ read-block-spec =
     tie.close
     (tie.spec
     returns
-    sub-left
+    (λ c. search needs)
     returns-2
-    shared-slice-read-kind
+    (λ c. search needs)
     returns-3
     returns-4
-    add-get64
-    get64-requires
+    (λ c. search needs)
+    (λ c κs. search needs)
     returns-5
-    add-start
-    add-get64-2
-    get64-requires-2
-    add-get64-3
-    get64-requires-3
-    add-get64-4
-    get64-requires-4
-    add-t17
+    (λ c. search needs)
+    (λ c. search needs)
+    (λ c κs. search needs)
+    (λ c. search needs)
+    (λ c κs. search needs)
+    (λ c. search needs)
+    (λ c κs. search needs)
+    (λ c. search needs)
     returns-6)

@@ -9,12 +9,6 @@ use Rattle.fields.specs.Answers.{table-in}
 use Rattle.fields.proofs.all_met.Statement.{statement}
 use Rattle.fields.proofs.all_met.Tie as tie
 
-fits-kind-requires : tie.Need-fits-kind-requires
-fits-kind-requires c κs = search needs
-
-refuse-requires : tie.Need-refuse-requires
-refuse-requires c κs = search needs
-
 returns : tie.Need-returns
 returns c = step-with _ 15 (c .refuse .ensures) (omega arith) ∙ end-few (table-in (c .before .before .before .before .before .args .c)) _ _ _ _ (c .before .before .before .if1 .taken) (sym (c .before .before .fits-kind .ensures) ∙ not-true _ (c .before .if2 .taken))
 
@@ -25,4 +19,4 @@ returns-3 : tie.Need-returns-3
 returns-3 c = step-right _ refl ∙ end-sparse (table-in (c .before .before .args .c)) _ _ _ _ (c .if1 .left)
 
 pub all-met-spec : {M : Type 1} → statement M
-all-met-spec = tie.close (tie.spec fits-kind-requires refuse-requires returns returns-2 returns-3)
+all-met-spec = tie.close (tie.spec (λ c κs. search needs) (λ c κs. search needs) returns returns-2 returns-3)

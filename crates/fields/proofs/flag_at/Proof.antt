@@ -11,9 +11,6 @@ returns c = let a = c .before .args in flag-off (a .s .now) (a .kind) (a .at) (a
 returns-2 : tie.Need-returns-2
 returns-2 c = let a = c .before .before .args in flag-cut (a .s .now) (a .kind) (a .at) (a .off) (omega arith) (c .if2 .taken)
 
-shared-slice-read-flag : tie.Need-shared-slice-read-flag
-shared-slice-read-flag c = search needs
-
 returns-3 : tie.Need-returns-3
 returns-3 c = let a = c .before .before .before .before .args in flag-node (a .s .now) (a .kind) (a .at) (a .off) (omega arith) (omega arith) (c .if3 .taken)
 
@@ -29,4 +26,4 @@ returns-6 c = let a = c .before .before .before .before .before .before .args in
 pub flag-at-spec : {M : Type 1} → statement M
 flag-at-spec =
     tie.close
-    (tie.spec returns returns-2 shared-slice-read-flag returns-3 returns-4 returns-5 returns-6)
+    (tie.spec returns returns-2 (λ c. search needs) returns-3 returns-4 returns-5 returns-6)

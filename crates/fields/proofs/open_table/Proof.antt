@@ -10,41 +10,14 @@ use Rattle.image_format.specs.Reading.{open-table, table-fault}
 use Rattle.fields.proofs.open_table.Statement.{statement}
 use Rattle.fields.proofs.open_table.Tie as tie
 
-open-dense-requires : tie.Need-open-dense-requires
-open-dense-requires c κs = search needs
-
 returns : tie.Need-returns
 returns c = c .open-dense .ensures ∙ ap (λ (k : ℕ). open-table (c .before .before .before .args .s .now) k (c .before .before .before .args .at)) (sym (c .before .if1 .taken))
-
-sub-if2 : tie.Need-sub-if2
-sub-if2 c = search needs
-
-refuse-children-requires : tie.Need-refuse-children-requires
-refuse-children-requires c κs = search needs
 
 returns-2 : tie.Need-returns-2
 returns-2 c = table-with _ 13 (c .refuse-children .ensures) (omega arith) ∙ open-cut _ _ _ (c .before .before .if1 .left) (omega arith)
 
-get64-requires : tie.Need-get64-requires
-get64-requires c κs = search needs
-
-fits-kind-requires : tie.Need-fits-kind-requires
-fits-kind-requires c κs = search needs
-
-refuse-children-requires-2 : tie.Need-refuse-children-requires-2
-refuse-children-requires-2 c κs = search needs
-
 returns-3 : tie.Need-returns-3
 returns-3 c = table-with _ 15 (c .refuse-children2 .ensures) (omega arith) ∙ open-count _ _ _ (c .before .before .before .before .before .if1 .left) _ (c .before .before .before .get64 .ensures) (omega arith) (sym (c .before .before .fits-kind .ensures) ∙ not-true _ (c .before .if3 .taken))
-
-add-base : tie.Need-add-base
-add-base c = search needs
-
-table-fault-requires : tie.Need-table-fault-requires
-table-fault-requires c κs = search needs
-
-refuse-children-requires-3 : tie.Need-refuse-children-requires-3
-refuse-children-requires-3 c κs = search needs
 
 returns-4 : tie.Need-returns-4
 returns-4 c = table-with _ _ (c .refuse-children3 .ensures) (c .before .if4 .taken) ∙ open-fault _ _ _ (c .before .before .before .before .before .before .before .if1 .left) _ _ (c .before .before .before .before .before .get64 .ensures) (omega arith) (sym (c .before .before .before .before .fits-kind .ensures) ∙ not-false _ (c .before .before .before .if3 .left)) (c .before .before .table-fault .ensures) (c .before .if4 .taken)
@@ -55,9 +28,6 @@ mul-t8 c = omega (arith, range-most (c .before .before .before .before .before .
 add-t9 : tie.Need-add-t9
 add-t9 c = omega (arith, range-most (c .before .before .before .before .before .before .before .before .args .kind) (c .before .before .before .before .get64 .result) (c .before .before .before .before .before .before .if1 .left) (sym (c .before .before .before .fits-kind .ensures) ∙ not-false _ (c .before .before .if3 .left)))
 
-turns-of-requires : tie.Need-turns-of-requires
-turns-of-requires c κs = search needs
-
 returns-5 : tie.Need-returns-5
 returns-5 c =
     table-right _ refl ∙ table-turns _ _ _ _ (c .turns-of .ensures) ∙
@@ -67,20 +37,20 @@ pub open-table-spec : {M : Type 1} → statement M
 open-table-spec =
     tie.close
     (tie.spec
-    open-dense-requires
+    (λ c κs. search needs)
     returns
-    sub-if2
-    refuse-children-requires
+    (λ c. search needs)
+    (λ c κs. search needs)
     returns-2
-    get64-requires
-    fits-kind-requires
-    refuse-children-requires-2
+    (λ c κs. search needs)
+    (λ c κs. search needs)
+    (λ c κs. search needs)
     returns-3
-    add-base
-    table-fault-requires
-    refuse-children-requires-3
+    (λ c. search needs)
+    (λ c κs. search needs)
+    (λ c κs. search needs)
     returns-4
     mul-t8
     add-t9
-    turns-of-requires
+    (λ c κs. search needs)
     returns-5)

@@ -31,35 +31,14 @@ lists : (c : tie.Else3) →
     read-lists (start c .args .s .now) (getD (start c .args .s .now) (start c .args .at) 0) (start c .args .at + 1) ≡ read-head (start c .args .s .now) (start c .args .at)
 lists c = head-lists _ _ (omega arith) (c .before .if2 .left) (c .if3 .left)
 
-refuse-head-requires : tie.Need-refuse-head-requires
-refuse-head-requires c κs = search needs
-
 returns : tie.Need-returns
 returns c = head-with _ 13 (c .refuse-head .ensures) (omega arith) ∙ head-end _ _ (omega arith)
-
-shared-slice-read-kind : tie.Need-shared-slice-read-kind
-shared-slice-read-kind c = search needs
-
-refuse-head-requires-2 : tie.Need-refuse-head-requires-2
-refuse-head-requires-2 c κs = search needs
 
 returns-2 : tie.Need-returns-2
 returns-2 c = head-with _ 14 (c .refuse-head2 .ensures) (omega arith) ∙ head-zero _ _ (omega arith) (c .before .if2 .taken)
 
-refuse-head-requires-3 : tie.Need-refuse-head-requires-3
-refuse-head-requires-3 c κs = search needs
-
 returns-3 : tie.Need-returns-3
 returns-3 c = head-with _ 14 (c .refuse-head3 .ensures) (omega arith) ∙ head-over _ _ (omega arith) (c .before .if3 .taken)
-
-add-read-list : tie.Need-add-read-list
-add-read-list c = search needs
-
-read-list-requires : tie.Need-read-list-requires
-read-list-requires c κs = search needs
-
-refuse-head-requires-4 : tie.Need-refuse-head-requires-4
-refuse-head-requires-4 c κs = search needs
 
 returns-4 : tie.Need-returns-4
 returns-4 c = head-with _ 13 (c .refuse-head4 .ensures) (omega arith) ∙ lists-cut _ _ _ (sym (list-refused _ (c .before .if4 .taken)) ∙ c .before .before .before .read-list .ensures) ∙ lists (c .before .before .before .before)
@@ -67,17 +46,11 @@ returns-4 c = head-with _ 13 (c .refuse-head4 .ensures) (omega arith) ∙ lists-
 read-list-requires-2 : tie.Need-read-list-requires-2
 read-list-requires-2 c κs = list-bound _ _ _ _ (first c) .1
 
-refuse-head-requires-5 : tie.Need-refuse-head-requires-5
-refuse-head-requires-5 c κs = search needs
-
 returns-5 : tie.Need-returns-5
 returns-5 c = head-with _ 13 (c .refuse-head5 .ensures) (omega arith) ∙ lists-cut-2 _ _ _ _ _ (first (c .before .before .before .before)) (sym (list-refused _ (c .before .if5 .taken)) ∙ c .before .before .before .read-list2 .ensures) ∙ lists (c .before .before .before .before .before .before .before)
 
 read-list-requires-3 : tie.Need-read-list-requires-3
 read-list-requires-3 c κs = list-bound _ _ _ _ (second c) .1
-
-refuse-head-requires-6 : tie.Need-refuse-head-requires-6
-refuse-head-requires-6 c κs = search needs
 
 returns-6 : tie.Need-returns-6
 returns-6 c = head-with _ 13 (c .refuse-head6 .ensures) (omega arith) ∙ lists-cut-3 _ _ _ _ _ _ _ (first (c .before .before .before .before .before .before .before)) (second (c .before .before .before .before)) (sym (list-refused _ (c .before .if6 .taken)) ∙ c .before .before .before .read-list3 .ensures) ∙ lists (c .before .before .before .before .before .before .before .before .before .before)
@@ -102,22 +75,22 @@ pub read-head-spec : {M : Type 1} → statement M
 read-head-spec =
     tie.close
     (tie.spec
-    refuse-head-requires
+    (λ c κs. search needs)
     returns
-    shared-slice-read-kind
-    refuse-head-requires-2
+    (λ c. search needs)
+    (λ c κs. search needs)
     returns-2
-    refuse-head-requires-3
+    (λ c κs. search needs)
     returns-3
-    add-read-list
-    read-list-requires
-    refuse-head-requires-4
+    (λ c. search needs)
+    (λ c κs. search needs)
+    (λ c κs. search needs)
     returns-4
     read-list-requires-2
-    refuse-head-requires-5
+    (λ c κs. search needs)
     returns-5
     read-list-requires-3
-    refuse-head-requires-6
+    (λ c κs. search needs)
     returns-6
     add-t7
     add-t11

@@ -17,23 +17,8 @@ abbrev μ-loop : tie.MeasureT-loop
 loop-holds : tie.Need-loop-holds Inv-loop μ-loop
 loop-holds c = run-none _ _ _ (omega arith)
 
-mul-is-thin : tie.Need-mul-is-thin Inv-loop μ-loop
-mul-is-thin c = search needs
-
-add-is-thin : tie.Need-add-is-thin Inv-loop μ-loop
-add-is-thin c = search needs
-
-is-thin-requires : tie.Need-is-thin-requires Inv-loop μ-loop
-is-thin-requires c κs = search needs
-
 returns : tie.Need-returns Inv-loop μ-loop
 returns c = c .before .before .before .loop .inv
-
-add-k : tie.Need-add-k Inv-loop μ-loop
-add-k c = search needs
-
-loop-less : tie.Need-loop-less Inv-loop μ-loop
-loop-less c = search needs
 
 loop-again : tie.Need-loop-again Inv-loop μ-loop
 loop-again c = run-more _ _ _ _ (c .before .before .before .loop .inv) (omega arith) (c .before .is-thin .ensures (not-false _ (c .if1 .left)))
@@ -48,11 +33,11 @@ thin-run-spec =
     Inv-loop
     μ-loop
     loop-holds
-    mul-is-thin
-    add-is-thin
-    is-thin-requires
+    (λ c. search needs)
+    (λ c. search needs)
+    (λ c κs. search needs)
     returns
-    add-k
-    loop-less
+    (λ c. search needs)
+    (λ c. search needs)
     loop-again
     returns-2)

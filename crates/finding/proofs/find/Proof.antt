@@ -8,24 +8,6 @@ use Rattle.finding.proofs.FindCall.{finds, none-finds}
 use Rattle.finding.proofs.find.Statement.{statement}
 use Rattle.finding.proofs.find.Tie as tie
 
-inspect-requires : tie.Need-inspect-requires
-inspect-requires c κs = search needs
-
-enum-told : tie.Need-enum-told
-enum-told c = search needs
-
-no-rows-requires : tie.Need-no-rows-requires
-no-rows-requires c κs = search needs
-
-enum-told-2 : tie.Need-enum-told-2
-enum-told-2 c = search needs
-
-no-rows-requires-2 : tie.Need-no-rows-requires-2
-no-rows-requires-2 c κs = search needs
-
-enum-known-h : tie.Need-enum-known-h
-enum-known-h c = search needs
-
 find-finished-requires : tie.Need-find-finished-requires
 find-finished-requires c κs =
     let seen = c .before .before .before .before in
@@ -47,9 +29,6 @@ returns-2 c =
     let w = subst (Inspects (now (a .mem))) (c .before .enum-told2 .given .1) (seen .inspect .ensures) in
     finds (now (a .mem)) (now (a .q)) (now (a .scratch)) _ _ (w .holds) (none-finds (now (a .scratch)) (number before-finish) refl (c .no-rows2 .ensures))
 
-same-length : tie.Need-same-length
-same-length c = search needs
-
 returns-3 : tie.Need-returns-3
 returns-3 c =
     let seen = c .before .before .before .before .before .before .before in
@@ -61,14 +40,14 @@ pub find-spec : {M : Type 1} → statement M
 find-spec =
     tie.close
     (tie.spec
-    inspect-requires
-    enum-told
-    no-rows-requires
-    enum-told-2
-    no-rows-requires-2
-    enum-known-h
+    (λ c κs. search needs)
+    (λ c. search needs)
+    (λ c κs. search needs)
+    (λ c. search needs)
+    (λ c κs. search needs)
+    (λ c. search needs)
     find-finished-requires
     returns
     returns-2
-    same-length
+    (λ c. search needs)
     returns-3)

@@ -9,25 +9,10 @@ use Rattle.finding.proofs.Calling.{searchable, answered-part}
 use Rattle.finding.proofs.find_finished.Statement.{statement}
 use Rattle.finding.proofs.find_finished.Tie as tie
 
-no-rows-requires : tie.Need-no-rows-requires
-no-rows-requires c κs = search needs
-
 returns : tie.Need-returns
 returns c =
     let long = c .before .if1 .taken in
     (rw (lt-ltb 256 _ long) (c .no-rows .ensures), (rw (lt-ltb 256 _ long) (none-front _), unchanged _ _))
-
-add-search-image : tie.Need-add-search-image
-add-search-image c = search needs
-
-sub-search-image : tie.Need-sub-search-image
-sub-search-image c = search needs
-
-part-search-image-start : tie.Need-part-search-image-start
-part-search-image-start c = search needs
-
-part-search-image-end : tie.Need-part-search-image-end
-part-search-image-end c = search needs
 
 search-image-requires : tie.Need-search-image-requires
 search-image-requires c κs =
@@ -37,9 +22,6 @@ search-image-requires c κs =
     let a = start .args in
     let w = searchable (now (a .mem)) (header-of (a .h)) (λ j. omega (arith, known .shared-slice-known .given j)) (omega arith) (start .pre) in
     (w .0, w .1, omega (arith, test .if1 .left))
-
-same-length : tie.Need-same-length
-same-length c = search needs
 
 returns-2 : tie.Need-returns-2
 returns-2 c =
@@ -53,12 +35,12 @@ pub find-finished-spec : {M : Type 1} → statement M
 find-finished-spec =
     tie.close
     (tie.spec
-    no-rows-requires
+    (λ c κs. search needs)
     returns
-    add-search-image
-    sub-search-image
-    part-search-image-start
-    part-search-image-end
+    (λ c. search needs)
+    (λ c. search needs)
+    (λ c. search needs)
+    (λ c. search needs)
     search-image-requires
-    same-length
+    (λ c. search needs)
     returns-2)

@@ -81,12 +81,6 @@ child-right-is-union-requires t c κs =
     let f = c .before .before .before .before .before .next-fronts in
     (child-parts (now (a .s)) (a .byte) (a .at) (a .depth) (now (a .fronts)) (a .count) (a .left) (n .result) (n .ensures) (now (a .lists)) k .is .prefixes-in, f .ensures .valid)
 
-child-right-same-length : (t : ℕ) → child-right-lts.Need-same-length (child-right-claims t) (child-right-at t) child-right.Post
-child-right-same-length t c = search needs
-
-child-right-same-length-2 : (t : ℕ) → child-right-lts.Need-same-length-2 (child-right-claims t) (child-right-at t) child-right.Post
-child-right-same-length-2 t c = search needs
-
 child-right-returns : (t : ℕ) → child-right-lts.Need-returns (child-right-claims t) (child-right-at t) child-right.Post
 child-right-returns t c =
     let a = c .before .before .before .before .before .before .before .before .before .before .before .before .before .before .before .before .args in
@@ -106,12 +100,6 @@ child-right-children-right-requires t c κs =
     let f = c .before .before .before .before .before .before .before .before .before .before .before .next-fronts in
     let u = c .before .before .before .before .before .is-union in
     (omega (arith, c .before .before .before .before .before .before .before .before .before .before .before .before .before .before .before .before .before .before .pre .0), children-asked (now (a .s)) (a .byte) (a .at) (a .depth) (now (a .fronts)) (a .count) (a .left) (n .result) (n .ensures) (now (a .lists)) k (f .last .1 .1 .1 .0) (f .result .fronts) (f .last .1 .1 .1 .1 .1 .0) (f .result .lists) (f .ensures) (u .last .1 .1 .1 .1 .0) (omega (arith, u .ensures .1 .same-length, f .kept .1 .1 .1 .1 .1 .0)))
-
-child-right-same-length-3 : (t : ℕ) → child-right-lts.Need-same-length-3 (child-right-claims t) (child-right-at t) child-right.Post
-child-right-same-length-3 t c = search needs
-
-child-right-same-length-4 : (t : ℕ) → child-right-lts.Need-same-length-4 (child-right-claims t) (child-right-at t) child-right.Post
-child-right-same-length-4 t c = search needs
 
 child-right-returns-2 : (t : ℕ) → child-right-lts.Need-returns-2 (child-right-claims t) (child-right-at t) child-right.Post
 child-right-returns-2 t c =
@@ -134,12 +122,6 @@ child-right-node-right-requires t c κs =
     let u = c .before .before .before .before .before .before .before .before .before .before .before .before .is-union in
     let x = c .before .before .before .before .before .before .children-right in
     (child-parts (now (a .s)) (a .byte) (a .at) (a .depth) (now (a .fronts)) (a .count) (a .left) (n .result) (n .ensures) (now (a .lists)) k, omega (arith, k .levels), omega (arith, k .lists-room, u .ensures .1 .same-length, f .kept .1 .1 .1 .1 .1 .0, x .kept .1 .1 .1 .1 .1 .1 .0))
-
-child-right-same-length-5 : (t : ℕ) → child-right-lts.Need-same-length-5 (child-right-claims t) (child-right-at t) child-right.Post
-child-right-same-length-5 t c = search needs
-
-child-right-same-length-6 : (t : ℕ) → child-right-lts.Need-same-length-6 (child-right-claims t) (child-right-at t) child-right.Post
-child-right-same-length-6 t c = search needs
 
 child-right-returns-3 : (t : ℕ) → child-right-lts.Need-returns-3 (child-right-claims t) (child-right-at t) child-right.Post
 child-right-returns-3 t c =
@@ -164,23 +146,11 @@ children-right-claims t = (lone-run-reads.Asked, lone-run-reads.Learnt, slot-in-
 children-right-lone-run-requires : (t : ℕ) → children-right-lts.Need-lone-run-requires (children-right-claims t) (children-right-at t) children-right.Post children-right-Inv-loop children-right-μ-loop
 children-right-lone-run-requires t c κs = c .before .before .before .before .before .pre .1
 
-children-right-same-length : (t : ℕ) → children-right-lts.Need-same-length (children-right-claims t) (children-right-at t) children-right.Post children-right-Inv-loop children-right-μ-loop
-children-right-same-length t c = search needs
-
-children-right-same-length-2 : (t : ℕ) → children-right-lts.Need-same-length-2 (children-right-claims t) (children-right-at t) children-right.Post children-right-Inv-loop children-right-μ-loop
-children-right-same-length-2 t c = search needs
-
 children-right-returns : (t : ℕ) → children-right-lts.Need-returns (children-right-claims t) (children-right-at t) children-right.Post children-right-Inv-loop children-right-μ-loop
 children-right-returns t c =
     let a = c .before .before .before .before .before .before .before .before .before .before .before .args in
     let l = c .before .before .before .before .before .lone-run in
     lone-end (now (a .s)) (a .table) (a .children) (a .depth) (now (a .fronts)) (a .count) (a .left) (l .last .1 .1 .1 .1 .0) (l .result .levels) (l .result .table) (l .result .right) (l .result .ended) (l .ensures) (c .if1 .taken)
-
-children-right-same-length-3 : (t : ℕ) → children-right-lts.Need-same-length-3 (children-right-claims t) (children-right-at t) children-right.Post children-right-Inv-loop children-right-μ-loop
-children-right-same-length-3 t c = search needs
-
-children-right-same-length-4 : (t : ℕ) → children-right-lts.Need-same-length-4 (children-right-claims t) (children-right-at t) children-right.Post children-right-Inv-loop children-right-μ-loop
-children-right-same-length-4 t c = search needs
 
 children-right-returns-2 : (t : ℕ) → children-right-lts.Need-returns-2 (children-right-claims t) (children-right-at t) children-right.Post children-right-Inv-loop children-right-μ-loop
 children-right-returns-2 t c =
@@ -190,12 +160,6 @@ children-right-returns-2 t c =
 
 children-right-sub-levels : (t : ℕ) → children-right-lts.Need-sub-levels (children-right-claims t) (children-right-at t) children-right.Post children-right-Inv-loop children-right-μ-loop
 children-right-sub-levels t c = c .before .before .before .before .before .before .before .before .lone-run .ensures .few
-
-children-right-same-length-5 : (t : ℕ) → children-right-lts.Need-same-length-5 (children-right-claims t) (children-right-at t) children-right.Post children-right-Inv-loop children-right-μ-loop
-children-right-same-length-5 t c = search needs
-
-children-right-same-length-6 : (t : ℕ) → children-right-lts.Need-same-length-6 (children-right-claims t) (children-right-at t) children-right.Post children-right-Inv-loop children-right-μ-loop
-children-right-same-length-6 t c = search needs
 
 children-right-returns-3 : (t : ℕ) → children-right-lts.Need-returns-3 (children-right-claims t) (children-right-at t) children-right.Post children-right-Inv-loop children-right-μ-loop
 children-right-returns-3 t c =
@@ -225,9 +189,6 @@ children-right-add-j t c =
     let l = c .before .before .before .before .before .before .before .before .before .before .before .before .before .lone-run in
     let k = lone-asked (now (a .s)) (a .table) (a .children) (a .depth) (now (a .fronts)) (a .count) (a .left) (l .last .1 .1 .1 .1 .0) (l .result .levels) (l .result .table) (l .result .right) (l .result .ended) (l .ensures) (c .before .before .before .before .before .before .before .before .if1 .left) (now (a .lists)) (l .last .1 .1 .1 .1 .1 .1 .0) (c .before .before .before .before .before .before .before .before .before .before .before .before .before .before .before .before .before .before .before .pre .1) (l .kept .1 .1 .1 .1 .1 .1 .0) in
     omega (arith, k .is .most, c .before .loop-test .taken)
-
-children-right-enum-known-slot : (t : ℕ) → children-right-lts.Need-enum-known-slot (children-right-claims t) (children-right-at t) children-right.Post children-right-Inv-loop children-right-μ-loop
-children-right-enum-known-slot t c = search needs
 
 children-right-sub-child-right : (t : ℕ) → children-right-lts.Need-sub-child-right (children-right-claims t) (children-right-at t) children-right.Post children-right-Inv-loop children-right-μ-loop
 children-right-sub-child-right t c = omega (arith, c .before .before .before .before .before .before .before .before .before .if3 .left)
@@ -267,9 +228,6 @@ children-right-loop-again t c =
     let e = ap entry-of-answer (sym (c .before .before .before .before .before .before .before .before .before .slot .given .1)) ∙ c .before .before .before .before .before .before .before .before .before .before .before .slot-in .ensures in
     let x = c .before .before .before .before .before .child-right in
     (turning-on (now (a .s)) (l .result .table) (a .children) (a .depth + l .result .levels) (l .last .1 .1 .1 .1 .0) (a .count) (a .left - l .result .levels) (o .j) (o .fronts) (o .inv .0) (c .before .before .before .before .before .before .before .before .before .before .before .before .loop-test .taken) _ e (x .last .1 .1 .1 .1 .0) (x .result) (x .ensures) (not-false (x .result) (c .if4 .left)), omega (arith, x .kept .1 .1 .1 .1 .1 .1 .0, o .inv .1))
-
-children-right-enum-told : (t : ℕ) → children-right-lts.Need-enum-told (children-right-claims t) (children-right-at t) children-right.Post children-right-Inv-loop children-right-μ-loop
-children-right-enum-told t c = search needs
 
 children-right-loop-less-2 : (t : ℕ) → children-right-lts.Need-loop-less-2 (children-right-claims t) (children-right-at t) children-right.Post children-right-Inv-loop children-right-μ-loop
 children-right-loop-less-2 t c = omega (arith, (c .before .before .before .loop-test .taken))
@@ -314,18 +272,18 @@ pub +child-right+children-right-spec : {M : Type 1} → statement M
     (child-right-node-at-requires t)
     (child-right-next-fronts-requires t)
     (child-right-is-union-requires t)
-    (child-right-same-length t)
-    (child-right-same-length-2 t)
+    (λ c. search needs)
+    (λ c. search needs)
     (child-right-returns t)
     (child-right-add-children-right t)
     (child-right-children-right-requires t)
-    (child-right-same-length-3 t)
-    (child-right-same-length-4 t)
+    (λ c. search needs)
+    (λ c. search needs)
     (child-right-returns-2 t)
     (child-right-add-node-right t)
     (child-right-node-right-requires t)
-    (child-right-same-length-5 t)
-    (child-right-same-length-6 t)
+    (λ c. search needs)
+    (λ c. search needs)
     (child-right-returns-3 t))
     λ t. children-right-lts.spec (children-right-claims t)
     (children-right-at t)
@@ -333,21 +291,21 @@ pub +child-right+children-right-spec : {M : Type 1} → statement M
     children-right-Inv-loop
     children-right-μ-loop
     (children-right-lone-run-requires t)
-    (children-right-same-length t)
-    (children-right-same-length-2 t)
+    (λ c. search needs)
+    (λ c. search needs)
     (children-right-returns t)
-    (children-right-same-length-3 t)
-    (children-right-same-length-4 t)
+    (λ c. search needs)
+    (λ c. search needs)
     (children-right-returns-2 t)
     (children-right-sub-levels t)
-    (children-right-same-length-5 t)
-    (children-right-same-length-6 t)
+    (λ c. search needs)
+    (λ c. search needs)
     (children-right-returns-3 t)
     (children-right-add-here t)
     (children-right-loop-holds t)
     (children-right-slot-in-requires t)
     (children-right-add-j t)
-    (children-right-enum-known-slot t)
+    (λ c. search needs)
     (children-right-sub-child-right t)
     (children-right-child-right-requires t)
     (children-right-same-length-7 t)
@@ -355,7 +313,7 @@ pub +child-right+children-right-spec : {M : Type 1} → statement M
     (children-right-returns-4 t)
     (children-right-loop-less t)
     (children-right-loop-again t)
-    (children-right-enum-told t)
+    (λ c. search needs)
     (children-right-loop-less-2 t)
     (children-right-loop-again-2 t)
     (children-right-mul-fronts-within t)

@@ -9,38 +9,11 @@ use borrow.Author.Needs.{needs}
 use Rattle.forest_rule.proofs.leaf_right.Statement.{statement}
 use Rattle.forest_rule.proofs.leaf_right.Tie as tie
 
-slot-in-requires : tie.Need-slot-in-requires
-slot-in-requires c κs = search needs
-
-enum-known-slot : tie.Need-enum-known-slot
-enum-known-slot c = search needs
-
-enum-told : tie.Need-enum-told
-enum-told c = search needs
-
-no-leaf-requires : tie.Need-no-leaf-requires
-no-leaf-requires c κs = search needs
-
 returns : tie.Need-returns
 returns c = λ e. not-so (sym (c .no-leaf .ensures .0) ∙ e)
 
-slot-in-requires-2 : tie.Need-slot-in-requires-2
-slot-in-requires-2 c κs = search needs
-
-enum-known-front : tie.Need-enum-known-front
-enum-known-front c = search needs
-
-enum-told-2 : tie.Need-enum-told-2
-enum-told-2 c = search needs
-
-no-leaf-requires-2 : tie.Need-no-leaf-requires-2
-no-leaf-requires-2 c κs = search needs
-
 returns-2 : tie.Need-returns-2
 returns-2 c = λ e. not-so (sym (c .no-leaf2 .ensures .0) ∙ e)
-
-no-leaf-requires-3 : tie.Need-no-leaf-requires-3
-no-leaf-requires-3 c κs = search needs
 
 returns-3 : tie.Need-returns-3
 returns-3 c = λ e. not-so (sym (c .no-leaf3 .ensures .0) ∙ e)
@@ -48,20 +21,11 @@ returns-3 c = λ e. not-so (sym (c .no-leaf3 .ensures .0) ∙ e)
 node-at-requires : tie.Need-node-at-requires
 node-at-requires c κs = let a = c .before .before .before .before .before .before .before .before .before .before .before .args in only-laid (now (a .s)) (a .table) _ (ap entry-of-answer (sym (c .before .before .before .before .before .before .slot .given .1)) ∙ c .before .before .before .before .before .before .before .before .slot-in .ensures) (c .before .before .before .before .before .before .before .before .before .before .before .pre .0)
 
-is-leaf-requires : tie.Need-is-leaf-requires
-is-leaf-requires c κs = search needs
-
-no-leaf-requires-4 : tie.Need-no-leaf-requires-4
-no-leaf-requires-4 c κs = search needs
-
 returns-4 : tie.Need-returns-4
 returns-4 c = λ e. not-so (sym (c .no-leaf4 .ensures .0) ∙ e)
 
 node-at-requires-2 : tie.Need-node-at-requires-2
 node-at-requires-2 c κs = let a = c .before .before .before .before .before .before .before .before .before .before .before .before .before .before .args in only-laid (now (a .s)) (a .other) _ (ap entry-of-answer (sym (c .before .before .before .before .before .front .given .1)) ∙ c .before .before .before .before .before .before .before .slot-in2 .ensures) (c .before .before .before .before .before .before .before .before .before .before .before .before .before .before .pre .1)
-
-no-leaf-requires-5 : tie.Need-no-leaf-requires-5
-no-leaf-requires-5 c κs = search needs
 
 returns-5 : tie.Need-returns-5
 returns-5 c = λ e. not-so (sym (c .no-leaf5 .ensures .0) ∙ e)
@@ -84,9 +48,6 @@ is-union-requires c κs =
     let d = c .before .before .before .add-front in
     (leaf-prefixes (now (a .s)) (a .table) (a .other) _ _ (ap entry-of-answer (sym (c .before .before .before .before .before .before .before .before .before .before .before .before .before .before .before .before .before .slot .given .1)) ∙ c .before .before .before .before .before .before .before .before .before .before .before .before .before .before .before .before .before .before .before .slot-in .ensures) (ap entry-of-answer (sym (c .before .before .before .before .before .before .before .before .before .before .before .before .before .front .given .1)) ∙ c .before .before .before .before .before .before .before .before .before .before .before .before .before .before .before .slot-in2 .ensures) (m .result) (n .result) (m .ensures) (n .ensures) (p .0), rw (d .ensures .0, d .ensures .1) (leaf-valid (now (a .s)) (a .table) (a .other) _ _ (ap entry-of-answer (sym (c .before .before .before .before .before .before .before .before .before .before .before .before .before .before .before .before .before .slot .given .1)) ∙ c .before .before .before .before .before .before .before .before .before .before .before .before .before .before .before .before .before .before .before .slot-in .ensures) (ap entry-of-answer (sym (c .before .before .before .before .before .before .before .before .before .before .before .before .before .front .given .1)) ∙ c .before .before .before .before .before .before .before .before .before .before .before .before .before .before .before .slot-in2 .ensures) (m .result) (n .result) (m .ensures) (n .ensures) (now (a .lists)) (omega (arith, p .2)) (p .1)))
 
-same-length : tie.Need-same-length
-same-length c = search needs
-
 returns-6 : tie.Need-returns-6
 returns-6 c =
     let a = c .before .before .before .before .before .before .before .before .before .before .before .before .before .before .before .before .before .before .before .before .before .before .before .before .before .args in
@@ -101,26 +62,26 @@ pub leaf-right-spec : {M : Type 1} → statement M
 leaf-right-spec =
     tie.close
     (tie.spec
-    slot-in-requires
-    enum-known-slot
-    enum-told
-    no-leaf-requires
+    (λ c κs. search needs)
+    (λ c. search needs)
+    (λ c. search needs)
+    (λ c κs. search needs)
     returns
-    slot-in-requires-2
-    enum-known-front
-    enum-told-2
-    no-leaf-requires-2
+    (λ c κs. search needs)
+    (λ c. search needs)
+    (λ c. search needs)
+    (λ c κs. search needs)
     returns-2
-    no-leaf-requires-3
+    (λ c κs. search needs)
     returns-3
     node-at-requires
-    is-leaf-requires
-    no-leaf-requires-4
+    (λ c κs. search needs)
+    (λ c κs. search needs)
     returns-4
     node-at-requires-2
-    no-leaf-requires-5
+    (λ c κs. search needs)
     returns-5
     add-front-requires
     is-union-requires
-    same-length
+    (λ c. search needs)
     returns-6)

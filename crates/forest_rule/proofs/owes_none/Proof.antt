@@ -4,17 +4,8 @@ use borrow.Author.Needs.{needs}
 use Rattle.forest_rule.proofs.owes_none.Statement.{statement}
 use Rattle.forest_rule.proofs.owes_none.Tie as tie
 
-child-lists-requires : tie.Need-child-lists-requires
-child-lists-requires c κs = search needs
-
-is-union-requires : tie.Need-is-union-requires
-is-union-requires c κs = search needs
-
-same-length : tie.Need-same-length
-same-length c = search needs
-
 returns : tie.Need-returns
 returns c = let f = c .before .before .before .before .before .before .child-lists in let g = c .before .before .is-union in none-say _ _ _ _ _ (f .ensures) (g .ensures .0)
 
 pub owes-none-spec : {M : Type 1} → statement M
-owes-none-spec = tie.close (tie.spec child-lists-requires is-union-requires same-length returns)
+owes-none-spec = tie.close (tie.spec (λ c κs. search needs) (λ c κs. search needs) (λ c. search needs) returns)

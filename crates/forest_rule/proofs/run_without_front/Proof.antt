@@ -8,9 +8,6 @@ use Rattle.single_runs.proofs.SingleLaws.{says-none, says-run}
 use Rattle.forest_rule.proofs.run_without_front.Statement.{statement}
 use Rattle.forest_rule.proofs.run_without_front.Tie as tie
 
-no-run-requires : tie.Need-no-run-requires
-no-run-requires c κs = search needs
-
 returns : tie.Need-returns
 returns c = says-none _ _ _ _ _ _ _ _ (c .no-run .ensures)
 
@@ -24,4 +21,4 @@ returns-2 : tie.Need-returns-2
 returns-2 c = says-run _ _ _ _ _ _ (c .before .if1 .left) (c .single-run .ensures)
 
 pub run-without-front-spec : {M : Type 1} → statement M
-run-without-front-spec = tie.close (tie.spec no-run-requires returns single-run-requires returns-2)
+run-without-front-spec = tie.close (tie.spec (λ c κs. search needs) returns single-run-requires returns-2)

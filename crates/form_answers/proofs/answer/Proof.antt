@@ -23,62 +23,11 @@ read-as l after {r} {v} f e = (
   subst (λ (x : Form). form-in x after ≡ read-line l) e (f .means (omega (arith, length-replicate {A = ℕ} 512 0))),
 )
 
-slice-aggregate-read-form : tie.Need-slice-aggregate-read-form
-slice-aggregate-read-form c = search needs
-
-read-form-requires : tie.Need-read-form-requires
-read-form-requires c κs = search needs
-
-enum-known-kind : tie.Need-enum-known-kind
-enum-known-kind c = search needs
-
-at-most-requires : tie.Need-at-most-requires
-at-most-requires c κs = search needs
-
-new-requires : tie.Need-new-requires
-new-requires c κs = search needs
-
-array-share-prefix-bytes : tie.Need-array-share-prefix-bytes
-array-share-prefix-bytes c = search needs
-
 slice-aggregate-answer-block : tie.Need-slice-aggregate-answer-block
 slice-aggregate-answer-block c = simp length-take (omega arith)
 
-answer-block-requires : tie.Need-answer-block-requires
-answer-block-requires c κs = search needs
-
-enum-told : tie.Need-enum-told
-enum-told c = search needs
-
-answer-finish-requires : tie.Need-answer-finish-requires
-answer-finish-requires c κs = search needs
-
-enum-known-length : tie.Need-enum-known-length
-enum-known-length c = search needs
-
-at-most-requires-2 : tie.Need-at-most-requires-2
-at-most-requires-2 c κs = search needs
-
-array-share-prefix-bytes-2 : tie.Need-array-share-prefix-bytes-2
-array-share-prefix-bytes-2 c = search needs
-
 slice-aggregate-answer-find : tie.Need-slice-aggregate-answer-find
 slice-aggregate-answer-find c = simp length-take (omega arith)
-
-answer-find-requires : tie.Need-answer-find-requires
-answer-find-requires c κs = search needs
-
-enum-told-2 : tie.Need-enum-told-2
-enum-told-2 c = search needs
-
-put-refused-requires : tie.Need-put-refused-requires
-put-refused-requires c κs = search needs
-
-same-length : tie.Need-same-length
-same-length c = search needs
-
-same-length-2 : tie.Need-same-length-2
-same-length-2 c = search needs
 
 returns : tie.Need-returns
 returns c =
@@ -87,12 +36,6 @@ returns c =
     let w = read-as (now (a .line)) (f .last .1 .0) (f .ensures) (c .before .before .before .before .before .before .before .before .before .before .before .kind .given .1) in
     line-by-form (now (a .mem)) (now (a .line)) (block-form (f .last .1 .0) _ _ (c .before .before .before .before .before .before .before .before .before .at-most .ensures) (w .0) _ _ _ _ _ (c .before .before .before .before .before .before .before .before .new .ensures) ∙ w .1) (c .before .before .before .before .answer-block .ensures)
 
-same-length-3 : tie.Need-same-length-3
-same-length-3 c = search needs
-
-same-length-4 : tie.Need-same-length-4
-same-length-4 c = search needs
-
 returns-2 : tie.Need-returns-2
 returns-2 c =
     let f = c .before .before .before .before .before .before .before .before .before .before .read-form in
@@ -100,21 +43,12 @@ returns-2 c =
     let w = read-as (now (a .line)) (f .last .1 .0) (f .ensures) (c .before .before .before .before .before .before .before .enum-told .given .1) in
     line-by-form (now (a .mem)) (now (a .line)) (w .1) (c .before .before .before .before .answer-finish .ensures)
 
-same-length-5 : tie.Need-same-length-5
-same-length-5 c = search needs
-
-same-length-6 : tie.Need-same-length-6
-same-length-6 c = search needs
-
 returns-3 : tie.Need-returns-3
 returns-3 c =
     let f = c .before .before .before .before .before .before .before .before .before .before .before .read-form in
     let a = c .before .before .before .before .before .before .before .before .before .before .before .before .before .before .before .before .args in
     let w = read-as (now (a .line)) (f .last .1 .0) (f .ensures) (c .before .before .before .before .before .before .before .before .length .given .1) in
     line-by-form (now (a .mem)) (now (a .line)) (find-form (f .last .1 .0) _ _ (c .before .before .before .before .before .before .at-most2 .ensures) (w .0) ∙ w .1) (c .before .before .answer-find .ensures)
-
-same-length-7 : tie.Need-same-length-7
-same-length-7 c = search needs
 
 returns-4 : tie.Need-returns-4
 returns-4 c =
@@ -127,31 +61,31 @@ pub answer-spec : {M : Type 1} → statement M
 answer-spec =
     tie.close
     (tie.spec
-    slice-aggregate-read-form
-    read-form-requires
-    enum-known-kind
-    at-most-requires
-    new-requires
-    array-share-prefix-bytes
+    (λ c. search needs)
+    (λ c κs. search needs)
+    (λ c. search needs)
+    (λ c κs. search needs)
+    (λ c κs. search needs)
+    (λ c. search needs)
     slice-aggregate-answer-block
-    answer-block-requires
-    enum-told
-    answer-finish-requires
-    enum-known-length
-    at-most-requires-2
-    array-share-prefix-bytes-2
+    (λ c κs. search needs)
+    (λ c. search needs)
+    (λ c κs. search needs)
+    (λ c. search needs)
+    (λ c κs. search needs)
+    (λ c. search needs)
     slice-aggregate-answer-find
-    answer-find-requires
-    enum-told-2
-    put-refused-requires
-    same-length
-    same-length-2
+    (λ c κs. search needs)
+    (λ c. search needs)
+    (λ c κs. search needs)
+    (λ c. search needs)
+    (λ c. search needs)
     returns
-    same-length-3
-    same-length-4
+    (λ c. search needs)
+    (λ c. search needs)
     returns-2
-    same-length-5
-    same-length-6
+    (λ c. search needs)
+    (λ c. search needs)
     returns-3
-    same-length-7
+    (λ c. search needs)
     returns-4)

@@ -11,38 +11,11 @@ use borrow.Author.Needs.{needs}
 use Rattle.form_answers.proofs.answer_block.Statement.{statement}
 use Rattle.form_answers.proofs.answer_block.Tie as tie
 
-record-requires : tie.Need-record-requires
-record-requires c κs = search needs
-
-enum-told : tie.Need-enum-told
-enum-told c = search needs
-
-put-taken-requires : tie.Need-put-taken-requires
-put-taken-requires c κs = search needs
-
-enum-known-n : tie.Need-enum-known-n
-enum-known-n c = search needs
-
-put-refused-requires : tie.Need-put-refused-requires
-put-refused-requires c κs = search needs
-
-same-length : tie.Need-same-length
-same-length c = search needs
-
-same-length-2 : tie.Need-same-length-2
-same-length-2 c = search needs
-
 returns : tie.Need-returns
 returns c =
     let k = c .before .before .before .before .before .before .before .before .«record» in
     let a = c .before .before .before .before .before .before .before .before .before .before .before .before .before .args in
     answered-one taken (was-taken (record-memory (now (a .mem)) (a .kind) (record { bytes = now (a .bytes); at = plain (a .l) }) .refusal) (taken ∷ []) (sym (c .before .before .before .before .enum-told .given .1) ∙ k .ensures .0)) (omega arith) (c .before .before .put-taken .ensures) (k .ensures .1)
-
-same-length-3 : tie.Need-same-length-3
-same-length-3 c = search needs
-
-same-length-4 : tie.Need-same-length-4
-same-length-4 c = search needs
 
 returns-2 : tie.Need-returns-2
 returns-2 c =
@@ -54,14 +27,14 @@ pub answer-block-spec : {M : Type 1} → statement M
 answer-block-spec =
     tie.close
     (tie.spec
-    record-requires
-    enum-told
-    put-taken-requires
-    enum-known-n
-    put-refused-requires
-    same-length
-    same-length-2
+    (λ c κs. search needs)
+    (λ c. search needs)
+    (λ c κs. search needs)
+    (λ c. search needs)
+    (λ c κs. search needs)
+    (λ c. search needs)
+    (λ c. search needs)
     returns
-    same-length-3
-    same-length-4
+    (λ c. search needs)
+    (λ c. search needs)
     returns-2)

@@ -10,38 +10,11 @@ use borrow.Author.Needs.{needs}
 use Rattle.form_answers.proofs.answer_finish.Statement.{statement}
 use Rattle.form_answers.proofs.answer_finish.Tie as tie
 
-finish-requires : tie.Need-finish-requires
-finish-requires c κs = search needs
-
-enum-told : tie.Need-enum-told
-enum-told c = search needs
-
-put-finished-requires : tie.Need-put-finished-requires
-put-finished-requires c κs = search needs
-
-enum-known-n : tie.Need-enum-known-n
-enum-known-n c = search needs
-
-put-refused-requires : tie.Need-put-refused-requires
-put-refused-requires c κs = search needs
-
-same-length : tie.Need-same-length
-same-length c = search needs
-
-same-length-2 : tie.Need-same-length-2
-same-length-2 c = search needs
-
 returns : tie.Need-returns
 returns c =
     let k = c .before .before .before .before .before .before .before .before .finish in
     let a = c .before .before .before .before .before .before .before .before .before .before .before .before .args in
     answered-one finished (was-finished (finish-memory (now (a .mem)) .refusal) (finished ∷ []) (sym (c .before .before .before .before .enum-told .given .1) ∙ k .ensures .0)) (omega arith) (c .before .before .put-finished .ensures) (k .ensures .1)
-
-same-length-3 : tie.Need-same-length-3
-same-length-3 c = search needs
-
-same-length-4 : tie.Need-same-length-4
-same-length-4 c = search needs
 
 returns-2 : tie.Need-returns-2
 returns-2 c =
@@ -53,14 +26,14 @@ pub answer-finish-spec : {M : Type 1} → statement M
 answer-finish-spec =
     tie.close
     (tie.spec
-    finish-requires
-    enum-told
-    put-finished-requires
-    enum-known-n
-    put-refused-requires
-    same-length
-    same-length-2
+    (λ c κs. search needs)
+    (λ c. search needs)
+    (λ c κs. search needs)
+    (λ c. search needs)
+    (λ c κs. search needs)
+    (λ c. search needs)
+    (λ c. search needs)
     returns
-    same-length-3
-    same-length-4
+    (λ c. search needs)
+    (λ c. search needs)
     returns-2)

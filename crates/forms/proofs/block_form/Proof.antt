@@ -8,29 +8,11 @@ use Rattle.numerals.specs.Numerals.{number}
 use Rattle.forms.proofs.block_form.Statement.{statement}
 use Rattle.forms.proofs.block_form.Tie as tie
 
-read-number-requires : tie.Need-read-number-requires
-read-number-requires c κs = search needs
-
-enum-known-k : tie.Need-enum-known-k
-enum-known-k c = search needs
-
-enum-told : tie.Need-enum-told
-enum-told c = search needs
-
 returns : tie.Need-returns
 returns c =
     let a = c .before .before .before .before .args in
     let l = now (a .line) in
     no-kind (drop (a .at) l) (number-bad l (c .before .before .read-number .result) (number (drop (a .at) l)) (c .before .before .read-number .ensures) (c .enum-told .given .1))
-
-read-number-requires-2 : tie.Need-read-number-requires-2
-read-number-requires-2 c κs = search needs
-
-enum-known-a : tie.Need-enum-known-a
-enum-known-a c = search needs
-
-enum-told-2 : tie.Need-enum-told-2
-enum-told-2 c = search needs
 
 returns-2 : tie.Need-returns-2
 returns-2 c =
@@ -39,15 +21,6 @@ returns-2 c =
     let g0 = c .before .before .before .before .k .given in
     let e0 = number-read l (c .before .before .before .before .before .before .read-number .result) (number (drop (a .at) l)) (c .before .before .before .before .before .before .read-number .ensures) (g0 .0 .0) (g0 .0 .1 .0) (g0 .1) in
     no-address (drop (a .at) l) e0 (number-bad l (c .before .before .read-number2 .result) (number (drop (g0 .0 .1 .0) l)) (c .before .before .read-number2 .ensures) (c .enum-told2 .given .1))
-
-read-number-requires-3 : tie.Need-read-number-requires-3
-read-number-requires-3 c κs = search needs
-
-enum-known-c : tie.Need-enum-known-c
-enum-known-c c = search needs
-
-enum-told-3 : tie.Need-enum-told-3
-enum-told-3 c = search needs
 
 returns-3 : tie.Need-returns-3
 returns-3 c =
@@ -58,15 +31,6 @@ returns-3 c =
     let g1 = c .before .before .before .before .a .given in
     let e1 = number-read l (c .before .before .before .before .before .before .read-number2 .result) (number (drop (g0 .0 .1 .0) l)) (c .before .before .before .before .before .before .read-number2 .ensures) (g1 .0 .0) (g1 .0 .1 .0) (g1 .1) in
     no-creation (drop (a .at) l) e0 e1 (number-bad l (c .before .before .read-number3 .result) (number (drop (g1 .0 .1 .0) l)) (c .before .before .read-number3 .ensures) (c .enum-told3 .given .1))
-
-read-number-requires-4 : tie.Need-read-number-requires-4
-read-number-requires-4 c κs = search needs
-
-enum-known-d : tie.Need-enum-known-d
-enum-known-d c = search needs
-
-enum-told-4 : tie.Need-enum-told-4
-enum-told-4 c = search needs
 
 returns-4 : tie.Need-returns-4
 returns-4 c =
@@ -79,15 +43,6 @@ returns-4 c =
     let g2 = c .before .before .before .before .c .given in
     let e2 = number-read l (c .before .before .before .before .before .before .read-number3 .result) (number (drop (g1 .0 .1 .0) l)) (c .before .before .before .before .before .before .read-number3 .ensures) (g2 .0 .0) (g2 .0 .1 .0) (g2 .1) in
     no-end (drop (a .at) l) e0 e1 e2 (number-bad l (c .before .before .read-number4 .result) (number (drop (g2 .0 .1 .0) l)) (c .before .before .read-number4 .ensures) (c .enum-told4 .given .1))
-
-count-bytes-requires : tie.Need-count-bytes-requires
-count-bytes-requires c κs = search needs
-
-enum-known-n : tie.Need-enum-known-n
-enum-known-n c = search needs
-
-enum-told-5 : tie.Need-enum-told-5
-enum-told-5 c = search needs
 
 returns-5 : tie.Need-returns-5
 returns-5 c =
@@ -121,24 +76,24 @@ pub block-form-spec : {M : Type 1} → statement M
 block-form-spec =
     tie.close
     (tie.spec
-    read-number-requires
-    enum-known-k
-    enum-told
+    (λ c κs. search needs)
+    (λ c. search needs)
+    (λ c. search needs)
     returns
-    read-number-requires-2
-    enum-known-a
-    enum-told-2
+    (λ c κs. search needs)
+    (λ c. search needs)
+    (λ c. search needs)
     returns-2
-    read-number-requires-3
-    enum-known-c
-    enum-told-3
+    (λ c κs. search needs)
+    (λ c. search needs)
+    (λ c. search needs)
     returns-3
-    read-number-requires-4
-    enum-known-d
-    enum-told-4
+    (λ c κs. search needs)
+    (λ c. search needs)
+    (λ c. search needs)
     returns-4
-    count-bytes-requires
-    enum-known-n
-    enum-told-5
+    (λ c κs. search needs)
+    (λ c. search needs)
+    (λ c. search needs)
     returns-5
     returns-6)

@@ -8,15 +8,6 @@ use Rattle.numerals.specs.Numerals.{last-bytes}
 use Rattle.forms.proofs.find_form.Statement.{statement}
 use Rattle.forms.proofs.find_form.Tie as tie
 
-count-bytes-requires : tie.Need-count-bytes-requires
-count-bytes-requires c κs = search needs
-
-enum-known-n : tie.Need-enum-known-n
-enum-known-n c = search needs
-
-enum-told : tie.Need-enum-told
-enum-told c = search needs
-
 returns : tie.Need-returns
 returns c =
     let a = c .before .before .before .before .args in
@@ -28,4 +19,4 @@ returns-2 c =
     find-good (last-bytes (drop (a .at) (now (a .line)))) (c .before .n .given .0 .0) (sym (c .before .n .given .1) ∙ c .before .before .before .count-bytes .ensures)
 
 pub find-form-spec : {M : Type 1} → statement M
-find-form-spec = tie.close (tie.spec count-bytes-requires enum-known-n enum-told returns returns-2)
+find-form-spec = tie.close (tie.spec (λ c κs. search needs) (λ c. search needs) (λ c. search needs) returns returns-2)

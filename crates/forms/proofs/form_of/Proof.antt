@@ -12,28 +12,10 @@ returns c =
     let a = c .before .before .args in
     line-long (now (a .line)) (omega arith)
 
-slice-aggregate-starts-with : tie.Need-slice-aggregate-starts-with
-slice-aggregate-starts-with c = search needs
-
-starts-with-requires : tie.Need-starts-with-requires
-starts-with-requires c κs = search needs
-
-block-form-requires : tie.Need-block-form-requires
-block-form-requires c κs = search needs
-
 returns-2 : tie.Need-returns-2
 returns-2 c =
     let a = c .before .before .before .before .before .before .args in
     c .block-form .ensures ∙ line-block (now (a .line)) (omega arith) (sym (c .before .before .starts-with .ensures) ∙ c .before .if2 .taken)
-
-slice-aggregate-starts-with-2 : tie.Need-slice-aggregate-starts-with-2
-slice-aggregate-starts-with-2 c = search needs
-
-starts-with-requires-2 : tie.Need-starts-with-requires-2
-starts-with-requires-2 c κs = search needs
-
-find-form-requires : tie.Need-find-form-requires
-find-form-requires c κs = search needs
 
 returns-3 : tie.Need-returns-3
 returns-3 c =
@@ -47,12 +29,6 @@ returns-4 c =
     let b = sym (c .before .before .before .before .before .starts-with .ensures) ∙ c .before .before .before .before .if2 .left in
     let f = sym (c .before .before .starts-with2 .ensures) ∙ c .before .if3 .left in
     line-not-eight (now (a .line)) (omega arith) b f (c .if4 .taken)
-
-slice-aggregate-starts-with-3 : tie.Need-slice-aggregate-starts-with-3
-slice-aggregate-starts-with-3 c = search needs
-
-starts-with-requires-3 : tie.Need-starts-with-requires-3
-starts-with-requires-3 c κs = search needs
 
 returns-5 : tie.Need-returns-5
 returns-5 c =
@@ -73,16 +49,16 @@ form-of-spec =
     tie.close
     (tie.spec
     returns
-    slice-aggregate-starts-with
-    starts-with-requires
-    block-form-requires
+    (λ c. search needs)
+    (λ c κs. search needs)
+    (λ c κs. search needs)
     returns-2
-    slice-aggregate-starts-with-2
-    starts-with-requires-2
-    find-form-requires
+    (λ c. search needs)
+    (λ c κs. search needs)
+    (λ c κs. search needs)
     returns-3
     returns-4
-    slice-aggregate-starts-with-3
-    starts-with-requires-3
+    (λ c. search needs)
+    (λ c κs. search needs)
     returns-5
     returns-6)

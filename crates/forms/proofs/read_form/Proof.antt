@@ -6,12 +6,6 @@ use Rattle.forms.proofs.Reading.{reads-none, line-behind, reads-some}
 use Rattle.forms.proofs.read_form.Statement.{statement}
 use Rattle.forms.proofs.read_form.Tie as tie
 
-form-of-requires : tie.Need-form-of-requires
-form-of-requires c κs = search needs
-
-byte-length-requires : tie.Need-byte-length-requires
-byte-length-requires c κs = search needs
-
 returns : tie.Need-returns
 returns c =
     let a = c .before .before .before .before .before .args in
@@ -51,9 +45,6 @@ decode-requires c κs =
     let k = line-behind (now (a .line)) (now (a .bytes)) (f .result) (n .result) (f .ensures) (n .ensures) (c .before .if1 .left) in
     omega arith
 
-same-length : tie.Need-same-length
-same-length c = search needs
-
 returns-2 : tie.Need-returns-2
 returns-2 c =
     let a = c .before .before .before .before .before .before .before .before .before .args in
@@ -65,12 +56,12 @@ pub read-form-spec : {M : Type 1} → statement M
 read-form-spec =
     tie.close
     (tie.spec
-    form-of-requires
-    byte-length-requires
+    (λ c κs. search needs)
+    (λ c κs. search needs)
     returns
     sub-decode
     mul-decode
     sub-decode-2
     decode-requires
-    same-length
+    (λ c. search needs)
     returns-2)

@@ -49,9 +49,6 @@ mul-is-absent c = omega (arith, c .before .before .before .before .before .pre .
 slice-read-is-absent : tie.Need-slice-read-is-absent Inv-loop μ-loop
 slice-read-is-absent c = omega (arith, c .before .before .before .before .before .before .pre .0 .is .few, c .before .before .loop .inv .0 .kept .same-length)
 
-is-absent-requires : tie.Need-is-absent-requires Inv-loop μ-loop
-is-absent-requires c κs = search needs
-
 mul-child-in : tie.Need-mul-child-in Inv-loop μ-loop
 mul-child-in c = omega (arith, c .before .before .before .before .before .before .before .before .pre .0 .is .few)
 
@@ -74,9 +71,6 @@ child-in-requires c κs =
     let o = c .before .before .before .before .before .before .loop in
     let l = c .before .before .before .before .before .loop-test .taken in
     finding-here (now (a .s)) (a .byte) (a .depth * 768) ((a .depth + 1) * 768) (now (a .fronts)) (a .count) (o .i) (o .fronts) (o .met) (o .lists) (o .listed) (o .inv .0) l (omega (arith, u .pre .0 .is .few)) (u .pre .0)
-
-enum-known-c : tie.Need-enum-known-c Inv-loop μ-loop
-enum-known-c c = search needs
 
 node-at-requires : tie.Need-node-at-requires Inv-loop μ-loop
 node-at-requires c κs =
@@ -140,9 +134,6 @@ loop-again c =
     let k = length-two (o .lists) (o .listed) (n .result .chunks) (n .result .«chunk_count») (n .result .prefixes) (n .result .«prefix_count») in
     rw (g .ensures, f .ensures .0, f .ensures .1) (w, k ∙ o .inv .1)
 
-enum-told : tie.Need-enum-told Inv-loop μ-loop
-enum-told c = search needs
-
 loop-less-2 : tie.Need-loop-less-2 Inv-loop μ-loop
 loop-less-2 c = omega arith
 
@@ -196,14 +187,14 @@ fronts-by-spec =
     add-is-absent
     mul-is-absent
     slice-read-is-absent
-    is-absent-requires
+    (λ c κs. search needs)
     mul-child-in
     slice-read-child-in
     add-child-in
     mul-child-in-2
     slice-read-child-in-2
     child-in-requires
-    enum-known-c
+    (λ c. search needs)
     node-at-requires
     mask-of-requires
     mul-put-front
@@ -213,7 +204,7 @@ fronts-by-spec =
     add-front-requires
     loop-less
     loop-again
-    enum-told
+    (λ c. search needs)
     loop-less-2
     loop-again-2
     loop-less-3

@@ -8,14 +8,8 @@ use Rattle.fronts.proofs.is_absent.Tie as tie
 returns : tie.Need-returns
 returns c = rw (eq-eqb (c .before .args .mask) 0 (c .if1 .taken)) refl
 
-cast-result : tie.Need-cast-result
-cast-result c = search needs
-
-shr-result : tie.Need-shr-result
-shr-result c = search needs
-
 returns-2 : tie.Need-returns-2
 returns-2 c = rw (ne-eqb (c .before .args .mask) 0 (c .if1 .left)) refl
 
 pub is-absent-spec : {M : Type 1} → statement M
-is-absent-spec = tie.close (tie.spec returns cast-result shr-result returns-2)
+is-absent-spec = tie.close (tie.spec returns (λ c. search needs) (λ c. search needs) returns-2)

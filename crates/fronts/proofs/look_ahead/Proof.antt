@@ -20,15 +20,9 @@ read-ahead-requires c κs =
     let z : a .depth * 768 ≡ 0 = omega (arith, c .if1 .left) in
     (subst (λ (p : ℕ). HasFronts (now (a .s)) (now (a .fronts)) p (a .count)) z (u .pre .0), omega (arith, u .pre .0 .is .few, u .pre .1))
 
-slice-write-lists : tie.Need-slice-write-lists
-slice-write-lists c = search needs
-
-same-length : tie.Need-same-length
-same-length c = search needs
-
 returns-2 : tie.Need-returns-2
 returns-2 c = rw (eq-eqb (c .before .before .before .before .before .args .depth) 0 (c .before .if1 .left)) (ap (set (now (c .before .before .before .before .before .args .lists)) 1024) (c .read-ahead .ensures))
 
 pub look-ahead-spec : {M : Type 1} → statement M
 look-ahead-spec =
-    tie.close (tie.spec returns read-ahead-requires slice-write-lists same-length returns-2)
+    tie.close (tie.spec returns read-ahead-requires (λ c. search needs) (λ c. search needs) returns-2)

@@ -27,12 +27,6 @@ slot-in-requires c κs = (c .before .before .before .before .pre .0 .is .within,
 add-j : tie.Need-add-j Inv-loop μ-loop
 add-j c = omega arith
 
-enum-known-slot : tie.Need-enum-known-slot Inv-loop μ-loop
-enum-known-slot c = search needs
-
-cast-has : tie.Need-cast-has Inv-loop μ-loop
-cast-has c = search needs
-
 slice-write-has : tie.Need-slice-write-has Inv-loop μ-loop
 slice-write-has c = omega (arith, c .before .before .before .before .before .loop .inv .1, c .before .before .before .before .before .before .before .before .pre .1)
 
@@ -48,9 +42,6 @@ loop-again c =
       marking-add (now (a .s)) (a .table) (a .children) (o .j) (o .has) (o .inv .0) (c .before .before .before .before .loop-test .taken) _ e (omega (arith, o .inv .1, u .pre .1)),
       length-set (o .has) (c .before .slot .given .0 .0) 1 ∙ o .inv .1,
     )
-
-enum-told : tie.Need-enum-told Inv-loop μ-loop
-enum-told c = search needs
 
 loop-less-2 : tie.Need-loop-less-2 Inv-loop μ-loop
 loop-less-2 c = omega arith
@@ -80,12 +71,12 @@ mark-bytes-spec =
     loop-holds
     slot-in-requires
     add-j
-    enum-known-slot
-    cast-has
+    (λ c. search needs)
+    (λ c. search needs)
     slice-write-has
     loop-less
     loop-again
-    enum-told
+    (λ c. search needs)
     loop-less-2
     loop-again-2
     same-length

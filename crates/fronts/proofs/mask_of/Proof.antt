@@ -27,12 +27,6 @@ slot-in-requires c κs = (c .before .before .before .before .pre .is .within, om
 add-j : tie.Need-add-j Inv-loop μ-loop
 add-j c = omega arith
 
-enum-known-slot : tie.Need-enum-known-slot Inv-loop μ-loop
-enum-known-slot c = search needs
-
-with-byte-requires : tie.Need-with-byte-requires Inv-loop μ-loop
-with-byte-requires c κs = search needs
-
 loop-less : tie.Need-loop-less Inv-loop μ-loop
 loop-less c = omega (arith, c .before .before .before .before .before .loop-test .taken)
 
@@ -41,9 +35,6 @@ loop-again c =
     let o = c .before .before .before .before .before .before .loop in
     let e = ap entry-of-answer (sym (c .before .before .slot .given .1)) ∙ c .before .before .before .before .slot-in .ensures in
     masking-add _ _ _ (o .j) (o .mask) (o .inv) (c .before .before .before .before .before .loop-test .taken) _ e _ (adds-byte _ _ _ (c .with-byte .ensures))
-
-enum-told : tie.Need-enum-told Inv-loop μ-loop
-enum-told c = search needs
 
 loop-less-2 : tie.Need-loop-less-2 Inv-loop μ-loop
 loop-less-2 c = omega arith
@@ -67,11 +58,11 @@ mask-of-spec =
     loop-holds
     slot-in-requires
     add-j
-    enum-known-slot
-    with-byte-requires
+    (λ c. search needs)
+    (λ c κs. search needs)
     loop-less
     loop-again
-    enum-told
+    (λ c. search needs)
     loop-less-2
     loop-again-2
     returns-2)

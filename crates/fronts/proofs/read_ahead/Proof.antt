@@ -25,9 +25,6 @@ returns c = let a = c .before .before .before .args in shares-none (now (a .s)) 
 div-share : tie.Need-div-share Inv-loop μ-loop
 div-share c = omega arith
 
-read-part-requires : tie.Need-read-part-requires Inv-loop μ-loop
-read-part-requires c κs = search needs
-
 loop-holds : tie.Need-loop-holds Inv-loop μ-loop
 loop-holds c =
     let u = c .before .before .before .before in
@@ -59,14 +56,8 @@ shared-slice-read-child-in-2 c = omega (arith, c .before .before .before .loop .
 child-in-requires : tie.Need-child-in-requires Inv-loop μ-loop
 child-in-requires c κs = let o = c .before .before .before .loop in first-table _ _ _ (o .i) (c .before .before .loop-test .taken) (o .inv .0) .is .within
 
-enum-known-c : tie.Need-enum-known-c Inv-loop μ-loop
-enum-known-c c = search needs
-
 div-read-part : tie.Need-div-read-part Inv-loop μ-loop
 div-read-part c = omega (arith, c .before .before .before .before .before .before .before .loop .inv .2)
-
-read-part-requires-2 : tie.Need-read-part-requires-2 Inv-loop μ-loop
-read-part-requires-2 c κs = search needs
 
 loop-less : tie.Need-loop-less Inv-loop μ-loop
 loop-less c = omega (arith, c .before .before .before .before .before .before .before .loop-test .taken)
@@ -79,9 +70,6 @@ loop-again c =
     let q = ap child-of-answer (sym (c .before .before .c .given .1)) ∙ c .before .before .before .before .child-in .ensures in
     let n = length (now (a .s)) / a .count / a .count in
     (l .inv .0, l .inv .1, l .inv .2, fronts-some (now (a .s)) (a .byte) (now (a .fronts)) n (a .count) (l .i) (l .sum) _ (c .read-part2 .result) on q (c .read-part2 .ensures) ∙ l .inv .3)
-
-enum-told : tie.Need-enum-told Inv-loop μ-loop
-enum-told c = search needs
 
 loop-less-2 : tie.Need-loop-less-2 Inv-loop μ-loop
 loop-less-2 c = omega (arith, c .before .before .before .before .before .loop-test .taken)
@@ -110,7 +98,7 @@ read-ahead-spec =
     μ-loop
     returns
     div-share
-    read-part-requires
+    (λ c κs. search needs)
     loop-holds
     mul-f
     add-i
@@ -120,12 +108,12 @@ read-ahead-spec =
     mul-child-in-2
     shared-slice-read-child-in-2
     child-in-requires
-    enum-known-c
+    (λ c. search needs)
     div-read-part
-    read-part-requires-2
+    (λ c κs. search needs)
     loop-less
     loop-again
-    enum-told
+    (λ c. search needs)
     loop-less-2
     loop-again-2
     returns-2)

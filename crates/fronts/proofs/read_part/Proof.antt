@@ -22,9 +22,6 @@ returns c = let a = c .before .before .args in part-none (now (a .s)) (a .at) (a
 sub-parts-within : tie.Need-sub-parts-within Inv-loop μ-loop
 sub-parts-within c = omega arith
 
-parts-within-requires : tie.Need-parts-within-requires Inv-loop μ-loop
-parts-within-requires c κs = search needs
-
 loop-holds : tie.Need-loop-holds Inv-loop μ-loop
 loop-holds c =
     let a = c .before .before .before .args in
@@ -59,7 +56,7 @@ read-part-spec =
     μ-loop
     returns
     sub-parts-within
-    parts-within-requires
+    (λ c κs. search needs)
     loop-holds
     get64-requires
     add-p

@@ -26,9 +26,6 @@ slot-in-requires c κs = (c .before .before .before .before .pre .0 .is .within,
 add-j : tie.Need-add-j Inv-loop μ-loop
 add-j c = omega arith
 
-enum-known-slot : tie.Need-enum-known-slot Inv-loop μ-loop
-enum-known-slot c = search needs
-
 node-at-requires : tie.Need-node-at-requires Inv-loop μ-loop
 node-at-requires c κs =
     let a = c .before .before .before .before .before .before .before .before .args in
@@ -68,9 +65,6 @@ loop-again c =
     let w = putting-add (now (a .s)) (a .table) (a .children) (o .j) (o .fronts) (o .count) (o .inv .0) l _ e (omega (arith, o .inv .0 .few, u .pre .1, o .inv .1)) (n .result) (n .ensures) (c .before .before .before .before .mask-of .result) (c .before .before .before .before .mask-of .ensures) in
     rw (c .before .before .put-front .ensures) (w, front-length (o .fronts) (o .count * 3) (n .result .table) (n .result .children) (c .before .before .before .before .mask-of .result) ∙ o .inv .1)
 
-enum-told : tie.Need-enum-told Inv-loop μ-loop
-enum-told c = search needs
-
 loop-less-2 : tie.Need-loop-less-2 Inv-loop μ-loop
 loop-less-2 c = omega arith
 
@@ -99,7 +93,7 @@ root-fronts-spec =
     loop-holds
     slot-in-requires
     add-j
-    enum-known-slot
+    (λ c. search needs)
     node-at-requires
     mask-of-requires
     mul-put-front
@@ -107,7 +101,7 @@ root-fronts-spec =
     add-count
     loop-less
     loop-again
-    enum-told
+    (λ c. search needs)
     loop-less-2
     loop-again-2
     same-length

@@ -26,12 +26,6 @@ slot-in-requires c κs = (c .before .before .before .before .pre .0 .is .within,
 add-j : tie.Need-add-j Inv-loop μ-loop
 add-j c = omega arith
 
-enum-known-slot : tie.Need-enum-known-slot Inv-loop μ-loop
-enum-known-slot c = search needs
-
-cast-if1 : tie.Need-cast-if1 Inv-loop μ-loop
-cast-if1 c = search needs
-
 shared-slice-read-if1 : tie.Need-shared-slice-read-if1 Inv-loop μ-loop
 shared-slice-read-if1 c = omega (arith, c .before .before .before .before .before .before .before .before .before .pre .1)
 
@@ -51,9 +45,6 @@ loop-again c =
     let o = c .before .before .before .before .before .before .before .loop in
     let e = ap entry-of-answer (sym (c .before .before .before .slot .given .1)) ∙ c .before .before .before .before .before .slot-in .ensures in
     checking-met (now (a .s)) (MarksOf (now (a .has))) (a .other) (a .others) (o .j) (o .inv) (c .before .before .before .before .before .before .loop-test .taken) _ e (mark-met (now (a .has)) _ (c .if1 .left))
-
-enum-told : tie.Need-enum-told Inv-loop μ-loop
-enum-told c = search needs
 
 loop-less-2 : tie.Need-loop-less-2 Inv-loop μ-loop
 loop-less-2 c = omega arith
@@ -77,13 +68,13 @@ table-marked-spec =
     loop-holds
     slot-in-requires
     add-j
-    enum-known-slot
-    cast-if1
+    (λ c. search needs)
+    (λ c. search needs)
     shared-slice-read-if1
     returns
     loop-less
     loop-again
-    enum-told
+    (λ c. search needs)
     loop-less-2
     loop-again-2
     returns-2)

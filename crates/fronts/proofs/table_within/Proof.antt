@@ -25,14 +25,8 @@ slot-in-requires c κs = (c .before .before .before .pre .1 .is .within, omega a
 add-j : tie.Need-add-j Inv-loop μ-loop
 add-j c = omega arith
 
-enum-known-slot : tie.Need-enum-known-slot Inv-loop μ-loop
-enum-known-slot c = search needs
-
 child-in-requires : tie.Need-child-in-requires Inv-loop μ-loop
 child-in-requires c κs = c .before .before .before .before .before .before .before .pre .0 .is .within
-
-enum-told : tie.Need-enum-told Inv-loop μ-loop
-enum-told c = search needs
 
 loop-less : tie.Need-loop-less Inv-loop μ-loop
 loop-less c = omega (arith, c .before .before .before .before .before .before .before .loop-test .taken)
@@ -45,9 +39,6 @@ loop-again c =
     let f = ap child-of-answer (sym (c .enum-told .given .1)) ∙ c .before .before .child-in .ensures in
     checking-met (now (a .s)) (Led (now (a .s)) (a .table) (a .children)) (a .other) (a .others) (o .j) (o .inv) (c .before .before .before .before .before .before .before .loop-test .taken) _ e (led-met (now (a .s)) (a .table) (a .children) _ _ f)
 
-enum-told-2 : tie.Need-enum-told-2 Inv-loop μ-loop
-enum-told-2 c = search needs
-
 returns : tie.Need-returns Inv-loop μ-loop
 returns c =
     let a = c .before .before .before .before .before .before .before .before .before .before .args in
@@ -55,9 +46,6 @@ returns c =
     let e = ap entry-of-answer (sym (c .before .before .before .before .slot .given .1)) ∙ c .before .before .before .before .before .before .slot-in .ensures in
     let f = ap child-of-answer (sym (c .enum-told2 .given .1)) ∙ c .before .before .child-in .ensures in
     led-says (now (a .s)) (a .table) (a .children) (a .other) (a .others) false (checking-lost (now (a .s)) (Led (now (a .s)) (a .table) (a .children)) (a .other) (a .others) (o .j) (o .inv) (c .before .before .before .before .before .before .before .loop-test .taken) _ e (led-lost (now (a .s)) (a .table) (a .children) _ f))
-
-enum-told-3 : tie.Need-enum-told-3 Inv-loop μ-loop
-enum-told-3 c = search needs
 
 loop-less-2 : tie.Need-loop-less-2 Inv-loop μ-loop
 loop-less-2 c = omega arith
@@ -84,14 +72,14 @@ table-within-spec =
     loop-holds
     slot-in-requires
     add-j
-    enum-known-slot
+    (λ c. search needs)
     child-in-requires
-    enum-told
+    (λ c. search needs)
     loop-less
     loop-again
-    enum-told-2
+    (λ c. search needs)
     returns
-    enum-told-3
+    (λ c. search needs)
     loop-less-2
     loop-again-2
     returns-2)

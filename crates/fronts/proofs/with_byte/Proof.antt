@@ -4,14 +4,8 @@ use borrow.Author.Needs.{needs}
 use Rattle.fronts.proofs.with_byte.Statement.{statement}
 use Rattle.fronts.proofs.with_byte.Tie as tie
 
-cast-result : tie.Need-cast-result
-cast-result c = search needs
-
-shl-result : tie.Need-shl-result
-shl-result c = search needs
-
 returns : tie.Need-returns
 returns c = refl
 
 pub with-byte-spec : {M : Type 1} → statement M
-with-byte-spec = tie.close (tie.spec cast-result shl-result returns)
+with-byte-spec = tie.close (tie.spec (λ c. search needs) (λ c. search needs) returns)

@@ -6,15 +6,6 @@ use Rattle.helmapricot.proofs.Numbers.{finished-back}
 use Rattle.helmapricot.proofs.helmapricot_finish.Statement.{statement}
 use Rattle.helmapricot.proofs.helmapricot_finish.Tie as tie
 
-finish-requires : tie.Need-finish-requires
-finish-requires c κs = search needs
-
-finished-number-requires : tie.Need-finished-number-requires
-finished-number-requires c κs = search needs
-
-same-length : tie.Need-same-length
-same-length c = search needs
-
 returns : tie.Need-returns
 returns c =
     let r = c .before .before .before .finish in
@@ -22,4 +13,4 @@ returns c =
 
 pub helmapricot-finish-spec : {M : Type 1} → statement M
 helmapricot-finish-spec =
-    tie.close (tie.spec finish-requires finished-number-requires same-length returns)
+    tie.close (tie.spec (λ c κs. search needs) (λ c κs. search needs) (λ c. search needs) returns)

@@ -6,15 +6,6 @@ use Rattle.helmapricot.proofs.Numbers.{loaded-back}
 use Rattle.helmapricot.proofs.helmapricot_load.Statement.{statement}
 use Rattle.helmapricot.proofs.helmapricot_load.Tie as tie
 
-load-requires : tie.Need-load-requires
-load-requires c κs = search needs
-
-loaded-number-requires : tie.Need-loaded-number-requires
-loaded-number-requires c κs = search needs
-
-same-length : tie.Need-same-length
-same-length c = search needs
-
 returns : tie.Need-returns
 returns c =
     let r = c .before .before .before .load in
@@ -22,4 +13,4 @@ returns c =
 
 pub helmapricot-load-spec : {M : Type 1} → statement M
 helmapricot-load-spec =
-    tie.close (tie.spec load-requires loaded-number-requires same-length returns)
+    tie.close (tie.spec (λ c κs. search needs) (λ c κs. search needs) (λ c. search needs) returns)

@@ -6,15 +6,6 @@ use Rattle.helmapricot.proofs.Numbers.{opened-back}
 use Rattle.helmapricot.proofs.helmapricot_open.Statement.{statement}
 use Rattle.helmapricot.proofs.helmapricot_open.Tie as tie
 
-open-requires : tie.Need-open-requires
-open-requires c κs = search needs
-
-opened-number-requires : tie.Need-opened-number-requires
-opened-number-requires c κs = search needs
-
-same-length : tie.Need-same-length
-same-length c = search needs
-
 returns : tie.Need-returns
 returns c =
     let r = c .before .before .before .«open» in
@@ -22,4 +13,4 @@ returns c =
 
 pub helmapricot-open-spec : {M : Type 1} → statement M
 helmapricot-open-spec =
-    tie.close (tie.spec open-requires opened-number-requires same-length returns)
+    tie.close (tie.spec (λ c κs. search needs) (λ c κs. search needs) (λ c. search needs) returns)

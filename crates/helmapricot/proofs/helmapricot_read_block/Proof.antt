@@ -22,27 +22,12 @@ data-length p =
     let within = p .within in
     simp (length-take, length-drop) (omega arith)
 
-read-block-requires : tie.Need-read-block-requires
-read-block-requires c κs = search needs
-
-enum-known-b : tie.Need-enum-known-b
-enum-known-b c = search needs
-
 put-fields-requires : tie.Need-put-fields-requires
 put-fields-requires c κs =
     let g = c .before .before .b .given in
     let f = c .before .before .before .before .read-block in
     let a = c .before .before .before .before .before .before .args in
     block-part (now (a .s)) (a .at) (f .result) (g .0 .0) (g .1) (f .ensures .0) (f .ensures .1) .ordered
-
-enum-told : tie.Need-enum-told
-enum-told c = search needs
-
-element-write-fields : tie.Need-element-write-fields
-element-write-fields c = search needs
-
-enum-known-n : tie.Need-enum-known-n
-enum-known-n c = search needs
 
 returns : tie.Need-returns
 returns c =
@@ -75,12 +60,12 @@ pub helmapricot-read-block-spec : {M : Type 1} → statement M
 helmapricot-read-block-spec =
     tie.close
     (tie.spec
-    read-block-requires
-    enum-known-b
+    (λ c κs. search needs)
+    (λ c. search needs)
     put-fields-requires
-    enum-told
-    element-write-fields
-    enum-known-n
+    (λ c. search needs)
+    (λ c. search needs)
+    (λ c. search needs)
     returns
     returns-2
     returns-3)

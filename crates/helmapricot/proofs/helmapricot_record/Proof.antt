@@ -9,18 +9,6 @@ use Rattle.helmapricot.proofs.Numbers.{recorded-back}
 use Rattle.helmapricot.proofs.helmapricot_record.Statement.{statement}
 use Rattle.helmapricot.proofs.helmapricot_record.Tie as tie
 
-new-requires : tie.Need-new-requires
-new-requires c κs = search needs
-
-record-requires : tie.Need-record-requires
-record-requires c κs = search needs
-
-recorded-number-requires : tie.Need-recorded-number-requires
-recorded-number-requires c κs = search needs
-
-same-length : tie.Need-same-length
-same-length c = search needs
-
 returns : tie.Need-returns
 returns c =
     let a = c .before .before .before .before .before .before .before .before .args in
@@ -30,4 +18,4 @@ returns c =
 
 pub helmapricot-record-spec : {M : Type 1} → statement M
 helmapricot-record-spec =
-    tie.close (tie.spec new-requires record-requires recorded-number-requires same-length returns)
+    tie.close (tie.spec (λ c κs. search needs) (λ c κs. search needs) (λ c κs. search needs) (λ c. search needs) returns)

@@ -9,15 +9,6 @@ use Rattle.helmapricot.specs.Counts.{count-after}
 use Rattle.helmapricot.proofs.put_count.Statement.{statement}
 use Rattle.helmapricot.proofs.put_count.Tie as tie
 
-enum-known-a : tie.Need-enum-known-a
-enum-known-a c = search needs
-
-element-write-count : tie.Need-element-write-count
-element-write-count c = search needs
-
-enum-known-a-2 : tie.Need-enum-known-a-2
-enum-known-a-2 c = search needs
-
 returns : tie.Need-returns
 returns c =
     let cs : List ℕ = c .before .before .before .args .count .now in
@@ -31,4 +22,4 @@ returns-2 c =
     (ap answer-number e, ap (λ (x : Answer). count-after x cs) e)
 
 pub put-count-spec : {M : Type 1} → statement M
-put-count-spec = tie.close (tie.spec enum-known-a element-write-count enum-known-a-2 returns returns-2)
+put-count-spec = tie.close (tie.spec (λ c. search needs) (λ c. search needs) (λ c. search needs) returns returns-2)

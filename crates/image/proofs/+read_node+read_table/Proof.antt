@@ -53,29 +53,11 @@ read-table-below t =
 abbrev read-node-claims : ℕ → read-node-lts.Claims
 read-node-claims t = (thin-run-reads.Asked, thin-run-reads.Learnt, refuse-reads.Asked, refuse-reads.Learnt, read-head-reads.Asked, read-head-reads.Learnt, open-table-reads.Asked, open-table-reads.Learnt, read-table-below t, read-table.Post)
 
-read-node-thin-run-requires : (t : ℕ) → read-node-lts.Need-thin-run-requires (read-node-claims t) (read-node-at t) read-node.Post
-read-node-thin-run-requires t c κs = search needs
-
-read-node-sub-levels : (t : ℕ) → read-node-lts.Need-sub-levels (read-node-claims t) (read-node-at t) read-node.Post
-read-node-sub-levels t c = search needs
-
-read-node-refuse-requires : (t : ℕ) → read-node-lts.Need-refuse-requires (read-node-claims t) (read-node-at t) read-node.Post
-read-node-refuse-requires t c κs = search needs
-
 read-node-returns : (t : ℕ) → read-node-lts.Need-returns (read-node-claims t) (read-node-at t) read-node.Post
 read-node-returns t c = step-with _ 15 (c .refuse .ensures) (omega arith) ∙ c .before .before .thin-run .ensures .refused 15 (node-zero _ _ _ (c .before .if1 .taken))
 
-read-node-mul-read-head : (t : ℕ) → read-node-lts.Need-mul-read-head (read-node-claims t) (read-node-at t) read-node.Post
-read-node-mul-read-head t c = search needs
-
-read-node-add-read-head : (t : ℕ) → read-node-lts.Need-add-read-head (read-node-claims t) (read-node-at t) read-node.Post
-read-node-add-read-head t c = search needs
-
 read-node-read-head-requires : (t : ℕ) → read-node-lts.Need-read-head-requires (read-node-claims t) (read-node-at t) read-node.Post
 read-node-read-head-requires t c κs = c .before .thin-run .ensures .within
-
-read-node-refuse-requires-2 : (t : ℕ) → read-node-lts.Need-refuse-requires-2 (read-node-claims t) (read-node-at t) read-node.Post
-read-node-refuse-requires-2 t c κs = search needs
 
 read-node-returns-2 : (t : ℕ) → read-node-lts.Need-returns-2 (read-node-claims t) (read-node-at t) read-node.Post
 read-node-returns-2 t c =
@@ -88,18 +70,12 @@ read-node-open-table-requires t c κs =
     let h = head-inv _ _ _ _ _ (sym (head-right _ (c .if2 .left)) ∙ c .before .before .read-head .ensures) in
     (h .4, omega (arith, h .1), h .2)
 
-read-node-refuse-requires-3 : (t : ℕ) → read-node-lts.Need-refuse-requires-3 (read-node-claims t) (read-node-at t) read-node.Post
-read-node-refuse-requires-3 t c κs = search needs
-
 read-node-returns-3 : (t : ℕ) → read-node-lts.Need-returns-3 (read-node-claims t) (read-node-at t) read-node.Post
 read-node-returns-3 t c =
     step-with _ _ (c .refuse3 .ensures) (c .before .if3 .taken) ∙
     c .before .before .before .before .before .before .before .before .thin-run .ensures .refused _
     (node-open _ _ _ (c .before .before .before .before .before .before .before .if1 .left) _ _ _ _ (sym (head-right _ (c .before .before .before .before .if2 .left)) ∙ c .before .before .before .before .before .before .read-head .ensures)
     (sym (table-refused _ (c .before .if3 .taken)) ∙ c .before .before .before .open-table .ensures))
-
-read-node-sub-read-table : (t : ℕ) → read-node-lts.Need-sub-read-table (read-node-claims t) (read-node-at t) read-node.Post
-read-node-sub-read-table t c = search needs
 
 read-node-read-table-requires : (t : ℕ) → read-node-lts.Need-read-table-requires (read-node-claims t) (read-node-at t) read-node.Post
 read-node-read-table-requires t c κs = (omega arith, open-within _ _ _ _ (sym (table-right _ (c .if3 .left)) ∙ c .before .before .open-table .ensures) .0)
@@ -155,17 +131,11 @@ read-table-claims t = (next-turn-reads.Asked, next-turn-reads.Learnt, turn-at-re
 read-table-loop-holds : (t : ℕ) → read-table-lts.Need-loop-holds (read-table-claims t) (read-table-at t) read-table.Post read-table-Inv-loop read-table-μ-loop
 read-table-loop-holds t c = (omega arith, omega arith, omega arith, run-start _ _ (table-in (c .before .args .c)))
 
-read-table-next-turn-requires : (t : ℕ) → read-table-lts.Need-next-turn-requires (read-table-claims t) (read-table-at t) read-table.Post read-table-Inv-loop read-table-μ-loop
-read-table-next-turn-requires t c κs = search needs
-
 read-table-add-i : (t : ℕ) → read-table-lts.Need-add-i (read-table-claims t) (read-table-at t) read-table.Post read-table-Inv-loop read-table-μ-loop
 read-table-add-i t c = omega (arith, c .next-turn .ensures .last)
 
 read-table-turn-at-requires : (t : ℕ) → read-table-lts.Need-turn-at-requires (read-table-claims t) (read-table-at t) read-table.Post read-table-Inv-loop read-table-μ-loop
 read-table-turn-at-requires t c κs = (c .before .before .before .before .before .pre .1, c .next-turn .ensures .last)
-
-read-table-enum-told : (t : ℕ) → read-table-lts.Need-enum-told (read-table-claims t) (read-table-at t) read-table.Post read-table-Inv-loop read-table-μ-loop
-read-table-enum-told t c = search needs
 
 read-table-loop-less : (t : ℕ) → read-table-lts.Need-loop-less (read-table-claims t) (read-table-at t) read-table.Post read-table-Inv-loop read-table-μ-loop
 read-table-loop-less t c = omega (arith, c .before .before .before .next-turn .ensures .from, c .before .before .before .next-turn .ensures .last)
@@ -178,9 +148,6 @@ read-table-loop-again t c = (
   run-skip _ _ (table-in (c .before .before .before .before .before .before .before .before .args .c)) _ _ _ _ _ _ _ (c .before .before .before .next-turn .ensures .last) (child-by _ _ (table-in (c .before .before .before .before .before .before .before .before .args .c)) _ _ none-due (ap turn-of (sym (c .enum-told .given .1)) ∙ c .before .before .turn-at .ensures)) ∙
       run-to _ _ (table-in (c .before .before .before .before .before .before .before .before .args .c)) _ _ _ _ _ _ (c .before .before .before .next-turn .ensures) ∙ c .before .before .before .before .before .before .loop .inv .3,
 )
-
-read-table-enum-told-2 : (t : ℕ) → read-table-lts.Need-enum-told-2 (read-table-claims t) (read-table-at t) read-table.Post read-table-Inv-loop read-table-μ-loop
-read-table-enum-told-2 t c = search needs
 
 read-table-add-at : (t : ℕ) → read-table-lts.Need-add-at (read-table-claims t) (read-table-at t) read-table.Post read-table-Inv-loop read-table-μ-loop
 read-table-add-at t c =
@@ -200,21 +167,12 @@ read-table-loop-again-2 t c =
           run-to _ _ (table-in (c .before .before .before .before .before .before .before .before .args .c)) _ _ _ _ _ _ (c .before .before .before .next-turn .ensures) ∙ c .before .before .before .before .before .before .loop .inv .3,
     )
 
-read-table-enum-known-n : (t : ℕ) → read-table-lts.Need-enum-known-n (read-table-claims t) (read-table-at t) read-table.Post read-table-Inv-loop read-table-μ-loop
-read-table-enum-known-n t c = search needs
-
-read-table-refuse-requires : (t : ℕ) → read-table-lts.Need-refuse-requires (read-table-claims t) (read-table-at t) read-table.Post read-table-Inv-loop read-table-μ-loop
-read-table-refuse-requires t c κs = search needs
-
 read-table-returns : (t : ℕ) → read-table-lts.Need-returns (read-table-claims t) (read-table-at t) read-table.Post read-table-Inv-loop read-table-μ-loop
 read-table-returns t c =
     let w = ap turn-of (sym (c .before .before .n .given .1)) ∙ c .before .before .before .before .turn-at .ensures in
     step-with _ _ (c .refuse .ensures) (turn-wrong _ (table-in (c .before .before .before .before .before .before .before .before .before .before .args .c)) _ _ _ w) ∙
     run-refused _ _ (table-in (c .before .before .before .before .before .before .before .before .before .before .args .c)) _ _ _ _ _ _ _ (c .before .before .before .before .before .next-turn .ensures .last) (child-by _ _ (table-in (c .before .before .before .before .before .before .before .before .before .before .args .c)) _ _ (wrong _) w) ∙
     run-to _ _ (table-in (c .before .before .before .before .before .before .before .before .before .before .args .c)) _ _ _ _ _ _ (c .before .before .before .before .before .next-turn .ensures) ∙ c .before .before .before .before .before .before .before .before .loop .inv .3
-
-read-table-enum-told-3 : (t : ℕ) → read-table-lts.Need-enum-told-3 (read-table-claims t) (read-table-at t) read-table.Post read-table-Inv-loop read-table-μ-loop
-read-table-enum-told-3 t c = search needs
 
 read-table-add-read-node : (t : ℕ) → read-table-lts.Need-add-read-node (read-table-claims t) (read-table-at t) read-table.Post read-table-Inv-loop read-table-μ-loop
 read-table-add-read-node t c =
@@ -266,9 +224,6 @@ read-table-loop-again-3 t c =
           run-to _ _ (table-in (c .before .before .before .before .before .before .before .before .before .before .before .before .before .args .c)) _ _ _ _ _ _ (c .before .before .before .before .before .before .before .before .next-turn .ensures) ∙ c .before .before .before .before .before .before .before .before .before .before .before .loop .inv .3,
     )
 
-read-table-all-met-requires : (t : ℕ) → read-table-lts.Need-all-met-requires (read-table-claims t) (read-table-at t) read-table.Post read-table-Inv-loop read-table-μ-loop
-read-table-all-met-requires t c κs = search needs
-
 read-table-returns-3 : (t : ℕ) → read-table-lts.Need-returns-3 (read-table-claims t) (read-table-at t) read-table.Post read-table-Inv-loop read-table-μ-loop
 read-table-returns-3 t c = c .all-met .ensures ∙ run-end _ _ (table-in (c .before .before .before .before .before .args .c)) _ _ _ _ _ _ (c .before .if1 .left) ∙ c .before .before .before .loop .inv .3
 
@@ -276,19 +231,19 @@ pub +read-node+read-table-spec : {M : Type 1} → statement M
 +read-node+read-table-spec = close μ-read-node μ-read-table (λ t. read-node-lts.spec (read-node-claims t)
     (read-node-at t)
     read-node.Post
-    (read-node-thin-run-requires t)
-    (read-node-sub-levels t)
-    (read-node-refuse-requires t)
+    (λ c κs. search needs)
+    (λ c. search needs)
+    (λ c κs. search needs)
     (read-node-returns t)
-    (read-node-mul-read-head t)
-    (read-node-add-read-head t)
+    (λ c. search needs)
+    (λ c. search needs)
     (read-node-read-head-requires t)
-    (read-node-refuse-requires-2 t)
+    (λ c κs. search needs)
     (read-node-returns-2 t)
     (read-node-open-table-requires t)
-    (read-node-refuse-requires-3 t)
+    (λ c κs. search needs)
     (read-node-returns-3 t)
-    (read-node-sub-read-table t)
+    (λ c. search needs)
     (read-node-read-table-requires t)
     (read-node-returns-4 t)
     (read-node-add-t11 t)
@@ -301,20 +256,20 @@ pub +read-node+read-table-spec : {M : Type 1} → statement M
     read-table-Inv-loop
     read-table-μ-loop
     (read-table-loop-holds t)
-    (read-table-next-turn-requires t)
+    (λ c κs. search needs)
     (read-table-add-i t)
     (read-table-turn-at-requires t)
-    (read-table-enum-told t)
+    (λ c. search needs)
     (read-table-loop-less t)
     (read-table-loop-again t)
-    (read-table-enum-told-2 t)
+    (λ c. search needs)
     (read-table-add-at t)
     (read-table-loop-less-2 t)
     (read-table-loop-again-2 t)
-    (read-table-enum-known-n t)
-    (read-table-refuse-requires t)
+    (λ c. search needs)
+    (λ c κs. search needs)
     (read-table-returns t)
-    (read-table-enum-told-3 t)
+    (λ c. search needs)
     (read-table-add-read-node t)
     (read-table-read-node-requires t)
     (read-table-returns-2 t)
@@ -323,5 +278,5 @@ pub +read-node+read-table-spec : {M : Type 1} → statement M
     (read-table-add-entries t)
     (read-table-loop-less-3 t)
     (read-table-loop-again-3 t)
-    (read-table-all-met-requires t)
+    (λ c κs. search needs)
     (read-table-returns-3 t)

@@ -19,35 +19,11 @@ abbrev μ-loop : tie.MeasureT-loop
 loop-holds : tie.Need-loop-holds Inv-loop μ-loop
 loop-holds c = (omega arith, omega arith, refl)
 
-mul-at : tie.Need-mul-at Inv-loop μ-loop
-mul-at c = search needs
-
-add-at : tie.Need-add-at Inv-loop μ-loop
-add-at c = search needs
-
-sub-if1 : tie.Need-sub-if1 Inv-loop μ-loop
-sub-if1 c = search needs
-
-refuse-requires : tie.Need-refuse-requires Inv-loop μ-loop
-refuse-requires c κs = search needs
-
 returns : tie.Need-returns Inv-loop μ-loop
 returns c = step-with _ 13 (c .refuse .ensures) (omega arith) ∙ counts-cut _ _ _ (omega arith) (omega arith) ∙ c .before .before .before .loop .inv .2
 
-get64-requires : tie.Need-get64-requires Inv-loop μ-loop
-get64-requires c κs = search needs
-
-refuse-requires-2 : tie.Need-refuse-requires-2 Inv-loop μ-loop
-refuse-requires-2 c κs = search needs
-
 returns-2 : tie.Need-returns-2 Inv-loop μ-loop
 returns-2 c = step-with _ 15 (c .refuse2 .ensures) (omega arith) ∙ counts-wrong _ _ _ (omega arith) (omega arith) (λ e. c .before .if2 .taken (c .before .before .get64 .ensures ∙ e)) ∙ c .before .before .before .before .before .loop .inv .2
-
-add-i : tie.Need-add-i Inv-loop μ-loop
-add-i c = search needs
-
-loop-less : tie.Need-loop-less Inv-loop μ-loop
-loop-less c = search needs
 
 loop-again : tie.Need-loop-again Inv-loop μ-loop
 loop-again c = (omega arith, omega arith, counts-on _ _ _ (omega arith) _ _ (omega arith) (omega arith) (omega arith) (sym (c .before .get64 .ensures) ∙ c .if2 .left) ∙ c .before .before .before .before .loop .inv .2)
@@ -64,15 +40,15 @@ read-empty-spec =
     Inv-loop
     μ-loop
     loop-holds
-    mul-at
-    add-at
-    sub-if1
-    refuse-requires
+    (λ c. search needs)
+    (λ c. search needs)
+    (λ c. search needs)
+    (λ c κs. search needs)
     returns
-    get64-requires
-    refuse-requires-2
+    (λ c κs. search needs)
+    (λ c κs. search needs)
     returns-2
-    add-i
-    loop-less
+    (λ c. search needs)
+    (λ c. search needs)
     loop-again
     returns-3)

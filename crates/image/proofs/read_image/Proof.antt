@@ -7,9 +7,6 @@ use Rattle.image_format.specs.Reading.{read-root}
 use Rattle.image.proofs.read_image.Statement.{statement}
 use Rattle.image.proofs.read_image.Tie as tie
 
-read-root-requires : tie.Need-read-root-requires
-read-root-requires c κs = search needs
-
 returns : tie.Need-returns
 returns c = image-refused _ _ (sym (step-refused _ (c .if1 .taken)) ∙ c .before .before .read-root .ensures)
 
@@ -20,4 +17,4 @@ returns-3 : tie.Need-returns-3
 returns-3 c = image-right _ _ _ _ _ (sym (step-right _ (c .before .before .if1 .left)) ∙ c .before .before .before .before .read-root .ensures) (c .if2 .left)
 
 pub read-image-spec : {M : Type 1} → statement M
-read-image-spec = tie.close (tie.spec read-root-requires returns returns-2 returns-3)
+read-image-spec = tie.close (tie.spec (λ c κs. search needs) returns returns-2 returns-3)

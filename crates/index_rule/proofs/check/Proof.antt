@@ -7,15 +7,6 @@ use Rattle.index_rule.proofs.Whole.{check-fails, check-holds, check-ref
 use Rattle.index_rule.proofs.check.Statement.{statement}
 use Rattle.index_rule.proofs.check.Tie as tie
 
-read-image-requires : tie.Need-read-image-requires
-read-image-requires c κs = search needs
-
-enum-known-n : tie.Need-enum-known-n
-enum-known-n c = search needs
-
-enum-known-t : tie.Need-enum-known-t
-enum-known-t c = search needs
-
 index-rule-requires : tie.Need-index-rule-requires
 index-rule-requires c κs =
     let t = c .before .t .given in
@@ -45,9 +36,9 @@ pub check-spec : {M : Type 1} → statement M
 check-spec =
     tie.close
     (tie.spec
-    read-image-requires
-    enum-known-n
-    enum-known-t
+    (λ c κs. search needs)
+    (λ c. search needs)
+    (λ c. search needs)
     index-rule-requires
     returns
     returns-2

@@ -20,9 +20,6 @@ node-at-requires c κs =
     let h = root-of (now (a .s)) (λ i. omega (arith, c .before .before .shared-slice-known .given i)) (omega arith) (c .before .before .before .pre) (c .if1 .left) in
     root-laid (now (a .s)) h
 
-slice-aggregate-node-right : tie.Need-slice-aggregate-node-right
-slice-aggregate-node-right c = search needs
-
 node-right-requires : tie.Need-node-right-requires
 node-right-requires c κs =
     let a = c .before .before .before .before .before .args in
@@ -38,21 +35,12 @@ returns-2 c =
     let v = c .before .before .node-right in
     rule-not-node (now (a .s)) h (n .result) (n .ensures) (v .result) (v .ensures) (not-true (v .result) (c .if2 .taken))
 
-slice-aggregate-root-fronts : tie.Need-slice-aggregate-root-fronts
-slice-aggregate-root-fronts c = search needs
-
 root-fronts-requires : tie.Need-root-fronts-requires
 root-fronts-requires c κs =
     let a = c .before .before .before .before .before .before .before .before .before .args in
     let h = root-of (now (a .s)) (λ i. omega (arith, c .before .before .before .before .before .before .before .before .shared-slice-known .given i)) (omega arith) (c .before .before .before .before .before .before .before .before .before .pre) (c .before .before .before .before .before .before .if1 .left) in
     let n = c .before .before .before .before .before .node-at in
     (root-table (now (a .s)) h (n .result) (n .ensures), omega arith)
-
-slice-aggregate-children-right : tie.Need-slice-aggregate-children-right
-slice-aggregate-children-right c = search needs
-
-slice-aggregate-children-right-2 : tie.Need-slice-aggregate-children-right-2
-slice-aggregate-children-right-2 c = search needs
 
 children-right-requires : tie.Need-children-right-requires
 children-right-requires c κs =
@@ -80,12 +68,12 @@ index-rule-spec =
     shared-slice-read-if1
     returns
     node-at-requires
-    slice-aggregate-node-right
+    (λ c. search needs)
     node-right-requires
     returns-2
-    slice-aggregate-root-fronts
+    (λ c. search needs)
     root-fronts-requires
-    slice-aggregate-children-right
-    slice-aggregate-children-right-2
+    (λ c. search needs)
+    (λ c. search needs)
     children-right-requires
     returns-3)

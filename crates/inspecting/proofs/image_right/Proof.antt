@@ -18,26 +18,11 @@ add-check c =
     let a = start .args in
     record { fits = image-small (now (a .mem)) (header-of (a .h)) (start .pre .0) (start .pre .1) }
 
-sub-check : tie.Need-sub-check
-sub-check c = search needs
-
-part-check-start : tie.Need-part-check-start
-part-check-start c = search needs
-
 part-check-end : tie.Need-part-check-end
 part-check-end c =
     let start = c .before .before in
     let a = start .args in
     image-room (now (a .mem)) (header-of (a .h)) (start .pre .0) (start .pre .1)
-
-check-requires : tie.Need-check-requires
-check-requires c κs = search needs
-
-enum-known-t : tie.Need-enum-known-t
-enum-known-t c = search needs
-
-enum-told : tie.Need-enum-told
-enum-told c = search needs
 
 returns : tie.Need-returns
 returns c =
@@ -68,12 +53,12 @@ image-right-spec =
     tie.close
     (tie.spec
     add-check
-    sub-check
-    part-check-start
+    (λ c. search needs)
+    (λ c. search needs)
     part-check-end
-    check-requires
-    enum-known-t
-    enum-told
+    (λ c κs. search needs)
+    (λ c. search needs)
+    (λ c. search needs)
     returns
     returns-2
     returns-3)

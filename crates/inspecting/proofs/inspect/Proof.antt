@@ -7,15 +7,6 @@ use Rattle.inspecting.proofs.Facts.{held-broken, held-open, held-log-br
 use Rattle.inspecting.proofs.inspect.Statement.{statement}
 use Rattle.inspecting.proofs.inspect.Tie as tie
 
-header-in-requires : tie.Need-header-in-requires
-header-in-requires c κs = search needs
-
-enum-known-h : tie.Need-enum-known-h
-enum-known-h c = search needs
-
-enum-told : tie.Need-enum-told
-enum-told c = search needs
-
 returns : tie.Need-returns
 returns c = held-broken (now (c .before .before .before .before .args .mem)) (ap heading-of (sym (c .enum-told .given .1)) ∙ c .before .before .header-in .ensures)
 
@@ -67,9 +58,9 @@ pub inspect-spec : {M : Type 1} → statement M
 inspect-spec =
     tie.close
     (tie.spec
-    header-in-requires
-    enum-known-h
-    enum-told
+    (λ c κs. search needs)
+    (λ c. search needs)
+    (λ c. search needs)
     returns
     log-right-requires
     returns-2

@@ -5,15 +5,6 @@ use Rattle.kinds.proofs.KindRule.{fits-high, fits-low}
 use Rattle.kinds.proofs.fits_kind.Statement.{statement}
 use Rattle.kinds.proofs.fits_kind.Tie as tie
 
-sub-i : tie.Need-sub-i
-sub-i c = search needs
-
-mul-k : tie.Need-mul-k
-mul-k c = search needs
-
-array-copy-out-k : tie.Need-array-copy-out-k
-array-copy-out-k c = search needs
-
 returns : tie.Need-returns
 returns c = fits-low (c .before .before .before .args .kind) (c .before .before .before .args .children) (omega arith) (omega arith) (c .if1 .taken)
 
@@ -21,4 +12,4 @@ returns-2 : tie.Need-returns-2
 returns-2 c = fits-high (c .before .before .before .before .args .kind) (c .before .before .before .before .args .children) (omega arith) (omega arith) (c .before .if1 .left)
 
 pub fits-kind-spec : {M : Type 1} → statement M
-fits-kind-spec = tie.close (tie.spec sub-i mul-k array-copy-out-k returns returns-2)
+fits-kind-spec = tie.close (tie.spec (λ c. search needs) (λ c. search needs) (λ c. search needs) returns returns-2)

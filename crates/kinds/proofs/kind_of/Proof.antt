@@ -14,23 +14,8 @@ Inv-loop children i₀ i = (i ≤ 3) × (beyond-all i ≤ children)
 abbrev μ-loop : tie.MeasureT-loop
 μ-loop children i₀ i = 3 - i
 
-loop-holds : tie.Need-loop-holds Inv-loop μ-loop
-loop-holds c = search needs
-
-mul-k : tie.Need-mul-k Inv-loop μ-loop
-mul-k c = search needs
-
-array-copy-out-k : tie.Need-array-copy-out-k Inv-loop μ-loop
-array-copy-out-k c = search needs
-
 returns : tie.Need-returns Inv-loop μ-loop
 returns c = at-range (c .before .before .before .before .before .before .loop .i) (c .before .before .before .before .before .before .before .args .children) (omega arith) (c .before .before .if1 .taken) (c .if2 .taken)
-
-add-i : tie.Need-add-i Inv-loop μ-loop
-add-i c = search needs
-
-loop-less : tie.Need-loop-less Inv-loop μ-loop
-loop-less c = search needs
 
 loop-again : tie.Need-loop-again Inv-loop μ-loop
 loop-again c =
@@ -47,11 +32,11 @@ kind-of-spec =
     (tie.spec
     Inv-loop
     μ-loop
-    loop-holds
-    mul-k
-    array-copy-out-k
+    (λ c. search needs)
+    (λ c. search needs)
+    (λ c. search needs)
     returns
-    add-i
-    loop-less
+    (λ c. search needs)
+    (λ c. search needs)
     loop-again
     returns-2)

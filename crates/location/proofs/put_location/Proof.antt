@@ -6,24 +6,6 @@ use Rattle.location.proofs.Bytes.{put-in-turn}
 use Rattle.location.proofs.put_location.Statement.{statement}
 use Rattle.location.proofs.put_location.Tie as tie
 
-put64-requires : tie.Need-put64-requires
-put64-requires c κs = search needs
-
-add-put64 : tie.Need-add-put64
-add-put64 c = search needs
-
-put64-requires-2 : tie.Need-put64-requires-2
-put64-requires-2 c κs = search needs
-
-add-put64-2 : tie.Need-add-put64-2
-add-put64-2 c = search needs
-
-put64-requires-3 : tie.Need-put64-requires-3
-put64-requires-3 c κs = search needs
-
-same-length : tie.Need-same-length
-same-length c = search needs
-
 returns : tie.Need-returns
 returns c =
     let z = c .before .before in
@@ -37,10 +19,10 @@ pub put-location-spec : {M : Type 1} → statement M
 put-location-spec =
     tie.close
     (tie.spec
-    put64-requires
-    add-put64
-    put64-requires-2
-    add-put64-2
-    put64-requires-3
-    same-length
+    (λ c κs. search needs)
+    (λ c. search needs)
+    (λ c κs. search needs)
+    (λ c. search needs)
+    (λ c κs. search needs)
+    (λ c. search needs)
     returns)

@@ -31,9 +31,6 @@ add-location-at c = omega arith
 location-at-requires-2 : tie.Need-location-at-requires-2 Inv-loop μ-loop
 location-at-requires-2 c κs = omega arith
 
-before-requires : tie.Need-before-requires Inv-loop μ-loop
-before-requires c κs = search needs
-
 returns : tie.Need-returns Inv-loop μ-loop
 returns c =
     let b = c .before .before2 in
@@ -78,7 +75,7 @@ is-ascending-spec =
     location-at-requires
     add-location-at
     location-at-requires-2
-    before-requires
+    (λ c κs. search needs)
     returns
     add-p
     sub-left

@@ -10,32 +10,17 @@ use Rattle.location_lists.proofs.Single.{differ, by-last}
 use Rattle.location_lists.proofs.is_at.Statement.{statement}
 use Rattle.location_lists.proofs.is_at.Tie as tie
 
-get64-requires : tie.Need-get64-requires
-get64-requires c κs = search needs
-
 returns : tie.Need-returns
 returns c =
     let g = c .before .before .get64 in
     let a = c .before .before .before .before .args in
     differ (location-at (now (a .s)) (a .p)) (plain (a .key)) (λ e. c .if1 .taken (g .ensures ∙ ap (λ (x : Location). x .address) e))
 
-add-get64 : tie.Need-add-get64
-add-get64 c = search needs
-
-get64-requires-2 : tie.Need-get64-requires-2
-get64-requires-2 c κs = search needs
-
 returns-2 : tie.Need-returns-2
 returns-2 c =
     let g = c .before .before .get642 in
     let a = c .before .before .before .before .before .before .before .args in
     differ (location-at (now (a .s)) (a .p)) (plain (a .key)) (λ e. c .if2 .taken (g .ensures ∙ ap (λ (x : Location). x .created) e))
-
-add-get64-2 : tie.Need-add-get64-2
-add-get64-2 c = search needs
-
-get64-requires-3 : tie.Need-get64-requires-3
-get64-requires-3 c κs = search needs
 
 returns-3 : tie.Need-returns-3
 returns-3 c =
@@ -50,11 +35,11 @@ pub is-at-spec : {M : Type 1} → statement M
 is-at-spec =
     tie.close
     (tie.spec
-    get64-requires
+    (λ c κs. search needs)
     returns
-    add-get64
-    get64-requires-2
+    (λ c. search needs)
+    (λ c κs. search needs)
     returns-2
-    add-get64-2
-    get64-requires-3
+    (λ c. search needs)
+    (λ c κs. search needs)
     returns-3)

@@ -30,9 +30,6 @@ returns c =
     let w = walking-low (now (a .s)) (a .at) (a .n) (a .back) (now (a .lists)) (a .count) (o .lists) (o .p) (o .left) (o .inv) in
     w (c .before .before .loop-test .taken) (plain (l .result)) (l .ensures) (omega arith)
 
-new-requires : tie.Need-new-requires Inv-loop μ-loop
-new-requires c κs = search needs
-
 step-over-requires : tie.Need-step-over-requires Inv-loop μ-loop
 step-over-requires c κs = c .before .before .before .before .before .loop .inv .valid
 
@@ -95,7 +92,7 @@ is-union-spec =
     location-at-requires
     same-length
     returns
-    new-requires
+    (λ c κs. search needs)
     step-over-requires
     same-length-2
     returns-2

@@ -7,9 +7,6 @@ use Rattle.node_rule.proofs.TwoLists.{room-two}
 use Rattle.node_rule.proofs.add_two.Statement.{statement}
 use Rattle.node_rule.proofs.add_two.Tie as tie
 
-add-list-requires : tie.Need-add-list-requires
-add-list-requires c κs = search needs
-
 add-list-requires-2 : tie.Need-add-list-requires-2
 add-list-requires-2 c κs =
     let f = c .before .before .before .add-list in
@@ -18,9 +15,6 @@ add-list-requires-2 c κs =
     let h = room-two (now (a .lists)) (a .count) (a .at) (a .n) (a .then) (a .m) (omega arith) in
     (rw (f .ensures .0, f .ensures .1) h, omega arith)
 
-same-length : tie.Need-same-length
-same-length c = search needs
-
 returns : tie.Need-returns
 returns c =
     let f = c .before .before .before .before .before .before .add-list in
@@ -28,4 +22,4 @@ returns c =
     (g .ensures .0 ∙ rw (f .ensures .0, f .ensures .1) refl, g .ensures .1 ∙ rw (f .ensures .1) refl)
 
 pub add-two-spec : {M : Type 1} → statement M
-add-two-spec = tie.close (tie.spec add-list-requires add-list-requires-2 same-length returns)
+add-two-spec = tie.close (tie.spec (λ c κs. search needs) add-list-requires-2 (λ c. search needs) returns)

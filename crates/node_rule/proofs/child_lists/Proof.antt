@@ -26,9 +26,6 @@ slot-in-requires c κs = (c .before .before .before .before .pre .0 .is .within,
 add-j : tie.Need-add-j Inv-loop μ-loop
 add-j c = omega arith
 
-enum-known-slot : tie.Need-enum-known-slot Inv-loop μ-loop
-enum-known-slot c = search needs
-
 node-at-requires : tie.Need-node-at-requires Inv-loop μ-loop
 node-at-requires c κs =
     let a = c .before .before .before .before .before .before .before .before .args in
@@ -64,9 +61,6 @@ loop-again c =
     (omega (arith, o .inv .0 .few, u .pre .1, c .before .before .before .before .before .before .before .before .before .loop-test .taken)) (n .result) (n .ensures) in
     rw (f .ensures .0, f .ensures .1) (w, l ∙ o .inv .1)
 
-enum-told : tie.Need-enum-told Inv-loop μ-loop
-enum-told c = search needs
-
 loop-less-2 : tie.Need-loop-less-2 Inv-loop μ-loop
 loop-less-2 c = omega arith
 
@@ -95,12 +89,12 @@ child-lists-spec =
     loop-holds
     slot-in-requires
     add-j
-    enum-known-slot
+    (λ c. search needs)
     node-at-requires
     add-two-requires
     loop-less
     loop-again
-    enum-told
+    (λ c. search needs)
     loop-less-2
     loop-again-2
     same-length

@@ -6,17 +6,11 @@ use Rattle.node_rule.proofs.Nodes.{prefixes-fail, chunks-fail, suffixes
 use Rattle.node_rule.proofs.lists_right.Statement.{statement}
 use Rattle.node_rule.proofs.lists_right.Tie as tie
 
-is-ascending-requires : tie.Need-is-ascending-requires
-is-ascending-requires c κs = search needs
-
 returns : tie.Need-returns
 returns c =
     let a = c .before .before .before .args in
     let x = c .before .is-ascending in
     prefixes-fail (now (a .s)) (a .n) (a .depth) (x .result) (x .ensures) (not-true (x .result) (c .if1 .taken))
-
-is-ascending-requires-2 : tie.Need-is-ascending-requires-2
-is-ascending-requires-2 c κs = search needs
 
 returns-2 : tie.Need-returns-2
 returns-2 c =
@@ -24,9 +18,6 @@ returns-2 c =
     let x = c .before .before .before .is-ascending in
     let y = c .before .is-ascending2 in
     chunks-fail (now (a .s)) (a .n) (a .depth) (x .result) (y .result) (x .ensures) (not-false (x .result) (c .before .before .if1 .left)) (y .ensures) (not-true (y .result) (c .if2 .taken))
-
-is-ascending-requires-3 : tie.Need-is-ascending-requires-3
-is-ascending-requires-3 c κs = search needs
 
 returns-3 : tie.Need-returns-3
 returns-3 c =
@@ -37,9 +28,6 @@ returns-3 c =
     let f = not-false (x .result) (c .before .before .before .before .if1 .left) in
     let g = not-false (y .result) (c .before .before .if2 .left) in
     suffixes-fail (now (a .s)) (a .n) (a .depth) (x .result) (y .result) (z .result) (x .ensures) f (y .ensures) g (z .ensures) (not-true (z .result) (c .if3 .taken))
-
-are-sound-requires : tie.Need-are-sound-requires
-are-sound-requires c κs = search needs
 
 returns-4 : tie.Need-returns-4
 returns-4 c =
@@ -57,11 +45,11 @@ pub lists-right-spec : {M : Type 1} → statement M
 lists-right-spec =
     tie.close
     (tie.spec
-    is-ascending-requires
+    (λ c κs. search needs)
     returns
-    is-ascending-requires-2
+    (λ c κs. search needs)
     returns-2
-    is-ascending-requires-3
+    (λ c κs. search needs)
     returns-3
-    are-sound-requires
+    (λ c κs. search needs)
     returns-4)

@@ -6,17 +6,11 @@ use Rattle.node_rule.proofs.Nodes.{not-owed, lists-wrong, node-says}
 use Rattle.node_rule.proofs.node_right.Statement.{statement}
 use Rattle.node_rule.proofs.node_right.Tie as tie
 
-is-owed-requires : tie.Need-is-owed-requires
-is-owed-requires c κs = search needs
-
 returns : tie.Need-returns
 returns c =
     let a = c .before .before .before .before .args in
     let x = c .before .is-owed in
     not-owed (now (a .s)) (a .n) (a .depth) (x .result) (x .ensures) (not-true (x .result) (c .if1 .taken))
-
-lists-right-requires : tie.Need-lists-right-requires
-lists-right-requires c κs = search needs
 
 returns-2 : tie.Need-returns-2
 returns-2 c =
@@ -24,12 +18,6 @@ returns-2 c =
     let x = c .before .before .before .is-owed in
     let y = c .before .lists-right in
     lists-wrong (now (a .s)) (a .n) (a .depth) (x .result) (y .result) (x .ensures) (not-false (x .result) (c .before .before .if1 .left)) (y .ensures) (not-true (y .result) (c .if2 .taken))
-
-suffixes-right-requires : tie.Need-suffixes-right-requires
-suffixes-right-requires c κs = search needs
-
-same-length : tie.Need-same-length
-same-length c = search needs
 
 returns-3 : tie.Need-returns-3
 returns-3 c =
@@ -45,10 +33,10 @@ pub node-right-spec : {M : Type 1} → statement M
 node-right-spec =
     tie.close
     (tie.spec
-    is-owed-requires
+    (λ c κs. search needs)
     returns
-    lists-right-requires
+    (λ c κs. search needs)
     returns-2
-    suffixes-right-requires
-    same-length
+    (λ c κs. search needs)
+    (λ c. search needs)
     returns-3)

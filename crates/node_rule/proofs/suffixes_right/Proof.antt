@@ -11,9 +11,6 @@ child-lists-requires c κs = let p = c .before .before .before .pre in (record {
 is-union-requires : tie.Need-is-union-requires
 is-union-requires c κs = (c .before .before .before .before .before .before .before .pre .0 .is .suffixes-in, c .before .before .before .child-lists .ensures .valid)
 
-same-length : tie.Need-same-length
-same-length c = search needs
-
 returns : tie.Need-returns
 returns c =
     let a = c .before .before .before .before .before .before .before .before .before .before .args in
@@ -22,4 +19,4 @@ returns c =
     suffixes-say (now (a .s)) (a .n) 0 (f .last .1 .1 .1 .0) (f .result) (g .result) (f .ensures) (g .ensures .0)
 
 pub suffixes-right-spec : {M : Type 1} → statement M
-suffixes-right-spec = tie.close (tie.spec child-lists-requires is-union-requires same-length returns)
+suffixes-right-spec = tie.close (tie.spec child-lists-requires is-union-requires (λ c. search needs) returns)

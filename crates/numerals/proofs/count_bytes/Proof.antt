@@ -12,19 +12,10 @@ returns c =
     let a = c .before .before .args in
     ap (counted 0) (bytes-out (now (a .line)) (a .at) (c .if1 .taken))
 
-shared-slice-read-if2 : tie.Need-shared-slice-read-if2
-shared-slice-read-if2 c = search needs
-
 returns-2 : tie.Need-returns-2
 returns-2 c =
     let a = c .before .before .before .before .args in
     ap (counted 0) (bytes-not (now (a .line)) (a .at) (c .before .before .if1 .left) (c .if2 .taken))
-
-add-count-pairs : tie.Need-add-count-pairs
-add-count-pairs c = search needs
-
-count-pairs-requires : tie.Need-count-pairs-requires
-count-pairs-requires c κs = search needs
 
 returns-3 : tie.Need-returns-3
 returns-3 c =
@@ -36,8 +27,8 @@ count-bytes-spec =
     tie.close
     (tie.spec
     returns
-    shared-slice-read-if2
+    (λ c. search needs)
     returns-2
-    add-count-pairs
-    count-pairs-requires
+    (λ c. search needs)
+    (λ c κs. search needs)
     returns-3)

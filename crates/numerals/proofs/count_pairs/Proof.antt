@@ -38,9 +38,6 @@ add-pair-value c = omega arith
 shared-slice-read-pair-value-2 : tie.Need-shared-slice-read-pair-value-2 Inv-loop μ-loop
 shared-slice-read-pair-value-2 c = omega arith
 
-pair-value-requires : tie.Need-pair-value-requires Inv-loop μ-loop
-pair-value-requires c κs = search needs
-
 closed-requires : tie.Need-closed-requires Inv-loop μ-loop
 closed-requires c κs = omega arith
 
@@ -90,7 +87,7 @@ count-pairs-spec =
     shared-slice-read-pair-value
     add-pair-value
     shared-slice-read-pair-value-2
-    pair-value-requires
+    (λ c κs. search needs)
     closed-requires
     returns-2
     add-n

@@ -47,9 +47,6 @@ add-pair-value c = omega arith
 shared-slice-read-pair-value-2 : tie.Need-shared-slice-read-pair-value-2 Inv-loop μ-loop
 shared-slice-read-pair-value-2 c = omega arith
 
-pair-value-requires : tie.Need-pair-value-requires Inv-loop μ-loop
-pair-value-requires c κs = search needs
-
 cast-bytes : tie.Need-cast-bytes Inv-loop μ-loop
 cast-bytes c = omega arith
 
@@ -96,7 +93,7 @@ decode-spec =
     shared-slice-read-pair-value
     add-pair-value
     shared-slice-read-pair-value-2
-    pair-value-requires
+    (λ c κs. search needs)
     cast-bytes
     slice-write-bytes
     add-k

@@ -7,14 +7,8 @@ use Rattle.numerals.proofs.Steps.{digit-tells, nibble-digit, nibble-low
 use Rattle.numerals.proofs.digit_value.Statement.{statement}
 use Rattle.numerals.proofs.digit_value.Tie as tie
 
-digit-requires : tie.Need-digit-requires
-digit-requires c κs = search needs
-
 sub-wide : tie.Need-sub-wide
 sub-wide c = digit-tells (c .before .before .args .b) true (sym (c .before .digit .ensures) ∙ c .if1 .taken) .0
-
-wide-requires : tie.Need-wide-requires
-wide-requires c κs = search needs
 
 returns : tie.Need-returns
 returns c =
@@ -31,12 +25,6 @@ returns-3 c =
     let b = c .before .before .before .before .args .b in
     nibble-high b (sym (c .before .before .before .digit .ensures) ∙ c .before .before .if1 .left) (omega arith) (omega arith)
 
-add-wide : tie.Need-add-wide
-add-wide c = search needs
-
-wide-requires-2 : tie.Need-wide-requires-2
-wide-requires-2 c κs = search needs
-
 returns-4 : tie.Need-returns-4
 returns-4 c =
     let b = c .before .before .before .before .before .args .b in
@@ -47,12 +35,12 @@ pub digit-value-spec : {M : Type 1} → statement M
 digit-value-spec =
     tie.close
     (tie.spec
-    digit-requires
+    (λ c κs. search needs)
     sub-wide
-    wide-requires
+    (λ c κs. search needs)
     returns
     returns-2
     returns-3
-    add-wide
-    wide-requires-2
+    (λ c. search needs)
+    (λ c κs. search needs)
     returns-4)

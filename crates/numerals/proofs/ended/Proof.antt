@@ -10,16 +10,10 @@ returns c =
     let a = c .before .args in
     ends-out (now (a .line)) (a .at) (a .x) (c .if1 .taken)
 
-shared-slice-read-if2 : tie.Need-shared-slice-read-if2
-shared-slice-read-if2 c = search needs
-
 returns-2 : tie.Need-returns-2
 returns-2 c =
     let a = c .before .before .before .args in
     ends-not (now (a .line)) (a .at) (a .x) (c .before .before .if1 .left) (c .if2 .taken)
-
-add-t4 : tie.Need-add-t4
-add-t4 c = search needs
 
 returns-3 : tie.Need-returns-3
 returns-3 c =
@@ -27,4 +21,4 @@ returns-3 c =
     ends-so (now (a .line)) (a .at) (a .x) (c .before .before .if1 .left) (c .if2 .left)
 
 pub ended-spec : {M : Type 1} → statement M
-ended-spec = tie.close (tie.spec returns shared-slice-read-if2 returns-2 add-t4 returns-3)
+ended-spec = tie.close (tie.spec returns (λ c. search needs) returns-2 (λ c. search needs) returns-3)

@@ -4,12 +4,6 @@ use Rattle.numerals.proofs.Steps.{pair-first, pair-second, pair-both}
 use Rattle.numerals.proofs.pair_value.Statement.{statement}
 use Rattle.numerals.proofs.pair_value.Tie as tie
 
-digit-value-requires : tie.Need-digit-value-requires
-digit-value-requires c κs = search needs
-
-digit-value-requires-2 : tie.Need-digit-value-requires-2
-digit-value-requires-2 c κs = search needs
-
 returns : tie.Need-returns
 returns c =
     let s = c .before .before .before in
@@ -24,12 +18,6 @@ returns-2 c =
     let l = c .before .before .digit-value2 in
     pair-second (s .args .a) (s .args .b) (h .result) (l .result) (h .ensures) (l .ensures) (c .before .if1 .left) (c .if2 .taken)
 
-mul-result : tie.Need-mul-result
-mul-result c = search needs
-
-add-result : tie.Need-add-result
-add-result c = search needs
-
 returns-3 : tie.Need-returns-3
 returns-3 c =
     let s = c .before .before .before .before in
@@ -41,10 +29,10 @@ pub pair-value-spec : {M : Type 1} → statement M
 pair-value-spec =
     tie.close
     (tie.spec
-    digit-value-requires
-    digit-value-requires-2
+    (λ c κs. search needs)
+    (λ c κs. search needs)
     returns
     returns-2
-    mul-result
-    add-result
+    (λ c. search needs)
+    (λ c. search needs)
     returns-3)

@@ -25,12 +25,6 @@ loop-holds c = (omega arith, refl)
 shared-slice-read-b : tie.Need-shared-slice-read-b Inv-loop μ-loop
 shared-slice-read-b c = omega arith
 
-digit-requires : tie.Need-digit-requires Inv-loop μ-loop
-digit-requires c κs = search needs
-
-ended-requires : tie.Need-ended-requires Inv-loop μ-loop
-ended-requires c κs = search needs
-
 returns : tie.Need-returns Inv-loop μ-loop
 returns c =
     let h = c .before .before .before .before .before in
@@ -43,9 +37,6 @@ sub-wide c =
     let h = c .before .before .before .before in
     let a = h .before .before .args in
     digit-tells (getD (now (a .line)) (h .loop .at) 0) true (sym (c .before .digit .ensures) ∙ not-false _ (c .if1 .left)) .0
-
-wide-requires : tie.Need-wide-requires Inv-loop μ-loop
-wide-requires c κs = search needs
 
 too-large-requires : tie.Need-too-large-requires Inv-loop μ-loop
 too-large-requires c κs =
@@ -106,11 +97,11 @@ read-digits-spec =
     μ-loop
     loop-holds
     shared-slice-read-b
-    digit-requires
-    ended-requires
+    (λ c κs. search needs)
+    (λ c κs. search needs)
     returns
     sub-wide
-    wide-requires
+    (λ c κs. search needs)
     too-large-requires
     returns-2
     mul-x

@@ -12,25 +12,10 @@ returns c =
     let a = c .before .before .args in
     number-out (now (a .line)) (a .at) (c .if1 .taken)
 
-shared-slice-read-b : tie.Need-shared-slice-read-b
-shared-slice-read-b c = search needs
-
-add-ended : tie.Need-add-ended
-add-ended c = search needs
-
-ended-requires : tie.Need-ended-requires
-ended-requires c κs = search needs
-
 returns-2 : tie.Need-returns-2
 returns-2 c =
     let a = c .before .before .before .before .before .args in
     c .ended .ensures ∙ number-zero (now (a .line)) (a .at) (omega arith) (omega arith)
-
-digit-requires : tie.Need-digit-requires
-digit-requires c κs = search needs
-
-read-digits-requires : tie.Need-read-digits-requires
-read-digits-requires c κs = search needs
 
 returns-3 : tie.Need-returns-3
 returns-3 c =
@@ -49,11 +34,11 @@ read-number-spec =
     tie.close
     (tie.spec
     returns
-    shared-slice-read-b
-    add-ended
-    ended-requires
+    (λ c. search needs)
+    (λ c. search needs)
+    (λ c κs. search needs)
     returns-2
-    digit-requires
-    read-digits-requires
+    (λ c κs. search needs)
+    (λ c κs. search needs)
     returns-3
     returns-4)

@@ -9,9 +9,6 @@ use Rattle.place_buffer.specs.Buffer.{There}
 use Rattle.place_buffer.proofs.adds.Statement.{statement}
 use Rattle.place_buffer.proofs.adds.Tie as tie
 
-is-there-requires : tie.Need-is-there-requires
-is-there-requires c κs = search needs
-
 returns : tie.Need-returns
 returns c =
     let args = c .before .before .before .args in
@@ -23,4 +20,4 @@ returns-2 c =
     (omega arith, subst (λ (o : Bool). There o (plain (args .l)) (locations-in (args .scratch .now) (args .n) (args .at))) (c .if1 .left) (c .before .is-there .ensures))
 
 pub adds-spec : {M : Type 1} → statement M
-adds-spec = tie.close (tie.spec is-there-requires returns returns-2)
+adds-spec = tie.close (tie.spec (λ c κs. search needs) returns returns-2)

@@ -5,18 +5,6 @@ use Rattle.place_buffer.proofs.Adding.{taken-behind}
 use Rattle.place_buffer.proofs.append.Statement.{statement}
 use Rattle.place_buffer.proofs.append.Tie as tie
 
-mul-put-location : tie.Need-mul-put-location
-mul-put-location c = search needs
-
-put-location-requires : tie.Need-put-location-requires
-put-location-requires c κs = search needs
-
-add-t9 : tie.Need-add-t9
-add-t9 c = search needs
-
-same-length : tie.Need-same-length
-same-length c = search needs
-
 returns : tie.Need-returns
 returns c =
     let put = c .before .before in
@@ -26,4 +14,4 @@ returns c =
 
 pub append-spec : {M : Type 1} → statement M
 append-spec =
-    tie.close (tie.spec mul-put-location put-location-requires add-t9 same-length returns)
+    tie.close (tie.spec (λ c. search needs) (λ c κs. search needs) (λ c. search needs) (λ c. search needs) returns)

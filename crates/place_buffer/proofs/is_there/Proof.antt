@@ -5,23 +5,8 @@ use Rattle.place_buffer.proofs.Search.{look-past, look-after, look-ther
 use Rattle.place_buffer.proofs.is_there.Statement.{statement}
 use Rattle.place_buffer.proofs.is_there.Tie as tie
 
-places-before-requires : tie.Need-places-before-requires
-places-before-requires c κs = search needs
-
 returns : tie.Need-returns
 returns c = look-past _ _ _ _ _ (c .before .places-before .ensures) (c .if1 .taken)
-
-mul-location-at : tie.Need-mul-location-at
-mul-location-at c = search needs
-
-add-location-at : tie.Need-add-location-at
-add-location-at c = search needs
-
-location-at-requires : tie.Need-location-at-requires
-location-at-requires c κs = search needs
-
-before-requires : tie.Need-before-requires
-before-requires c κs = search needs
 
 returns-2 : tie.Need-returns-2
 returns-2 c =
@@ -39,11 +24,11 @@ pub is-there-spec : {M : Type 1} → statement M
 is-there-spec =
     tie.close
     (tie.spec
-    places-before-requires
+    (λ c κs. search needs)
     returns
-    mul-location-at
-    add-location-at
-    location-at-requires
-    before-requires
+    (λ c. search needs)
+    (λ c. search needs)
+    (λ c κs. search needs)
+    (λ c κs. search needs)
     returns-2
     returns-3)

@@ -9,12 +9,6 @@ use Rattle.place_buffer.proofs.Adding.{taken-there, taken-new}
 use Rattle.place_buffer.proofs.look_up.Statement.{statement}
 use Rattle.place_buffer.proofs.look_up.Tie as tie
 
-mul-is-there : tie.Need-mul-is-there
-mul-is-there c = search needs
-
-sub-is-there : tie.Need-sub-is-there
-sub-is-there c = search needs
-
 is-there-requires : tie.Need-is-there-requires
 is-there-requires c κs =
     let pre = c .before .pre in
@@ -35,4 +29,4 @@ returns-2 c =
     taken-new (start .pre .0) (plain (args .l)) (start .pre .2) (start .pre .1) new
 
 pub look-up-spec : {M : Type 1} → statement M
-look-up-spec = tie.close (tie.spec mul-is-there sub-is-there is-there-requires returns returns-2)
+look-up-spec = tie.close (tie.spec (λ c. search needs) (λ c. search needs) is-there-requires returns returns-2)

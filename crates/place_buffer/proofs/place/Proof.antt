@@ -10,38 +10,11 @@ use Rattle.place_buffer.proofs.place.Tie as tie
 returns : tie.Need-returns
 returns c = taken-full (c .before .before .pre) (c .if1 .taken) _
 
-look-up-requires : tie.Need-look-up-requires
-look-up-requires c κs = search needs
-
-same-length : tie.Need-same-length
-same-length c = search needs
-
-returns-2 : tie.Need-returns-2
-returns-2 c = search needs
-
-add-if3 : tie.Need-add-if3
-add-if3 c = search needs
-
-append-requires : tie.Need-append-requires
-append-requires c κs = search needs
-
-same-length-2 : tie.Need-same-length-2
-same-length-2 c = search needs
-
-returns-3 : tie.Need-returns-3
-returns-3 c = search needs
-
-tidy-requires : tie.Need-tidy-requires
-tidy-requires c κs = search needs
-
 append-requires-2 : tie.Need-append-requires-2
 append-requires-2 c κs =
     let tidied = c .before .before .before .before in
     let start = tidied .before .before .before .before .before .before in
     (tidied-room (start .pre) (tidied .tidy .ensures), refl, omega (arith, start .pre .within, tidied .tidy .ensures .same-length))
-
-same-length-3 : tie.Need-same-length-3
-same-length-3 c = search needs
 
 returns-4 : tie.Need-returns-4
 returns-4 c =
@@ -56,9 +29,6 @@ look-up-requires-2 c κs =
     let start = tidied .before .before .before .before .before .before in
     (tidied-tight (start .pre) (tidied .tidy .ensures) (c .before .if4 .left) (omega (arith, start .pre .within)), refl, refl)
 
-same-length-4 : tie.Need-same-length-4
-same-length-4 c = search needs
-
 returns-5 : tie.Need-returns-5
 returns-5 c =
     let tidied = c .before .before .before .before .before in
@@ -71,17 +41,17 @@ place-spec =
     tie.close
     (tie.spec
     returns
-    look-up-requires
-    same-length
-    returns-2
-    add-if3
-    append-requires
-    same-length-2
-    returns-3
-    tidy-requires
+    (λ c κs. search needs)
+    (λ c. search needs)
+    (λ c. search needs)
+    (λ c. search needs)
+    (λ c κs. search needs)
+    (λ c. search needs)
+    (λ c. search needs)
+    (λ c κs. search needs)
     append-requires-2
-    same-length-3
+    (λ c. search needs)
     returns-4
     look-up-requires-2
-    same-length-4
+    (λ c. search needs)
     returns-5)

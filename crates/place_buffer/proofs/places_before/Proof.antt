@@ -6,15 +6,6 @@ use Rattle.place_buffer.proofs.Search.{records-ordered, key-first}
 use Rattle.place_buffer.proofs.places_before.Statement.{statement}
 use Rattle.place_buffer.proofs.places_before.Tie as tie
 
-slice-aggregate-put-location : tie.Need-slice-aggregate-put-location
-slice-aggregate-put-location c = search needs
-
-put-location-requires : tie.Need-put-location-requires
-put-location-requires c κs = search needs
-
-slice-aggregate-first-from : tie.Need-slice-aggregate-first-from
-slice-aggregate-first-from c = search needs
-
 first-from-requires : tie.Need-first-from-requires
 first-from-requires c κs =
     (omega arith, omega arith, omega (arith, c .before .before .put-location .kept .0), omega arith, records-ordered _ _ _ (c .before .before .before .before .before .pre .1))
@@ -30,8 +21,8 @@ pub places-before-spec : {M : Type 1} → statement M
 places-before-spec =
     tie.close
     (tie.spec
-    slice-aggregate-put-location
-    put-location-requires
-    slice-aggregate-first-from
+    (λ c. search needs)
+    (λ c κs. search needs)
+    (λ c. search needs)
     first-from-requires
     returns)

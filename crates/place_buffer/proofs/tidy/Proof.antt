@@ -5,18 +5,6 @@ use Rattle.place_buffer.proofs.Scratch.{tidied, tidied-le}
 use Rattle.place_buffer.proofs.tidy.Statement.{statement}
 use Rattle.place_buffer.proofs.tidy.Tie as tie
 
-mul-at : tie.Need-mul-at
-mul-at c = search needs
-
-sub-n : tie.Need-sub-n
-sub-n c = search needs
-
-sort-requires : tie.Need-sort-requires
-sort-requires c κs = search needs
-
-drop-repeats-requires : tie.Need-drop-repeats-requires
-drop-repeats-requires c κs = search needs
-
 -- what the two calls leave
 made : tie.Need-returns
 made c =
@@ -28,13 +16,10 @@ made c =
 add-result : tie.Need-add-result
 add-result c = omega (arith, tidied-le (made c) (c .before .before .before .before .before .before .before .before .before .pre .0))
 
-same-length : tie.Need-same-length
-same-length c = search needs
-
 returns : tie.Need-returns
 returns c = made c
 
 pub tidy-spec : {M : Type 1} → statement M
 tidy-spec =
     tie.close
-    (tie.spec mul-at sub-n sort-requires drop-repeats-requires add-result same-length returns)
+    (tie.spec (λ c. search needs) (λ c. search needs) (λ c κs. search needs) (λ c κs. search needs) add-result (λ c. search needs) returns)

@@ -20,26 +20,11 @@ loop-holds c =
     let a = c .before .before .before .before .args in
     (reached-start (now (a .mem)) (now (a .line)) (a .n) (now (a .input)) (omega arith), omega arith, omega arith, omega arith, refl, refl, refl)
 
-answer-lines-requires : tie.Need-answer-lines-requires Inv-loop μ-loop
-answer-lines-requires c κs = search needs
-
 slice-reshare-prefix-write-part : tie.Need-slice-reshare-prefix-write-part Inv-loop μ-loop
 slice-reshare-prefix-write-part c = omega (arith, c .before .before .before .before .before .before .answer-lines .ensures .holds .within)
 
 slice-aggregate-write-part : tie.Need-slice-aggregate-write-part Inv-loop μ-loop
 slice-aggregate-write-part c = simp length-take (omega (arith, c .before .before .before .before .before .before .before .answer-lines .ensures .holds .within))
-
-write-part-requires : tie.Need-write-part-requires Inv-loop μ-loop
-write-part-requires c κs = search needs
-
-same-length : tie.Need-same-length Inv-loop μ-loop
-same-length c = search needs
-
-same-length-2 : tie.Need-same-length-2 Inv-loop μ-loop
-same-length-2 c = search needs
-
-same-length-3 : tie.Need-same-length-3 Inv-loop μ-loop
-same-length-3 c = search needs
 
 returns : tie.Need-returns Inv-loop μ-loop
 returns c = (λ e. absurd (let z : _≡_ {A = ℕ} 0 1 = cc in omega arith), omega arith)
@@ -54,15 +39,6 @@ loop-again c =
     let k = c .before .before .before .before .before .before .before .before .before .answer-lines .ensures in
     (reached-on (now (a .mem)) (now (a .line)) (a .n) (now (a .input)) (l .p) (l .mem) (l .line) (l .kept) (l .inv .0) k, omega (arith, k .holds .counted), omega arith, omega arith, search needs, search needs, search needs)
 
-same-length-4 : tie.Need-same-length-4 Inv-loop μ-loop
-same-length-4 c = search needs
-
-same-length-5 : tie.Need-same-length-5 Inv-loop μ-loop
-same-length-5 c = search needs
-
-same-length-6 : tie.Need-same-length-6 Inv-loop μ-loop
-same-length-6 c = search needs
-
 returns-2 : tie.Need-returns-2 Inv-loop μ-loop
 returns-2 c =
     let a = c .before .before .before .before .before .before .args in
@@ -76,17 +52,17 @@ answer-part-spec =
     Inv-loop
     μ-loop
     loop-holds
-    answer-lines-requires
+    (λ c κs. search needs)
     slice-reshare-prefix-write-part
     slice-aggregate-write-part
-    write-part-requires
-    same-length
-    same-length-2
-    same-length-3
+    (λ c κs. search needs)
+    (λ c. search needs)
+    (λ c. search needs)
+    (λ c. search needs)
     returns
     loop-less
     loop-again
-    same-length-4
-    same-length-5
-    same-length-6
+    (λ c. search needs)
+    (λ c. search needs)
+    (λ c. search needs)
     returns-2)

@@ -5,24 +5,12 @@ use Rattle.replies.proofs.Writing.{written-both, written-room}
 use Rattle.replies.proofs.put_count.Statement.{statement}
 use Rattle.replies.proofs.put_count.Tie as tie
 
-put-text-requires : tie.Need-put-text-requires
-put-text-requires c κs = search needs
-
-put-decimal-requires : tie.Need-put-decimal-requires
-put-decimal-requires c κs = search needs
-
-slice-aggregate-put-text : tie.Need-slice-aggregate-put-text
-slice-aggregate-put-text c = search needs
-
 put-text-requires-2 : tie.Need-put-text-requires-2
 put-text-requires-2 c κs =
     let s = c .before .before .before .before .before .before .before .before .before .before .before .before in
     let t = c .before .before .before .before .before .before .before .before .put-text in
     let d = c .before .before .before .before .put-decimal in
     omega (arith, s .pre, t .ensures .next, t .kept .0, written-room (s .args .n) (d .ensures), d .kept .0)
-
-same-length : tie.Need-same-length
-same-length c = search needs
 
 returns : tie.Need-returns
 returns c = written-both (written-both (c .before .before .before .before .before .before .before .before .before .before .before .put-text .ensures) (c .before .before .before .before .before .before .before .put-decimal .ensures)) (c .before .before .put-text2 .ensures)
@@ -31,9 +19,9 @@ pub put-count-spec : {M : Type 1} → statement M
 put-count-spec =
     tie.close
     (tie.spec
-    put-text-requires
-    put-decimal-requires
-    slice-aggregate-put-text
+    (λ c κs. search needs)
+    (λ c κs. search needs)
+    (λ c. search needs)
     put-text-requires-2
-    same-length
+    (λ c. search needs)
     returns)

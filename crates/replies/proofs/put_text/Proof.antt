@@ -5,15 +5,6 @@ use Rattle.replies.proofs.Writing.{written-all}
 use Rattle.replies.proofs.put_text.Statement.{statement}
 use Rattle.replies.proofs.put_text.Tie as tie
 
-copy-requires : tie.Need-copy-requires
-copy-requires c κs = search needs
-
-add-result : tie.Need-add-result
-add-result c = search needs
-
-same-length : tie.Need-same-length
-same-length c = search needs
-
 returns : tie.Need-returns
 returns c =
     let a = c .before .before .before .before .before .before .args in
@@ -21,4 +12,4 @@ returns c =
     written-all (now (a .out)) (now (a .text)) (r .last .1 .1 .0) (a .at) (r .ensures)
 
 pub put-text-spec : {M : Type 1} → statement M
-put-text-spec = tie.close (tie.spec copy-requires add-result same-length returns)
+put-text-spec = tie.close (tie.spec (λ c κs. search needs) (λ c. search needs) (λ c. search needs) returns)

@@ -23,33 +23,12 @@ loop-holds c =
     let a = c .before .before .args in
     (no-places (now (a .scratch)) (a .p) (now (a .out)) (a .at), omega arith, omega arith, omega arith, omega arith, search needs)
 
-mul-put-row : tie.Need-mul-put-row Inv-loop μ-loop
-mul-put-row c = search needs
-
-add-put-row : tie.Need-add-put-row Inv-loop μ-loop
-add-put-row c = search needs
-
-put-row-requires : tie.Need-put-row-requires Inv-loop μ-loop
-put-row-requires c κs = search needs
-
-add-i : tie.Need-add-i Inv-loop μ-loop
-add-i c = search needs
-
-loop-less : tie.Need-loop-less Inv-loop μ-loop
-loop-less c = search needs
-
 loop-again : tie.Need-loop-again Inv-loop μ-loop
 loop-again c =
     let a = c .before .before .before .before .before .before .before .before .args in
     let l = c .before .before .before .before .before .loop in
     let w = c .before .before .put-row .ensures in
     (written-same (place-more (now (a .scratch)) (a .p) (l .i)) (written-both (l .inv .0) w), omega (arith, w .next, length-place (location-at (now (a .scratch)) (a .p + l .i * 24))), omega arith, omega arith, omega arith, search needs)
-
-put-end-requires : tie.Need-put-end-requires Inv-loop μ-loop
-put-end-requires c κs = search needs
-
-same-length : tie.Need-same-length Inv-loop μ-loop
-same-length c = search needs
 
 returns : tie.Need-returns Inv-loop μ-loop
 returns c =
@@ -65,12 +44,12 @@ put-rows-spec =
     Inv-loop
     μ-loop
     loop-holds
-    mul-put-row
-    add-put-row
-    put-row-requires
-    add-i
-    loop-less
+    (λ c. search needs)
+    (λ c. search needs)
+    (λ c κs. search needs)
+    (λ c. search needs)
+    (λ c. search needs)
     loop-again
-    put-end-requires
-    same-length
+    (λ c κs. search needs)
+    (λ c. search needs)
     returns)

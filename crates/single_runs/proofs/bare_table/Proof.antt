@@ -6,29 +6,14 @@ use borrow.Author.Needs.{needs}
 use Rattle.single_runs.proofs.bare_table.Statement.{statement}
 use Rattle.single_runs.proofs.bare_table.Tie as tie
 
-is-bare-requires : tie.Need-is-bare-requires
-is-bare-requires c κs = search needs
-
-returns : tie.Need-returns
-returns c = search needs
-
-add-get64 : tie.Need-add-get64
-add-get64 c = search needs
-
 get64-requires : tie.Need-get64-requires
 get64-requires c κs = let r = laid-room _ _ (c .before .before .before .pre) in omega arith
-
-add-lone-table : tie.Need-add-lone-table
-add-lone-table c = search needs
 
 lone-table-requires : tie.Need-lone-table-requires
 lone-table-requires c κs = let r = laid-room _ _ (c .before .before .before .before .before .pre) in omega arith
 
 returns-2 : tie.Need-returns-2
 returns-2 c = λ z. bare-none _ _ (c .before .before .before .before .is-bare .ensures (not-false _ (c .before .before .before .if1 .left))) _ _ (c .before .before .get64 .ensures) (c .before .if2 .taken) (c .lone-table .ensures z)
-
-add-lone-table-2 : tie.Need-add-lone-table-2
-add-lone-table-2 c = search needs
 
 mul-lone-table : tie.Need-mul-lone-table
 mul-lone-table c = let r = bare-room _ _ (c .before .before .before .is-bare .ensures (not-false _ (c .before .before .if1 .left))) _ (c .before .before .before .before .before .pre) (c .before .get64 .ensures) in omega arith
@@ -46,14 +31,14 @@ pub bare-table-spec : {M : Type 1} → statement M
 bare-table-spec =
     tie.close
     (tie.spec
-    is-bare-requires
-    returns
-    add-get64
+    (λ c κs. search needs)
+    (λ c. search needs)
+    (λ c. search needs)
     get64-requires
-    add-lone-table
+    (λ c. search needs)
     lone-table-requires
     returns-2
-    add-lone-table-2
+    (λ c. search needs)
     mul-lone-table
     add-lone-table-3
     lone-table-requires-2

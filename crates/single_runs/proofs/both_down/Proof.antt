@@ -14,20 +14,8 @@ add-due c = let r = table-room _ _ (c .before .pre .0) in omega arith
 add-front-due : tie.Need-add-front-due
 add-front-due c = let r = table-room _ _ (c .before .pre .1) in omega arith
 
-byte-behind-requires : tie.Need-byte-behind-requires
-byte-behind-requires c κs = search needs
-
-apart-requires : tie.Need-apart-requires
-apart-requires c κs = search needs
-
 returns : tie.Need-returns
 returns c = λ e. not-so (sym (c .apart .ensures .0) ∙ e)
-
-byte-behind-requires-2 : tie.Need-byte-behind-requires-2
-byte-behind-requires-2 c κs = search needs
-
-apart-requires-2 : tie.Need-apart-requires-2
-apart-requires-2 c κs = search needs
 
 returns-2 : tie.Need-returns-2
 returns-2 c = λ e. not-so (sym (c .apart2 .ensures .0) ∙ e)
@@ -35,17 +23,11 @@ returns-2 c = λ e. not-so (sym (c .apart2 .ensures .0) ∙ e)
 is-thin-requires : tie.Need-is-thin-requires
 is-thin-requires c κs = let u = c .before .before .before .before .before in let x = c .before .before .before .byte-behind in laid-behind (now (u .args .s)) (u .args .table) (x .result) (x .ensures) (c .before .before .if1 .left) (u .pre .0)
 
-apart-requires-3 : tie.Need-apart-requires-3
-apart-requires-3 c κs = search needs
-
 returns-3 : tie.Need-returns-3
 returns-3 c = λ e. not-so (sym (c .apart3 .ensures .0) ∙ e)
 
 bare-table-requires : tie.Need-bare-table-requires
 bare-table-requires c κs = let u = c .before .before .before .before .before .before .before in let x = c .before .before .before .byte-behind2 in laid-behind (now (u .args .s)) (u .args .other) (x .result) (x .ensures) (λ e. c .before .before .before .before .if1 .left (sym (c .before .before .if2 .left) ∙ e)) (u .pre .1)
-
-apart-requires-4 : tie.Need-apart-requires-4
-apart-requires-4 c κs = search needs
 
 returns-4 : tie.Need-returns-4
 returns-4 c = λ e. not-so (sym (c .apart4 .ensures .0) ∙ e)
@@ -62,17 +44,17 @@ both-down-spec =
     (tie.spec
     add-due
     add-front-due
-    byte-behind-requires
-    apart-requires
+    (λ c κs. search needs)
+    (λ c κs. search needs)
     returns
-    byte-behind-requires-2
-    apart-requires-2
+    (λ c κs. search needs)
+    (λ c κs. search needs)
     returns-2
     is-thin-requires
-    apart-requires-3
+    (λ c κs. search needs)
     returns-3
     bare-table-requires
-    apart-requires-4
+    (λ c κs. search needs)
     returns-4
     add-t9
     returns-5)

@@ -7,15 +7,6 @@ use borrow.Author.Needs.{needs}
 use Rattle.single_runs.proofs.byte_behind.Statement.{statement}
 use Rattle.single_runs.proofs.byte_behind.Tie as tie
 
-slot-in-requires : tie.Need-slot-in-requires
-slot-in-requires c κs = search needs
-
-enum-known-slot : tie.Need-enum-known-slot
-enum-known-slot c = search needs
-
-enum-told : tie.Need-enum-told
-enum-told c = search needs
-
 returns : tie.Need-returns
 returns c = behind-none _ _ (ap entry-of-answer (sym (c .enum-told .given .1)) ∙ c .before .before .slot-in .ensures)
 
@@ -25,9 +16,6 @@ add-if1 c = let r = table-room _ _ (c .before .before .before .before .before .p
 returns-2 : tie.Need-returns-2
 returns-2 c = behind-other _ _ _ (ap entry-of-answer (sym (c .before .before .slot .given .1)) ∙ c .before .before .before .before .slot-in .ensures) (c .if1 .taken)
 
-cast-result : tie.Need-cast-result
-cast-result c = search needs
-
 returns-3 : tie.Need-returns-3
 returns-3 c = behind-here _ _ _ (ap entry-of-answer (sym (c .before .before .slot .given .1)) ∙ c .before .before .before .before .slot-in .ensures) (c .if1 .left)
 
@@ -35,11 +23,11 @@ pub byte-behind-spec : {M : Type 1} → statement M
 byte-behind-spec =
     tie.close
     (tie.spec
-    slot-in-requires
-    enum-known-slot
-    enum-told
+    (λ c κs. search needs)
+    (λ c. search needs)
+    (λ c. search needs)
     returns
     add-if1
     returns-2
-    cast-result
+    (λ c. search needs)
     returns-3)

@@ -23,12 +23,6 @@ both-down-requires c κs = let o = c .before .loop in let p = c .before .before 
 returns : tie.Need-returns Inv-loop μ-loop
 returns c = c .before .before .before .before .loop .inv
 
-add-levels : tie.Need-add-levels Inv-loop μ-loop
-add-levels c = search needs
-
-loop-less : tie.Need-loop-less Inv-loop μ-loop
-loop-less c = search needs
-
 loop-again : tie.Need-loop-again Inv-loop μ-loop
 loop-again c = run-more _ _ _ _ _ _ _ (c .before .before .before .before .loop .inv) _ _ (omega arith) (c .before .before .both-down .ensures (not-false _ (c .if1 .left)))
 
@@ -44,7 +38,7 @@ common-run-spec =
     loop-holds
     both-down-requires
     returns
-    add-levels
-    loop-less
+    (λ c. search needs)
+    (λ c. search needs)
     loop-again
     returns-2)

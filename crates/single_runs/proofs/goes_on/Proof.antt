@@ -9,23 +9,11 @@ use borrow.Author.Needs.{needs}
 use Rattle.single_runs.proofs.goes_on.Statement.{statement}
 use Rattle.single_runs.proofs.goes_on.Tie as tie
 
-add-has-single : tie.Need-add-has-single
-add-has-single c = search needs
-
 has-single-requires : tie.Need-has-single-requires
 has-single-requires c κs = single-table _ _ (c .before .pre .0) (c .before .pre .1)
 
 returns : tie.Need-returns
 returns c = not-so
-
-add-is-at : tie.Need-add-is-at
-add-is-at c = search needs
-
-add-location-at : tie.Need-add-location-at
-add-location-at c = search needs
-
-location-at-requires : tie.Need-location-at-requires
-location-at-requires c κs = search needs
 
 is-at-requires : tie.Need-is-at-requires
 is-at-requires c κs = let x = c .before .before .has-single .ensures (not-false _ (c .before .if1 .left)) in omega (arith, x .room)
@@ -37,11 +25,11 @@ pub goes-on-spec : {M : Type 1} → statement M
 goes-on-spec =
     tie.close
     (tie.spec
-    add-has-single
+    (λ c. search needs)
     has-single-requires
     returns
-    add-is-at
-    add-location-at
-    location-at-requires
+    (λ c. search needs)
+    (λ c. search needs)
+    (λ c κs. search needs)
     is-at-requires
     returns-2)

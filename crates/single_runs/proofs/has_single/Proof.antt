@@ -8,9 +8,6 @@ use borrow.Author.Needs.{needs}
 use Rattle.single_runs.proofs.has_single.Statement.{statement}
 use Rattle.single_runs.proofs.has_single.Tie as tie
 
-byte-behind-requires : tie.Need-byte-behind-requires
-byte-behind-requires c κs = search needs
-
 returns : tie.Need-returns
 returns c = not-so
 
@@ -25,4 +22,4 @@ returns-2 c = λ e. let a = c .before .before .before .before .args in let x = c
 
 pub has-single-spec : {M : Type 1} → statement M
 has-single-spec =
-    tie.close (tie.spec byte-behind-requires returns add-is-single is-single-requires returns-2)
+    tie.close (tie.spec (λ c κs. search needs) returns add-is-single is-single-requires returns-2)

@@ -10,14 +10,8 @@ use Rattle.single_runs.proofs.is_bare.Tie as tie
 shared-slice-read-kind : tie.Need-shared-slice-read-kind
 shared-slice-read-kind c = let r = laid-room _ _ (c .before .before .pre) in omega arith
 
-add-get64 : tie.Need-add-get64
-add-get64 c = search needs
-
 get64-requires : tie.Need-get64-requires
 get64-requires c κs = let r = laid-room _ _ (c .before .before .pre) in omega arith
-
-add-get64-2 : tie.Need-add-get64-2
-add-get64-2 c = search needs
 
 get64-requires-2 : tie.Need-get64-requires-2
 get64-requires-2 c κs = let r = laid-room _ _ (c .before .before .before .pre) in omega arith
@@ -39,9 +33,9 @@ is-bare-spec =
     tie.close
     (tie.spec
     shared-slice-read-kind
-    add-get64
+    (λ c. search needs)
     get64-requires
-    add-get64-2
+    (λ c. search needs)
     get64-requires-2
     returns
     cast-if2

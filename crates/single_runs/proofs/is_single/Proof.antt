@@ -7,23 +7,14 @@ use borrow.Author.Needs.{needs}
 use Rattle.single_runs.proofs.is_single.Statement.{statement}
 use Rattle.single_runs.proofs.is_single.Tie as tie
 
-is-bare-requires : tie.Need-is-bare-requires
-is-bare-requires c κs = search needs
-
 returns : tie.Need-returns
 returns c = not-so
-
-add-get64 : tie.Need-add-get64
-add-get64 c = search needs
 
 get64-requires : tie.Need-get64-requires
 get64-requires c κs = let r = laid-room _ _ (c .before .before .before .pre) in omega arith
 
 returns-2 : tie.Need-returns-2
 returns-2 c = not-so
-
-add-get64-2 : tie.Need-add-get64-2
-add-get64-2 c = search needs
 
 get64-requires-2 : tie.Need-get64-requires-2
 get64-requires-2 c κs = let r = bare-room _ _ (c .before .before .before .is-bare .ensures (not-false _ (c .before .before .if1 .left))) 1 (c .before .before .before .before .before .pre) (omega (arith, c .before .get64 .ensures, c .if2 .left)) in omega arith
@@ -35,11 +26,11 @@ pub is-single-spec : {M : Type 1} → statement M
 is-single-spec =
     tie.close
     (tie.spec
-    is-bare-requires
+    (λ c κs. search needs)
     returns
-    add-get64
+    (λ c. search needs)
     get64-requires
     returns-2
-    add-get64-2
+    (λ c. search needs)
     get64-requires-2
     returns-3)

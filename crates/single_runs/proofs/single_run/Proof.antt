@@ -14,9 +14,6 @@ Inv-loop s table most levels₀ t₀ levels t = SinglesTo s table most levels t 
 abbrev μ-loop : tie.MeasureT-loop
 μ-loop s table most levels₀ t₀ levels t = most - levels
 
-has-single-requires : tie.Need-has-single-requires Inv-loop μ-loop
-has-single-requires c κs = search needs
-
 returns : tie.Need-returns Inv-loop μ-loop
 returns c = singles-none _ _ _
 
@@ -32,12 +29,6 @@ returns-2 c = c .before .before .before .loop .inv .0
 add-t : tie.Need-add-t Inv-loop μ-loop
 add-t c = omega (arith, c .before .before .before .loop .inv .1 .room, c .before .before .before .before .before .before .before .good .0)
 
-add-levels : tie.Need-add-levels Inv-loop μ-loop
-add-levels c = search needs
-
-loop-less : tie.Need-loop-less Inv-loop μ-loop
-loop-less c = search needs
-
 loop-again : tie.Need-loop-again Inv-loop μ-loop
 loop-again c = let o = c .before .before .before .loop in let g = c .before .goes-on .ensures (not-false _ (c .if2 .left)) in (singles-more _ _ _ _ _ (o .inv .0) (c .before .before .loop-test .taken) (o .inv .1) (g .0) (g .1), g .0)
 
@@ -50,13 +41,13 @@ single-run-spec =
     (tie.spec
     Inv-loop
     μ-loop
-    has-single-requires
+    (λ c κs. search needs)
     returns
     loop-holds
     goes-on-requires
     returns-2
     add-t
-    add-levels
-    loop-less
+    (λ c. search needs)
+    (λ c. search needs)
     loop-again
     returns-3)

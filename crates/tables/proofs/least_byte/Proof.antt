@@ -17,26 +17,11 @@ abbrev μ-loop : tie.MeasureT-loop
 loop-holds : tie.Need-loop-holds Inv-loop μ-loop
 loop-holds c = (omega arith, least-none _ _ _ (omega arith))
 
-mul-nearer : tie.Need-mul-nearer Inv-loop μ-loop
-mul-nearer c = search needs
-
-add-nearer : tie.Need-add-nearer Inv-loop μ-loop
-add-nearer c = search needs
-
-shared-slice-read-nearer : tie.Need-shared-slice-read-nearer Inv-loop μ-loop
-shared-slice-read-nearer c = search needs
-
 cast-nearer : tie.Need-cast-nearer Inv-loop μ-loop
 cast-nearer c = omega (arith, c .shared-slice-known2 .given (c .before .before .before .before .args .base + c .before .before .loop .j * 9))
 
 nearer-requires : tie.Need-nearer-requires Inv-loop μ-loop
 nearer-requires c κs = c .before .before .loop .inv .1 .from
-
-add-j : tie.Need-add-j Inv-loop μ-loop
-add-j c = search needs
-
-loop-less : tie.Need-loop-less Inv-loop μ-loop
-loop-less c = search needs
 
 loop-again : tie.Need-loop-again Inv-loop μ-loop
 loop-again c = (omega arith, least-more _ _ _ _ _ _ (c .before .before .before .loop .inv .1) (c .nearer .ensures))
@@ -54,12 +39,12 @@ least-byte-spec =
     Inv-loop
     μ-loop
     loop-holds
-    mul-nearer
-    add-nearer
-    shared-slice-read-nearer
+    (λ c. search needs)
+    (λ c. search needs)
+    (λ c. search needs)
     cast-nearer
     nearer-requires
-    add-j
-    loop-less
+    (λ c. search needs)
+    (λ c. search needs)
     loop-again
     returns)

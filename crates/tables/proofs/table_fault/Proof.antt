@@ -18,35 +18,14 @@ abbrev μ-loop : tie.MeasureT-loop
 loop-holds : tie.Need-loop-holds Inv-loop μ-loop
 loop-holds c = (omega arith, omega arith, ap (λ (k : ℕ). table-fault (c .before .args .s .now) (c .before .args .base) k 0) (omega arith))
 
-mul-p : tie.Need-mul-p Inv-loop μ-loop
-mul-p c = search needs
-
-add-p : tie.Need-add-p Inv-loop μ-loop
-add-p c = search needs
-
 returns : tie.Need-returns Inv-loop μ-loop
 returns c = fault-cut _ _ _ _ (c .before .loop-test .taken) (omega arith) ∙ c .before .before .loop .inv .2
-
-shared-slice-read-find-byte : tie.Need-shared-slice-read-find-byte Inv-loop μ-loop
-shared-slice-read-find-byte c = search needs
-
-find-byte-requires : tie.Need-find-byte-requires Inv-loop μ-loop
-find-byte-requires c κs = search needs
 
 returns-2 : tie.Need-returns-2 Inv-loop μ-loop
 returns-2 c = fault-twice _ _ _ _ (c .before .before .before .before .loop-test .taken) (omega arith) (omega arith) ∙ c .before .before .before .before .before .loop .inv .2
 
-sub-if3 : tie.Need-sub-if3 Inv-loop μ-loop
-sub-if3 c = search needs
-
 returns-3 : tie.Need-returns-3 Inv-loop μ-loop
 returns-3 c = fault-short _ _ _ _ (c .before .before .before .before .before .loop-test .taken) (omega arith) (omega arith) (omega arith) ∙ c .before .before .before .before .before .before .loop .inv .2
-
-add-i : tie.Need-add-i Inv-loop μ-loop
-add-i c = search needs
-
-loop-less : tie.Need-loop-less Inv-loop μ-loop
-loop-less c = search needs
 
 loop-again : tie.Need-loop-again Inv-loop μ-loop
 loop-again c = (omega arith, omega arith, fault-on _ _ _ _ (c .before .before .before .before .before .loop-test .taken) (omega arith) (omega arith) ∙ c .before .before .before .before .before .before .loop .inv .2)
@@ -61,15 +40,15 @@ table-fault-spec =
     Inv-loop
     μ-loop
     loop-holds
-    mul-p
-    add-p
+    (λ c. search needs)
+    (λ c. search needs)
     returns
-    shared-slice-read-find-byte
-    find-byte-requires
+    (λ c. search needs)
+    (λ c κs. search needs)
     returns-2
-    sub-if3
+    (λ c. search needs)
     returns-3
-    add-i
-    loop-less
+    (λ c. search needs)
+    (λ c. search needs)
     loop-again
     returns-4)

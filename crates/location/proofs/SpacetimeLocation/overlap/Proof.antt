@@ -11,18 +11,6 @@ use Rattle.location.proofs.Order.{apart, apart-too, in-common}
 use Rattle.location.proofs.SpacetimeLocation.overlap.Statement.{statement}
 use Rattle.location.proofs.SpacetimeLocation.overlap.Tie as tie
 
-least-requires : tie.Need-least-requires
-least-requires c κs = search needs
-
-greatest-requires : tie.Need-greatest-requires
-greatest-requires c κs = search needs
-
-least-requires-2 : tie.Need-least-requires-2
-least-requires-2 c κs = search needs
-
-new-requires : tie.Need-new-requires
-new-requires c κs = search needs
-
 returns : tie.Need-returns
 returns c =
     let d = c .before in
@@ -46,10 +34,10 @@ pub overlap-spec : {M : Type 1} → statement M
 overlap-spec =
     tie.close
     (tie.spec
-    least-requires
-    greatest-requires
-    least-requires-2
-    new-requires
+    (λ c κs. search needs)
+    (λ c κs. search needs)
+    (λ c κs. search needs)
+    (λ c κs. search needs)
     returns
     returns-2
     returns-3)

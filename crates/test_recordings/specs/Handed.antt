@@ -1,0 +1,16 @@
+-- What a search with lent rows leaves. Assumes nothing.
+use Prim.Native.Nat.{ℕ, _+_, _*_}
+use mathlib.Core.List.{List}
+use lib.ListN.{getD}
+use Rattle.rows.specs.declared.Row.{Row}
+use Rattle.string_index.specs.Search.{Found}
+use Rattle.string_index.specs.Answers.{answer-as}
+use Rattle.test_recordings.specs.declared.Handed.{Handed}
+
+-- the row at an index of a row buffer, three numbers each
+abbrev pub row-in : List ℕ → ℕ → Row
+row-in ns at = record { address = getD ns (at * 3) 0; «created_at» = getD ns (at * 3 + 1) 0; «destroyed_at» = getD ns (at * 3 + 2) 0 }
+
+-- the answer, and the row at an index
+abbrev pub handed : Found → ℕ → Handed
+handed f at = record { answer = answer-as (f .refusal) (f .count); row = row-in (f .buffer) at }
