@@ -11,7 +11,7 @@ use Rattle.definitions.specs.Location.{Location, location-at, locations-in}
 use Rattle.definitions.specs.Program.{text, decimal, Reply, place, end, refused, place-each, found}
 use Rattle.definitions.proofs.Decimal.{dec-decimal, length-dec}
 use Rattle.image.proofs.BytesRead.{count-locs}
-use Rattle.index_memory.specs.Answers.{recorded-as}
+use Rattle.index_memory.specs.Recorded.{recorded-as}
 use Rattle.index_memory.specs.declared.Recorded.the-variants as R
 use Rattle.string_index.specs.Answers.{finished-as}
 use Rattle.string_index.specs.declared.Finished.the-variants as F

@@ -12,7 +12,7 @@ ghost use mathlib.Core.Option.{some};
 ghost use Rattle.definitions.specs.Location.{locations-in, location-at};
 ghost use Rattle.definitions.specs.Program.{block, finish, find, place, found, program-capacity};
 ghost use Rattle.location.specs.Plain.{plain};
-ghost use Rattle.index_memory.specs.Record.{open-memory};
+ghost use Rattle.index_memory.specs.Opening.{open-memory};
 ghost use Rattle.index_memory.specs.Answers.{opened-as};
 ghost use Rattle.replies.specs.Written.{Written, reply-bytes};
 ghost use Rattle.answering.specs.Program.{replies-bytes};

@@ -11,8 +11,8 @@ use Rattle.definitions.specs.Calls.{finish-checks, search-checks}
 use Rattle.trie.specs.Build.{trie-of}
 use Rattle.row_buffer.specs.Numbers.{row-numbers}
 use Rattle.finished_memory.specs.Finished.{finished-memory}
+use Rattle.index_memory.specs.Opening.{Done, unless-refused}
 use Rattle.index_memory.specs.Index.{Index, broken, opened, finished, standing-of, read-index}
-use Rattle.index_memory.specs.Record.{Done, unless-refused}
 
 -- ── finish: the log becomes an image ──
 
