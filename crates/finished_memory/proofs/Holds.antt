@@ -21,15 +21,16 @@ use Rattle.image_format.specs.Held.{trie-in}
 use Rattle.image_format.specs.Savable.{AllBytes, Savable}
 use Rattle.image_format.proofs.Sizes.{image-size}
 use Rattle.image_format.proofs.Theorems.{image-read, read-image-is}
-use Rattle.index_memory.specs.Layout.{Header, header-at, header-bytes, log-in}
-use Rattle.index_memory.specs.Index.{Index, broken, opened, finished, header-right, log-right, open-index, read-index, image-part, if-right, finished-index}
+use Rattle.index_memory.specs.Layout.{Room, Header, header-at, header-bytes, header-right}
 use Rattle.index_memory.specs.Answers.{heading-at}
+use Rattle.index_memory.specs.Log.{log-in}
+use Rattle.index_memory.specs.Index.{Index, broken, opened, finished, log-right, open-index, read-index, image-part, if-right, finished-index}
 use Rattle.index_memory.proofs.HeaderBytes.{HeaderFits, length-header, header-written, first-zero, second-zero}
-use Rattle.index_memory.proofs.HeaderFacts.{HeaderFacts, header-facts, heading-some}
+use Rattle.index_memory.proofs.HeaderFacts.{HeaderFacts, header-facts, facts-room, heading-some}
 use Rattle.index_memory.proofs.Holding.{index-by-image}
 use Rattle.index_memory.proofs.Tests.{and-left, and-right}
 use Rattle.finished_memory.specs.Finished.{finished-header, finished-memory}
-use Rattle.finished_memory.specs.Room.{capacity-of, Room, Within}
+use Rattle.finished_memory.specs.Room.{capacity-of, Within}
 
 -- ── the memory of a finished index holds its trie ──
 
@@ -181,10 +182,8 @@ module _ (m : List ℕ) where
   abbrev there : Header
   there = header-at m
 
-  facts-room : header-right m ≡ true → (c : Capacity) → there .capacity ≡ c → Room m c
-  facts-room r c e =
-      let f : HeaderFacts m there = header-facts m there r in
-      subst (Room m) e (record { some-nodes = f .some-nodes; few-nodes = f .few-nodes; some-entries = f .some-entries; few-entries = f .few-entries; held = f .held })
+  room-by : header-right m ≡ true → (c : Capacity) → there .capacity ≡ c → Room m c
+  room-by r c e = subst (Room m) e (facts-room m there (header-facts m there r))
 
   -- the capacity of an index in a memory is one that it has room for
   pub room-of : (c : Capacity) → capacity-of (read-index m) ≡ some c → Room m c
@@ -200,8 +199,8 @@ module _ (m : List ℕ) where
       by-layout (right k j) s e = by-test (eqb (there .nodes) k && (eqb (there .entries) j && index-rule (trie-in s))) (finished (there .capacity) (trie-in s)) refl e
 
       go : (o : Bool) → header-right m ≡ o → (p : Bool) → capacity-of (cond o (cond p (open-index m there) (finished-index m there)) broken) ≡ some c → Room m c
-      go true r true e = facts-room r c (by-test (log-right m there) (opened (there .capacity) (log-in m (there .payload) 64)) refl e)
-      go true r false e = facts-room r c (by-layout (read-image (image-part m there)) (image-part m there) e)
+      go true r true e = room-by r c (by-test (log-right m there) (opened (there .capacity) (log-in m (there .payload) 64)) refl e)
+      go true r false e = room-by r c (by-layout (read-image (image-part m there)) (image-part m there) e)
       go false r p e = absurd (let z : _≡_ {A = ℕ} 0 1 = cc in omega arith)
 
   pub finished-is : (c : Capacity) (t : Trie) → AllBytes m → length m < 2 ^ 64 → read-index m ≡ finished c t → FinishedIs m c t
@@ -221,7 +220,7 @@ module _ (m : List ℕ) where
           let j : entries t ≡ there .entries = subst (λ (x : Trie). entries x ≡ there .entries) (p .trie) (k .2) in
           let cn : there .capacity .nodes ≡ c .nodes = ap (λ (x : Capacity). x .nodes) (p .capacity) in
           let ce : there .capacity .entries ≡ c .entries = ap (λ (x : Capacity). x .entries) (p .capacity) in
-          record { room = facts-room r c (p .capacity); within = record { nodes = omega (arith, f .nodes); entries = omega (arith, f .entries) }; savable = subst Savable (p .trie) (k .3); rule = p .rule }
+          record { room = room-by r c (p .capacity); within = record { nodes = omega (arith, f .nodes); entries = omega (arith, f .entries) }; savable = subst Savable (p .trie) (k .3); rule = p .rule }
 
       go : (o : Bool) → header-right m ≡ o → (p : Bool) → cond o (cond p (open-index m there) (finished-index m there)) broken ≡ finished c t → FinishedIs m c t
       go true r true f = absurd (never-open (log-right m there) f)

@@ -7,10 +7,10 @@ use Rattle.definitions.specs.Calls.{Capacity}
 use Rattle.trie.specs.Trie.{Trie}
 use Rattle.trie.specs.Test.{index-rule}
 use Rattle.image_format.specs.Savable.{Savable}
-use Rattle.index_memory.specs.Layout.{header-at}
+use Rattle.index_memory.specs.Layout.{Room, header-at}
 use Rattle.index_memory.specs.Index.{finished, read-index}
 use Rattle.finished_memory.specs.Finished.{finished-header, finished-memory}
-use Rattle.finished_memory.specs.Room.{Room, Within}
+use Rattle.finished_memory.specs.Room.{Within}
 
 -- it holds the trie
 abbrev pub FinishedHolds : Type 0

@@ -13,7 +13,8 @@ use Rattle.definitions.specs.Calls.{Capacity, needed}
 use Rattle.trie.specs.Trie.{nodes}
 use Rattle.trie.specs.Build.{Entry, parts, entered, entered-all, trie-of}
 use Rattle.trie.proofs.BuildCounts.{trie-of-nodes}
-use Rattle.index_memory.specs.Layout.{header-at, log-in}
+use Rattle.index_memory.specs.Layout.{header-at}
+use Rattle.index_memory.specs.Log.{log-in}
 use Rattle.index_memory.proofs.LogBytes.{length-log-in, is-log-sound}
 use Rattle.index_memory.proofs.HeaderFacts.{open-payload}
 use Rattle.index_memory.proofs.Holding.{OpenIs, open-room, open-bytes}

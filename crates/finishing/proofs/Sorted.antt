@@ -12,7 +12,7 @@ use Rattle.records.specs.Records.{records, recordsBytes, sorted}
 use Rattle.records.proofs.Bytes.{Bytes, length-records, length-recordAt, length-recordsBytes}
 use Rattle.records.proofs.Lists.{sorted-mem, length-sorted}
 use Rattle.trie.specs.Build.{entered-all}
-use Rattle.index_memory.specs.Layout.{log-in}
+use Rattle.index_memory.specs.Log.{log-in}
 use Rattle.tails.specs.Tails.{Tail, numbered, tail-records}
 use Rattle.tail_records.specs.Tail.{tails-in, Held}
 use Rattle.tail_records.proofs.Memory.{length-tail-records}

@@ -6,7 +6,7 @@ use mathlib.Core.List.{List}
 use lib.ListN.{length, getD}
 use Rattle.records.specs.Records.{sorted}
 use Rattle.trie.specs.Build.{entered-all}
-use Rattle.index_memory.specs.Layout.{log-in}
+use Rattle.index_memory.specs.Log.{log-in}
 use Rattle.tails.specs.Tails.{numbered, tail-records}
 use Rattle.tail_records.specs.Tail.{tails-in, Held}
 use Rattle.tail_records.specs.Log.{SoundLog}

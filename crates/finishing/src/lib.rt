@@ -1,11 +1,14 @@
 // Finish: the log of an open index becomes an image.
 use index_memory::HEADER_SIZE;
 use index_memory::Header;
+use index_memory::LOGGED_SIZE;
+use index_memory::NODE_SIZE;
 ghost use mathlib.Core.Path.{_≡_};
 ghost use Rattle.trie.specs.Build.{trie-of};
-ghost use Rattle.index_memory.specs.Layout.{header-at, log-in};
-ghost use Rattle.index_memory.specs.Index.{read-index, opened};
+ghost use Rattle.index_memory.specs.Layout.{header-at};
 ghost use Rattle.index_memory.specs.Answers.{header-of};
+ghost use Rattle.index_memory.specs.Log.{log-in};
+ghost use Rattle.index_memory.specs.Index.{read-index, opened};
 ghost use Rattle.finished_memory.specs.Finished.{finished-memory};
 ghost use Rattle.finishing.specs.Steps.{TailsAsked, TailsSorted};
 
@@ -24,7 +27,7 @@ pub fn finish_open(mem: &mut [u8], h: Header)
     requires { ⌜ (header-at (now mem) ≡ header-of h) × (read-index (now mem) ≡ opened (header-of h .capacity) (log-in (now mem) (h .payload) 64)) ⌝ }
     ensures { λ _. ⌜ now (mem .exit) ≡ finished-memory (now (mem .entry)) (header-of h .capacity) (trie-of (log-in (now (mem .entry)) (h .payload) 64)) ⌝ }
 {
-    let work = HEADER_SIZE + 64 * h.node_room + 48 * h.entry_room;
+    let work = HEADER_SIZE + NODE_SIZE * h.node_room + LOGGED_SIZE * h.entry_room;
     let tails = sort_tails(mem, h.payload, work);
     let end = node_writer::put_image(mem, work, tails);
     let closed = index_memory::closed(h, end.nodes, end.entries, end.at - HEADER_SIZE);

@@ -10,7 +10,7 @@ ghost use lib.ListN.{length};
 ghost use mathlib.Core.Option.{some};
 ghost use Rattle.definitions.specs.Program.{block, finish, find, found, program-capacity};
 ghost use Rattle.location.specs.Plain.{plain};
-ghost use Rattle.index_memory.specs.Record.{open-memory};
+ghost use Rattle.index_memory.specs.Opening.{open-memory};
 ghost use Rattle.index_memory.specs.Answers.{opened-as};
 ghost use Rattle.row_replies.specs.Program.{replies-bytes};
 ghost use Rattle.form_answers.specs.Memory.{form-answer, memory-after-form, line-answer, memory-after-line};

@@ -6,7 +6,8 @@ use mathlib.Core.List.{List}
 use lib.ListN.{set}
 use lib.Dec.{eqb}
 use Rattle.definitions.proofs.Views.{Eq, eq}
-use Rattle.index_memory.specs.Answers.{opened-as, opened-number, recorded-as, recorded-number}
+use Rattle.index_memory.specs.Answers.{opened-as, opened-number}
+use Rattle.index_memory.specs.Recorded.{recorded-as, recorded-number}
 use Rattle.index_memory.specs.declared.Opened.the-variants as O
 use Rattle.index_memory.specs.declared.Recorded.the-variants as R
 use Rattle.saving.specs.declared.Saved.{Saved}

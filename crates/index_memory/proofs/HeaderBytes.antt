@@ -1,14 +1,13 @@
 -- A header in bytes: it takes 64, and what is written is read back. Assumes nothing.
 use Prim.Native.Nat.{ℕ, _+_, _*_, _^_, _≤_, _<_}
 use native.Mathlib.Omega.{arith}
-use mathlib.Core.Path.{_≡_, ap, _∙_}
-use mathlib.Core.Logic.{inl}
+use mathlib.Core.Path.{_≡_, sym, ap, _∙_}
 use mathlib.Core.List.{List, [], _∷_, append-nil}
 use lib.ListN.{length, getD}
 use lib.Seq.{sets}
 use Rattle.words.specs.Words.{le64, setLe64, bytes64}
-use Rattle.words.proofs.Parts.{le64-sets-other}
-use Rattle.index_memory.specs.Layout.{Header, header-at, header-bytes}
+use Rattle.words.proofs.Parts.{setLe64-sets, bytes64-le64, sets-same}
+use Rattle.index_memory.specs.Layout.{Header, header-at, header-bytes, with-header}
 use Rattle.index_memory.proofs.Numbers.{numbers, length-numbers, numbers-sets, number-written}
 
 -- the numbers of a header
@@ -36,7 +35,7 @@ module _ (h : Header) where
   pub put-in-turn : (m₀ m₁ m₂ m₃ m₄ m₅ m₆ m₇ m₈ : List ℕ)
       → m₁ ≡ setLe64 m₀ 0 (h .capacity .nodes) → m₂ ≡ setLe64 m₁ 8 (h .capacity .entries) → m₃ ≡ setLe64 m₂ 16 (h .phase)
       → m₄ ≡ setLe64 m₃ 24 (h .nodes) → m₅ ≡ setLe64 m₄ 32 (h .entries) → m₆ ≡ setLe64 m₅ 40 (h .payload)
-      → m₇ ≡ setLe64 m₆ 48 0 → m₈ ≡ setLe64 m₇ 56 0 → m₈ ≡ sets m₀ 0 (header-bytes h)
+      → m₇ ≡ setLe64 m₆ 48 0 → m₈ ≡ setLe64 m₇ 56 0 → m₈ ≡ with-header m₀ h
   unfolding numbers
   put-in-turn m₀ m₁ m₂ m₃ m₄ m₅ m₆ m₇ m₈ e₁ e₂ e₃ e₄ e₅ e₆ e₇ e₈ =
       rw (
@@ -61,12 +60,12 @@ module _ (h : Header) where
 
   module _ (m : List ℕ) (l : 64 ≤ length m) where
     -- number k is read back
-    at-number : (k : ℕ) → k < 8 → getD (header-numbers h) k 0 < 2 ^ 64 → le64 (sets m 0 (header-bytes h)) (0 + 8 * k) ≡ getD (header-numbers h) k 0
+    at-number : (k : ℕ) → k < 8 → getD (header-numbers h) k 0 < 2 ^ 64 → le64 (with-header m h) (0 + 8 * k) ≡ getD (header-numbers h) k 0
     at-number k b s =
         rw is-numbers (number-written (header-numbers h) m 0 k b s l)
 
     -- and so is the header
-    pub header-written : HeaderFits h → header-at (sets m 0 (header-bytes h)) ≡ h
+    pub header-written : HeaderFits h → header-at (with-header m h) ≡ h
     header-written f =
         let a = at-number 0 (omega arith) (f .node-room) in
         let b = at-number 1 (omega arith) (f .entry-room) in
@@ -76,20 +75,17 @@ module _ (h : Header) where
         let g = at-number 5 (omega arith) (f .payload) in
         λ i. record { capacity = record { nodes = a i; entries = b i }; phase = c i; nodes = d i; entries = e i; payload = g i }
 
-    pub first-zero : le64 (sets m 0 (header-bytes h)) 48 ≡ 0
+    pub first-zero : le64 (with-header m h) 48 ≡ 0
     first-zero = at-number 6 (omega arith) (omega arith)
 
-    pub second-zero : le64 (sets m 0 (header-bytes h)) 56 ≡ 0
+    pub second-zero : le64 (with-header m h) 56 ≡ 0
     second-zero = at-number 7 (omega arith) (omega arith)
 
--- what is written behind a header leaves it as it was
-pub header-elsewhere : (ys m : List ℕ) (at : ℕ) → 64 ≤ at → header-at (sets m at ys) ≡ header-at m
-header-elsewhere ys m at h =
-    let same : (p : ℕ) → p + 8 ≤ 64 → le64 (sets m at ys) p ≡ le64 m p = λ p b. le64-sets-other ys m at p (inl (omega arith)) in
-    let a = same 0 (omega arith) in
-    let b = same 8 (omega arith) in
-    let c = same 16 (omega arith) in
-    let d = same 24 (omega arith) in
-    let e = same 32 (omega arith) in
-    let g = same 40 (omega arith) in
-    λ i. record { capacity = record { nodes = a i; entries = b i }; phase = c i; nodes = d i; entries = e i; payload = g i }
+-- a header that is written where it stands changes nothing in a memory of bytes
+pub header-same : (m : List ℕ) → ((k : ℕ) → getD m k 0 < 256) → 64 ≤ length m → le64 m 48 ≡ 0 → le64 m 56 ≡ 0 → with-header m (header-at m) ≡ m
+header-same m b l z₆ z₇ =
+    let same : (p : ℕ) → p + 8 ≤ 64 → m ≡ setLe64 m p (le64 m p) = λ p h.
+    sym (setLe64-sets m p (le64 m p) ∙ ap (sets m p) (sym (bytes64-le64 m p b (omega arith))) ∙ sets-same 8 m p (omega arith)) in
+    sym
+    (put-in-turn (header-at m) m m m m m m m m m (same 0 (omega arith)) (same 8 (omega arith)) (same 16 (omega arith)) (same 24 (omega arith))
+    (same 32 (omega arith)) (same 40 (omega arith)) (same 48 (omega arith) ∙ rw z₆) (same 56 (omega arith) ∙ rw z₇))

@@ -11,8 +11,7 @@ use borrow.Author.Tests.{leb-true, eqb-true, le-leb, eq-eqb}
 use Rattle.words.specs.Words.{le64}
 use Rattle.definitions.specs.Calls.{Capacity, out-of-range, needed}
 use Rattle.definitions.proofs.Views.{Eq, eq, Lt, lt, Le, le}
-use Rattle.index_memory.specs.Layout.{Header, header-at, header-sound, payload-size}
-use Rattle.index_memory.specs.Index.{header-right}
+use Rattle.index_memory.specs.Layout.{Room, Header, header-at, header-right, header-sound, payload-size}
 use Rattle.index_memory.specs.Answers.{heading-at, Front}
 use Rattle.index_memory.proofs.Tests.{and-left, and-right, both}
 
@@ -129,6 +128,10 @@ module _ (m : List ℕ) (h : Header) where
       (both (le-leb (h .nodes) (h .capacity .nodes) (f .nodes))
       (both (le-leb (h .entries) (h .capacity .entries) (f .entries))
       (le-leb (h .payload) (cond (eqb (h .phase) 0) (h .capacity .entries) (payload-size (h .capacity))) (f .payload))))))))))
+
+  -- the memory has room for the capacity
+  pub facts-room : HeaderFacts m h → Room m (h .capacity)
+  facts-room f = record { some-nodes = f .some-nodes; few-nodes = f .few-nodes; some-entries = f .some-entries; few-entries = f .few-entries; held = f .held }
 
   -- the pieces of an open index are no more than its entries
   pub open-payload : HeaderFacts m h → h .phase ≡ 0 → h .payload ≤ h .capacity .entries

@@ -3,7 +3,8 @@ use Prim.Native.Nat.{ℕ, _+_, _*_, _≤_, _<_}
 use native.Mathlib.Omega.{arith}
 use mathlib.Core.Path.{_≡_, refl, sym, ap, _∙_, subst}
 use mathlib.Core.Bool.{Bool, true, false, _&&_, cond}
-use mathlib.Core.List.{List, List·Memᴰ as Mem}
+use mathlib.Core.Logic.{inr}
+use mathlib.Core.List.{List, [], List·Memᴰ as Mem, List·Memᴰ·not-nil as not-nil}
 use mathlib.Core.Option.{Option, none, some}
 use lib.ListN.{length, getD}
 use lib.Dec.{eqb}
@@ -13,12 +14,17 @@ use Rattle.definitions.specs.Calls.{Capacity}
 use Rattle.trie.specs.Test.{index-rule}
 use Rattle.image_format.specs.Reading.{Layout, right, refused, read-image}
 use Rattle.image_format.specs.Held.{trie-in}
-use Rattle.index_memory.specs.Layout.{Header, header-at, log-in, log-sound}
-use Rattle.index_memory.specs.Index.{broken, opened, finished, header-right, log-right, open-index, finished-index, if-right, read-index, image-part}
+use Rattle.index_memory.specs.Layout.{Room, Header, header-at, header-bytes, with-header, header-right}
+use Rattle.index_memory.specs.Opening.{open-memory}
+use Rattle.index_memory.specs.Log.{log-in, log-sound}
+use Rattle.index_memory.specs.Index.{broken, opened, finished, open-header, log-right, open-index, finished-index, if-right, read-index, image-part}
 use Rattle.index_memory.specs.Answers.{heading-at}
 use Rattle.index_memory.proofs.Tests.{and-left, and-right, both}
-use Rattle.index_memory.proofs.LogBytes.{AllFit, AllSound, log-fits, log-in-bytes, length-log-in, log-sound-is, is-log-sound}
-use Rattle.index_memory.proofs.HeaderFacts.{HeaderFacts, header-facts, heading-some, open-payload}
+use Rattle.index_memory.proofs.LogBytes.{AllSound, log-elsewhere, log-in-bytes, length-log-in, log-sound-is, is-log-sound}
+use Rattle.index_memory.proofs.Charges.{charge-count}
+use Rattle.index_memory.proofs.HeaderBytes.{length-header}
+use Rattle.index_memory.proofs.HeaderFacts.{HeaderFacts, header-facts, facts-room, heading-some, open-payload}
+use Rattle.index_memory.proofs.Opening.{open-holds, open-taken, head-at, head-facts}
 
 -- ---- by the heading
 
@@ -131,20 +137,39 @@ module _ (m : List ℕ) (c : Capacity) (ps : List Piece) where
       go true r false p o₃ t f = absurd (not-finished (read-image (image-part m (header-at m))) (header-at m) (image-part m (header-at m)) c ps f)
       go false r o₂ p o₃ t f = absurd (let z : _≡_ {A = ℕ} 0 1 = cc in omega arith)
 
--- a memory with this header and this log holds an open index
-pub open-at : (m : List ℕ) (h : Header) (ps : List Piece) → header-at m ≡ h → HeaderFacts m h → h .phase ≡ 0 → log-in m (h .payload) 64 ≡ ps
-    → AllSound ps → h .nodes ≡ nodes-tallied ps → h .entries ≡ entries-tallied ps → read-index m ≡ opened (h .capacity) ps
-open-at m h ps e f z l s n k =
-    let log : List Piece = log-in m (h .payload) 64 in
-    let head : some h ≡ heading-at m = ap {B = Option Header} some (sym e) ∙ heading-some m (subst (HeaderFacts m) (sym e) f) in
-    let t : log-right m h ≡ true =
-    both (is-log-sound m (h .payload) 64 (open-room m h f z) (subst AllSound (sym l) s))
-    (both (eq-eqb (h .nodes) (nodes-tallied log) (n ∙ ap nodes-tallied (sym l))) (eq-eqb (h .entries) (entries-tallied log) (k ∙ ap entries-tallied (sym l)))) in
-    index-by-log m h (sym head) z ∙ rw t (ap (opened (h .capacity)) l)
-
 -- the pieces of an open index in a memory of bytes
-pub open-fits : (m : List ℕ) (c : Capacity) (ps : List Piece) → ((k : ℕ) → getD m k 0 < 256) → OpenIs m c ps → AllFit ps
-open-fits m c ps b o = subst AllFit (sym (o .log)) (log-fits m (header-at m .payload) 64 b (subst AllSound (o .log) (o .sound)))
-
 pub open-bytes : (m : List ℕ) (c : Capacity) (ps : List Piece) → ((k : ℕ) → getD m k 0 < 256) → OpenIs m c ps → (p : Piece) → Mem p ps → (k : ℕ) → getD (p .bytes) k 0 < 256
 open-bytes m c ps b o p h = log-in-bytes m (header-at m .payload) 64 b p (subst (λ (x : List Piece). Mem p x) (o .log) h)
+
+-- the memory of an open index holds its capacity
+pub room-open : (m : List ℕ) (c : Capacity) (ps : List Piece) → OpenIs m c ps → Room m c
+room-open m c ps o = subst (Room m) (o .capacity) (facts-room m (header-at m) (o .header))
+
+-- and its header counts its pieces
+pub open-counted : (m : List ℕ) (c : Capacity) (ps : List Piece) → OpenIs m c ps → header-at m ≡ open-header c ps
+open-counted m c ps o = λ i. record { capacity = o .capacity i; phase = o .phase i; nodes = o .nodes i; entries = o .entries i; payload = o .payload i }
+
+-- ---- a memory that an index is made in
+
+-- with the header that counts its log, a memory holds an open index
+pub put-holds : (m : List ℕ) (c : Capacity) (ps : List Piece) → Room m c → nodes-tallied ps ≤ c .nodes → entries-tallied ps ≤ c .entries → AllSound ps
+    → log-in m (length ps) 64 ≡ ps → read-index (with-header m (open-header c ps)) ≡ opened c ps
+put-holds m c ps o n e s l =
+    let h : Header = open-header c ps in
+    let few : length ps ≤ c .entries = omega (arith, charge-count ps) in
+    let at : header-at (with-header m h) ≡ h = head-at m c (nodes-tallied ps) (entries-tallied ps) (length ps) o n e few in
+    let f : HeaderFacts (with-header m h) h = head-facts m c (nodes-tallied ps) (entries-tallied ps) (length ps) o n e few in
+    let log : log-in (with-header m h) (length ps) 64 ≡ ps =
+    log-elsewhere (header-bytes h) m 0 (length ps) 64 (omega (arith, o .held)) (subst AllSound (sym l) s) (inr (omega (arith, length-header h))) ∙ l in
+    let t : log-right (with-header m h) h ≡ true =
+    both (is-log-sound (with-header m h) (length ps) 64 (open-room (with-header m h) h f refl) (subst AllSound (sym log) s))
+    (both (eq-eqb (nodes-tallied ps) _ (ap nodes-tallied (sym log))) (eq-eqb (entries-tallied ps) _ (ap entries-tallied (sym log)))) in
+    let head : some h ≡ heading-at (with-header m h) = ap {B = Option Header} some (sym at) ∙ heading-some (with-header m h) (subst (HeaderFacts (with-header m h)) (sym at) f) in
+    open-by-log (with-header m h) h (sym head) refl t ∙ ap (opened c) log
+
+-- where opening is not refused, the memory holds an open index with no pieces
+pub opened-fresh : (m : List ℕ) (c : Capacity) → open-memory m c .refusal ≡ 0 → read-index (open-memory m c .memory) ≡ opened c []
+unfolding log-in
+opened-fresh m c e =
+    let o : Room m c = open-holds m c e in
+    ap read-index (sym (open-taken m c o .1)) ∙ put-holds m c [] o (o .some-nodes) (omega arith) (λ p k. absurd (not-nil k)) refl

@@ -1,10 +1,10 @@
 -- A log in bytes: what is written is read back, what lies elsewhere is as it was, and which logs are sound. Assumes nothing.
-use Prim.Native.Nat.{ℕ, zero, suc, _+_, _-_, _*_, _≤_, _<_}
+use Prim.Native.Nat.{ℕ, zero, suc, _+_, _*_, _≤_, _<_}
 use native.Mathlib.Omega.{arith}
 use mathlib.Core.Path.{_≡_, refl, sym, ap, _∙_, subst}
 use mathlib.Core.Bool.{Bool, true, _&&_}
 use mathlib.Core.Logic.{_⊎_, inl, inr}
-use mathlib.Core.List.{List, [], _∷_, _++_, List·Memᴰ as Mem, List·Memᴰ·head as here, List·Memᴰ·tail as later, List·Memᴰ·not-nil as not-nil}
+use mathlib.Core.List.{List, [], _∷_, _++_, append-assoc, List·Memᴰ as Mem, List·Memᴰ·head as here, List·Memᴰ·tail as later, List·Memᴰ·not-nil as not-nil}
 use lib.ListN.{length, getD, take, drop, List·getD-eq-default, length-append, length-take, length-drop}
 use lib.Seq.{sets, length-sets, getD-take, getD-drop}
 use lib.Dec.{ltb, leb}
@@ -14,8 +14,7 @@ use Rattle.words.proofs.Parts.{sets-append, getD-sets-out}
 use Rattle.definitions.specs.Blocks.{Piece}
 use Rattle.definitions.specs.Calls.{last-number}
 use Rattle.definitions.proofs.Views.{lt-or-le}
-use Rattle.location.proofs.Bytes.{location-fits}
-use Rattle.index_memory.specs.Layout.{piece-in, piece-bytes, log-in, log-bytes, piece-sound, log-sound}
+use Rattle.index_memory.specs.Log.{AllSmall, piece-in, piece-bytes, log-in, log-bytes, piece-sound, log-sound}
 use Rattle.index_memory.proofs.PieceBytes.{PieceFits, length-piece, size-written, piece-written, piece-ext}
 use Rattle.index_memory.proofs.Tests.{and-left, and-right, both}
 
@@ -24,11 +23,16 @@ use Rattle.index_memory.proofs.Tests.{and-left, and-right, both}
 abbrev pub AllFit : List Piece → Type 0
 AllFit ps = (p : Piece) → Mem p ps → PieceFits p
 
-pub length-log : (ps : List Piece) → AllFit ps → length (log-bytes ps) ≡ 48 * length ps
+-- pieces of at most 16 bytes take 48 each
+pub length-log : (ps : List Piece) → AllSmall ps → length (log-bytes ps) ≡ 48 * length ps
 unfolding log-bytes
 length-log [] f = refl
-length-log (p ∷ ps) f =
-    omega (arith, length-append (piece-bytes p) (log-bytes ps), length-piece p (f p (here refl) .small), length-log ps (λ q m. f q (later m)))
+length-log (p ∷ ps) f = omega (arith, length-append (piece-bytes p) (log-bytes ps), length-piece p (f p (here refl)), length-log ps (λ q m. f q (later m)))
+
+pub log-bytes-append : (ps qs : List Piece) → log-bytes (ps ++ qs) ≡ log-bytes ps ++ log-bytes qs
+unfolding log-bytes
+log-bytes-append [] qs = refl
+log-bytes-append (p ∷ ps) qs = rw (log-bytes-append ps qs, append-assoc (piece-bytes p) (log-bytes ps) (log-bytes qs))
 
 -- a log is written piece by piece
 pub log-sets : (p : Piece) (ps : List Piece) (xs : List ℕ) (at : ℕ) → length (p .bytes) ≤ 16
@@ -157,13 +161,6 @@ log-elsewhere ys xs at n p h f (inr l) =
     sym (log-ext n p xs (sets xs at ys) (sym (length-sets xs at ys)) h f (λ k a b. sym (getD-sets-out ys xs at k (inr (omega arith)))))
 
 -- ---- a log in a memory of bytes
-
--- its locations are of 64 bits
-pub log-fits : (xs : List ℕ) (n p : ℕ) → ((k : ℕ) → getD xs k 0 < 256) → AllSound (log-in xs n p) → AllFit (log-in xs n p)
-unfolding log-in
-log-fits xs zero p b s q m = absurd (not-nil m)
-log-fits xs (suc n) p b s q (here e) = subst PieceFits (sym e) (record { small = s (piece-in xs p) (here refl) .small; place = location-fits xs (p + 24) b })
-log-fits xs (suc n) p b s q (later m) = log-fits xs n (p + 48) b (λ x k. s x (later k)) q m
 
 -- its pieces are of bytes
 pub log-in-bytes : (xs : List ℕ) (n p : ℕ) → ((k : ℕ) → getD xs k 0 < 256) → (q : Piece) → Mem q (log-in xs n p) → (k : ℕ) → getD (q .bytes) k 0 < 256

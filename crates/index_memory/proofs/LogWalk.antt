@@ -12,7 +12,8 @@ use Rattle.words.specs.Words.{le64}
 use Rattle.definitions.specs.Blocks.{Piece, node-charge, entry-charge, charge}
 use Rattle.definitions.specs.Calls.{last-number}
 use Rattle.definitions.proofs.Views.{Le, le}
-use Rattle.index_memory.specs.Layout.{Header, piece-in, log-in, piece-sound, log-sound}
+use Rattle.index_memory.specs.Layout.{Header}
+use Rattle.index_memory.specs.Log.{piece-in, log-in, piece-sound, log-sound}
 use Rattle.index_memory.specs.Index.{log-right}
 use Rattle.index_memory.specs.Answers.{heading-at}
 use Rattle.index_memory.proofs.Charges.{node-bound, entry-max}

@@ -2,20 +2,24 @@
 use Prim.Native.Nat.{ℕ, _+_, _-_, _≤_, _<_}
 use native.Mathlib.Omega.{arith}
 use mathlib.Core.Path.{_≡_, sym, ap, _∙_}
-use mathlib.Core.Logic.{_⊎_, inl, inr}
+use mathlib.Core.Logic.{inl}
 use mathlib.Core.List.{List, _++_}
 use lib.ListN.{length, getD, take, drop, replicate, length-append, length-replicate}
 use lib.Seq.{sets, length-sets}
 use Rattle.words.specs.Words.{le64, setLe64, bytes64}
 use Rattle.words.proofs.Laws.{le64-ext, le64-setLe64, length-setLe64}
-use Rattle.words.proofs.Parts.{sets-append, length-bytes64, setLe64-sets, le64-sets-other, getD-sets-out, take-sets}
+use Rattle.words.proofs.Parts.{sets-append, length-bytes64, setLe64-sets, le64-sets-other, take-sets}
 use Rattle.definitions.specs.Location.{location-at, location-bytes}
 use Rattle.definitions.specs.Blocks.{Piece}
 use Rattle.location.specs.Fits.{Fits}
 use Rattle.location.proofs.Bytes.{location-written}
-use Rattle.index_memory.specs.Layout.{piece-in, piece-bytes}
-use Rattle.index_memory.proofs.Charges.{piece-path}
+use Rattle.index_memory.specs.Log.{piece-in, piece-bytes}
 use Rattle.index_memory.proofs.Numbers.{part-ext, part-other}
+
+-- a piece with the same bytes at the same place
+pub piece-path : {p q : Piece} → p .bytes ≡ q .bytes → p .at .address ≡ q .at .address → p .at .created ≡ q .at .created
+    → p .at .destroyed ≡ q .at .destroyed → p ≡ q
+piece-path e a c d = λ i. record { bytes = e i; at = record { address = a i; created = c i; destroyed = d i } }
 
 -- what 48 bytes can hold
 pub record PieceFits (p : Piece) : Type 0 where
@@ -95,8 +99,3 @@ piece-ext xs ys p len s f =
     (le64-ext xs ys (p + 24) (λ k a b. f k (omega arith) (omega arith)))
     (le64-ext xs ys (p + 24 + 8) (λ k a b. f k (omega arith) (omega arith)))
     (le64-ext xs ys (p + 24 + 16) (λ k a b. f k (omega arith) (omega arith)))
-
--- and stays as it was where others are written
-pub piece-elsewhere : (ys xs : List ℕ) (at p : ℕ) → le64 xs p ≤ 16 → (p + 48 ≤ at) ⊎ (at + length ys ≤ p) → piece-in (sets xs at ys) p ≡ piece-in xs p
-piece-elsewhere ys xs at p s (inl h) = sym (piece-ext xs (sets xs at ys) p (sym (length-sets xs at ys)) s (λ k a b. sym (getD-sets-out ys xs at k (inl (omega arith)))))
-piece-elsewhere ys xs at p s (inr h) = sym (piece-ext xs (sets xs at ys) p (sym (length-sets xs at ys)) s (λ k a b. sym (getD-sets-out ys xs at k (inr (omega arith)))))

@@ -14,11 +14,12 @@ use Rattle.definitions.specs.Causes.{first-cause, refusal-of}
 use Rattle.definitions.specs.Calls.{Capacity, last-number, memory-checks}
 use Rattle.definitions.proofs.Views.{lt-or-le}
 use Rattle.tally.specs.Tallied.{recorded}
-use Rattle.index_memory.specs.Layout.{Header, header-bytes, piece-bytes, log-bytes}
+use Rattle.index_memory.specs.Log.{piece-bytes, log-bytes}
 use Rattle.index_memory.specs.Cut.{part, parts, piece-count, block-nodes}
-use Rattle.index_memory.specs.Answers.{header-of, tally-in, with-tally, grown}
+use Rattle.index_memory.specs.Answers.{header-of, tally-in, with-tally}
+use Rattle.index_memory.specs.Record.{grown}
 use Rattle.index_memory.specs.declared.Header as C
-use Rattle.index_memory.proofs.Charges.{pieces-parts}
+use Rattle.index_memory.proofs.Cut.{pieces-parts}
 use Rattle.index_memory.proofs.PieceBytes.{piece-parts}
 use Rattle.index_memory.proofs.LogBytes.{log-sets}
 
@@ -135,8 +136,3 @@ module _ (b : Block) (from : ℕ) (m₀ : List ℕ) where
 pub grown-by : (h r : C.Header) (n x y z : ℕ) → x ≡ block-nodes n → y ≡ entry-charge n → z ≡ piece-count n
     → r ≡ with-tally h (recorded (tally-in h) x y) (h .payload + z) → header-of r ≡ grown (header-of h) n
 grown-by h r n x y z e f g w = ap header-of w ∙ rw (e, f, g) refl
-
--- the pieces, and then the header that counts them
-pub append-in-turn : (m m₁ m₂ : List ℕ) (at : ℕ) (new : List ℕ) (h h′ : Header) (n : ℕ) → h′ ≡ grown h n → m₁ ≡ sets m at new → m₂ ≡ sets m₁ 0 (header-bytes h′)
-    → m₂ ≡ sets (sets m at new) 0 (header-bytes (grown h n))
-append-in-turn m m₁ m₂ at new h h′ n g e w = w ∙ rw (e, g) refl

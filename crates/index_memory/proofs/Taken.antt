@@ -1,24 +1,25 @@
 -- A block that is taken: what its checks tell, and that its pieces fit and are sound. Assumes nothing.
-use Prim.Native.Nat.{ℕ, _+_, _<_, _≤_}
+use Prim.Native.Nat.{ℕ, _+_}
 use native.Mathlib.Omega.{arith}
-use mathlib.Core.Path.{_≡_, refl, ap, _∙_}
+use mathlib.Core.Path.{_≡_, sym, ap, _∙_}
 use mathlib.Core.List.{List, _++_}
-use mathlib.Core.Option.{none}
-use lib.ListN.{length}
+use lib.ListN.{length, length-append}
 use Rattle.definitions.specs.Blocks.{Block, Piece, pieces, entry-charge, nodes-tallied, entries-tallied}
-use Rattle.definitions.specs.Causes.{Check, first-cause}
-use Rattle.definitions.specs.Calls.{Capacity, memory-checks, block-checks}
+use Rattle.definitions.specs.Causes.{Check, first-cause, refusal-of}
+use Rattle.definitions.specs.Calls.{Capacity, block-checks}
 use Rattle.definitions.specs.Recording.{Sound}
 use Rattle.definitions.proofs.Cutting.{PieceOf, piece-of}
 use Rattle.definitions.proofs.Tallied.{nodes-with, entries-with}
-use Rattle.definitions.proofs.Checks.{none-applies}
+use Rattle.definitions.proofs.Checks.{none-applies, none-refused}
 use Rattle.definitions.proofs.Taken.{passed}
 use Rattle.location.specs.Fits.{Fits}
-use Rattle.index_memory.specs.Layout.{Header}
-use Rattle.index_memory.specs.Index.{opened, read-index}
-use Rattle.index_memory.specs.Record.{appended}
-use Rattle.index_memory.specs.Cut.{block-nodes}
-use Rattle.index_memory.proofs.Charges.{pieces-nodes, pieces-entries}
+use Rattle.index_memory.specs.Layout.{Room}
+use Rattle.index_memory.specs.Index.{open-header}
+use Rattle.index_memory.specs.Cut.{piece-count, block-nodes}
+use Rattle.index_memory.specs.Record.{judged, grown, Fitting}
+use Rattle.index_memory.specs.Promises.{ReadAppended}
+use Rattle.index_memory.proofs.Charges.{charge-count}
+use Rattle.index_memory.proofs.Cut.{pieces-nodes, pieces-entries, pieces-length}
 use Rattle.index_memory.proofs.LogBytes.{AllFit, AllSound}
 use Rattle.index_memory.proofs.Holding.{open-is}
 use Rattle.index_memory.proofs.Appending.{read-behind}
@@ -32,15 +33,30 @@ tally-nodes ps b = nodes-with ps (pieces b) ∙ ap (λ (n : ℕ). nodes-tallied 
 pub tally-entries : (ps : List Piece) (b : Block) → entries-tallied (ps ++ pieces b) ≡ entries-tallied ps + entry-charge (length (b .bytes))
 tally-entries ps b = entries-with ps (pieces b) ∙ ap (λ (n : ℕ). entries-tallied ps + n) (pieces-entries b)
 
--- what a Memory block is put to by the header's tally
-abbrev pub header-checks : Header → Block → List Check
-header-checks h b = memory-checks (h .capacity) (h .nodes + block-nodes (length (b .bytes))) (h .entries + entry-charge (length (b .bytes))) (length (b .bytes)) (b .at)
+-- a block by the header that counts the pieces: its refusal, and the header that counts it too
+pub judged-is : (c : Capacity) (ps : List Piece) (b : Block) → judged (open-header c ps) (length (b .bytes)) (b .at) ≡ refusal-of (first-cause (block-checks c ps b))
+judged-is c ps b = rw (tally-nodes ps b, tally-entries ps b)
 
--- the same as by the log
-pub checks-same : (h : Header) (ps : List Piece) (b : Block) → h .nodes ≡ nodes-tallied ps → h .entries ≡ entries-tallied ps
-    → header-checks h b ≡ block-checks (h .capacity) ps b
-checks-same h ps b n e =
-    rw (tally-nodes ps b, tally-entries ps b, ← n, ← e) refl
+pub grown-is : (c : Capacity) (ps : List Piece) (b : Block) → grown (open-header c ps) (length (b .bytes)) ≡ open-header c (ps ++ pieces b)
+grown-is c ps b =
+    let n = sym (tally-nodes ps b) in
+    let e = sym (tally-entries ps b) in
+    let k : length ps + piece-count (length (b .bytes)) ≡ length (ps ++ pieces b) = omega (arith, length-append ps (pieces b), pieces-length b) in
+    λ i. record { capacity = c; phase = 0; nodes = n i; entries = e i; payload = k i }
+
+-- a block that no check turned back fits, whatever header is written
+pub fitting : (m : List ℕ) (c : Capacity) (ps : List Piece) (b : Block) → Room m c → refusal-of (first-cause (block-checks c ps b)) ≡ 0 → Fitting m (open-header c ps) b
+fitting m c ps b r z =
+    let cs : List Check = block-checks c ps b in
+    let p = passed c _ _ (length (b .bytes)) (b .at) (none-applies cs (none-refused (first-cause cs) z)) in
+    record {
+      short = p .short;
+      below = p .below;
+      nodes = omega (arith, p .few-nodes, tally-nodes ps b, r .few-nodes);
+      entries = omega (arith, p .few-entries, tally-entries ps b, r .few-entries);
+      count = omega (arith, charge-count (ps ++ pieces b), length-append ps (pieces b), p .few-entries, r .few-entries);
+      room = omega (arith, charge-count (ps ++ pieces b), length-append ps (pieces b), pieces-length b, p .few-entries, r .held);
+    }
 
 -- ---- the pieces
 
@@ -66,8 +82,7 @@ fit-pieces b s f p k =
     }
 
 -- a block that is taken goes behind the pieces that are there
-pub read-appended : (m : List ℕ) (c : Capacity) (ps : List Piece) (b : Block) → read-index m ≡ opened c ps → first-cause (block-checks c ps b) ≡ none
-    → Fits (b .at) → read-index (appended m c ps (pieces b)) ≡ opened c (ps ++ pieces b)
+pub read-appended : ReadAppended
 read-appended m c ps b e q f =
     let p = passed c _ _ _ _ (none-applies (block-checks c ps b) q) in
     let s : Sound b = record { short = p .short; alive = p .alive; below = p .below } in

@@ -1,18 +1,20 @@
 -- What a lent memory holds: nothing that meets the index rule, an open index with its pieces, or a finished one with its trie.
 -- Assumes nothing.
-use Prim.Native.Nat.{ℕ, _+_}
+use Prim.Native.Nat.{ℕ}
 use mathlib.Core.Bool.{Bool, true, false, _&&_, cond}
 use mathlib.Core.List.{List, []}
 use lib.ListN.{length, take, drop}
-use lib.Dec.{leb, eqb}
+use lib.Dec.{eqb}
 use Rattle.definitions.specs.Blocks.{Piece, nodes-tallied, entries-tallied}
 use Rattle.definitions.specs.Calls.{Capacity, Standing, header-size}
 use Rattle.trie.specs.Trie.{Trie, trie-pieces}
 use Rattle.trie.specs.Test.{index-rule}
 use Rattle.image_format.specs.Reading.{Layout, right, refused, read-image}
 use Rattle.image_format.specs.Held.{trie-in}
-use Rattle.index_memory.specs.Layout.{Header, header-at, log-in, log-sound, header-sound}
+use Rattle.index_memory.specs.Layout.{Header, header-at, header-right}
+use Rattle.index_memory.specs.Log.{log-in, log-sound}
 
+-- what a memory holds
 pub data Index : Type 0 where
   broken : Index
   opened : Capacity → List Piece → Index
@@ -24,14 +26,15 @@ standing-of broken = record { broken = true; finished = false; capacity = record
 standing-of (opened c ps) = record { broken = false; finished = false; capacity = c; pieces = ps }
 standing-of (finished c t) = record { broken = false; finished = true; capacity = c; pieces = trie-pieces t }
 
--- there is room for a header, and it is sound
-abbrev pub header-right : List ℕ → Bool
-header-right m = leb header-size (length m) && header-sound m (header-at m)
+-- the header of an open index with these pieces
+abbrev pub open-header : Capacity → List Piece → Header
+open-header c ps = record { capacity = c; phase = 0; nodes = nodes-tallied ps; entries = entries-tallied ps; payload = length ps }
 
 -- each piece is sound and the tally is the sum of the charges
 abbrev pub log-right : List ℕ → Header → Bool
 log-right m h = log-sound m (h .payload) header-size && (eqb (h .nodes) (nodes-tallied (log-in m (h .payload) header-size)) && eqb (h .entries) (entries-tallied (log-in m (h .payload) header-size)))
 
+-- phase 0: the log decides
 abbrev pub open-index : List ℕ → Header → Index
 open-index m h = cond (log-right m h) (opened (h .capacity) (log-in m (h .payload) header-size)) broken
 
@@ -44,6 +47,7 @@ abbrev pub if-right : Layout → Header → List ℕ → Index
 if-right (refused n) h s = broken
 if-right (right nodes entries) h s = cond (eqb (h .nodes) nodes && (eqb (h .entries) entries && index-rule (trie-in s))) (finished (h .capacity) (trie-in s)) broken
 
+-- phase 1: the image decides
 abbrev pub finished-index : List ℕ → Header → Index
 finished-index m h = if-right (read-image (image-part m h)) h (image-part m h)
 

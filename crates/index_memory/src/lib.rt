@@ -1,5 +1,6 @@
 // The lent memory of an index: a header of eight numbers, the payload (a log of pieces, or an image), and room to work in.
 // Here are the header, the log of an open index, opening, and the recording of a block into an open index.
+use definitions::PIECE_SIZE;
 use location::SpacetimeLocation;
 use tally::Tally;
 ghost use mathlib.Core.Path.{_≡_};
@@ -10,17 +11,26 @@ ghost use lib.ListN.{length};
 ghost use lib.Dec.{eqb};
 ghost use lib.Seq.{sets};
 ghost use Rattle.definitions.specs.Blocks.{entry-charge, node-charge, pieces};
-ghost use Rattle.definitions.specs.Calls.{needed, out-of-range, memory-checks};
-ghost use Rattle.definitions.specs.Causes.{first-cause, refusal-of};
+ghost use Rattle.definitions.specs.Calls.{needed, out-of-range};
 ghost use Rattle.location.specs.Plain.{plain};
 ghost use Rattle.tally.specs.Tallied.{recorded, finished};
-ghost use Rattle.index_memory.specs.Layout.{header-at, header-bytes, payload-size, piece-sound, piece-bytes, log-bytes, log-in};
+ghost use Rattle.index_memory.specs.Layout.{header-at, payload-size, with-header};
+ghost use Rattle.index_memory.specs.Opening.{open-memory};
+ghost use Rattle.index_memory.specs.Answers.{header-of, heading-of, heading-at, Front, opened-as, tally-in, with-tally};
+ghost use Rattle.index_memory.specs.Log.{piece-sound, piece-bytes, log-bytes, log-in};
 ghost use Rattle.index_memory.specs.Index.{log-right, read-index, opened};
-ghost use Rattle.index_memory.specs.Record.{open-memory, record-memory};
 ghost use Rattle.index_memory.specs.Cut.{part, piece-count, block-nodes};
-ghost use Rattle.index_memory.specs.Answers.{header-of, heading-of, heading-at, Front, Fitting, opened-as, recorded-as, grown, tally-in, with-tally};
+ghost use Rattle.index_memory.specs.Record.{record-memory, judged, logged, grown, Fitting};
+ghost use Rattle.index_memory.specs.Recorded.{recorded-as};
 
+// What the header takes, and what a capacity needs for each node and each entry.
 pub const HEADER_SIZE: usize = 64;
+
+pub const NODE_SIZE: usize = 64;
+
+pub const ENTRY_SIZE: usize = 104;
+// What a piece takes in the log.
+pub const LOGGED_SIZE: usize = 48;
 
 // What stands in the header: the capacity, the phase (0 open, 1 finished), the tally, and the size of the payload:
 // pieces in a log, bytes in an image.
@@ -44,11 +54,6 @@ pub enum Opened {
     Refused(u64),
 }
 
-pub enum Recorded {
-    Taken,
-    Refused(u64),
-}
-
 // Whether a capacity may be n.
 fn is_capacity(n: u64) -> bool
     ensures { λ r. ⌜ r ≡ not (out-of-range n) ⌝ }
@@ -64,7 +69,7 @@ pub fn needed(nodes: usize, entries: usize) -> usize
     requires { ⌜ (nodes ≤ 1048576) × (entries ≤ 1048576) ⌝ }
     ensures { λ r. ⌜ r ≡ needed (record { nodes = nodes; entries = entries }) ⌝ }
 {
-    64 + 64 * nodes + 104 * entries
+    HEADER_SIZE + NODE_SIZE * nodes + ENTRY_SIZE * entries
 }
 
 // ── the header ──
@@ -77,7 +82,7 @@ fn payload_limit(phase: u64, nodes: usize, entries: usize) -> usize
     if phase == 0 {
         return entries;
     }
-    64 * nodes + 48 * entries
+    NODE_SIZE * nodes + LOGGED_SIZE * entries
 }
 
 // The header of a memory that holds this capacity, if all else is within it.
@@ -141,7 +146,7 @@ pub fn header_in(mem: &[u8]) -> Heading
 // Writes a header; its last two numbers are zero.
 pub fn put_header(mem: &mut [u8], h: Header)
     requires { ⌜ 64 ≤ length (now mem) ⌝ }
-    ensures { λ _. ⌜ now (mem .exit) ≡ sets (now (mem .entry)) 0 (header-bytes (header-of h)) ⌝ }
+    ensures { λ _. ⌜ now (mem .exit) ≡ with-header (now (mem .entry)) (header-of h) ⌝ }
 {
     words::put64(mem, 0, h.node_room as u64);
     words::put64(mem, 8, h.entry_room as u64);
@@ -179,7 +184,7 @@ fn with_tally(h: Header, t: Tally, payload: usize) -> Header
 }
 
 // The header after a block that charges these nodes and entries: its tally is lent to `record`, and callers see headers alone.
-fn charged(h: Header, nodes: usize, entries: usize, payload: usize) -> Header
+pub fn charged(h: Header, nodes: usize, entries: usize, payload: usize) -> Header
     requires { ⌜ (h .nodes + nodes < 2 ^ 64) × (h .entries + entries < 2 ^ 64) ⌝ }
     ensures { λ r. ⌜ r ≡ with-tally h (recorded (tally-in h) nodes entries) payload ⌝ }
 {
@@ -196,6 +201,8 @@ pub fn closed(h: Header, nodes: usize, entries: usize, payload: usize) -> Header
     tally::finish(&mut t, nodes, entries);
     with_tally(h, t, payload)
 }
+
+// ── opening ──
 
 // Opens an index of a capacity in the lent memory: only the header is written.
 pub fn open(mem: &mut [u8], nodes: u64, entries: u64) -> Opened
@@ -229,8 +236,11 @@ pub fn open(mem: &mut [u8], nodes: u64, entries: u64) -> Opened
 
 // ── the log ──
 
+// The largest address and the largest tick.
+pub const LAST_NUMBER: u64 = 18446744073709551615;
+
 // The nodes that a piece of m bytes charges.
-fn piece_nodes(m: usize) -> usize
+pub fn piece_nodes(m: usize) -> usize
     requires { ⌜ m ≤ 16 ⌝ }
     ensures { λ r. ⌜ r ≡ node-charge m ⌝ }
 {
@@ -238,7 +248,7 @@ fn piece_nodes(m: usize) -> usize
 }
 
 // The entries that a piece of m bytes charges, and a block.
-fn entry_charge(m: usize) -> usize
+pub fn entry_charge(m: usize) -> usize
     requires { ⌜ m ≤ 4096 ⌝ }
     ensures { λ r. ⌜ r ≡ entry-charge m ⌝ }
 {
@@ -253,8 +263,8 @@ fn piece_sound(mem: &[u8], at: usize) -> bool
     requires { ⌜ at + 48 ≤ length (now mem) ⌝ }
     ensures { λ r. ⌜ r ≡ piece-sound (now (mem .entry)) at ⌝ }
 {
-    let m = words::get64(mem, at);
-    if 16 < m {
+    let m = words::get64(mem, at) as usize;
+    if PIECE_SIZE < m {
         return false;
     }
     let created = words::get64(mem, at + 32);
@@ -263,7 +273,7 @@ fn piece_sound(mem: &[u8], at: usize) -> bool
         return false;
     }
     let address = words::get64(mem, at + 24);
-    address <= 18446744073709551615 - m
+    address <= LAST_NUMBER - m as u64
 }
 
 // Whether the log of an open index is right: each piece is sound, and the tally is the sum of the charges.
@@ -282,7 +292,7 @@ pub fn log_right(mem: &[u8], h: Header) -> bool
         let m = words::get64(mem, at) as usize;
         nodes += piece_nodes(m);
         entries += entry_charge(m);
-        at += 48;
+        at += LOGGED_SIZE;
         left -= 1;
     }
     if h.nodes != nodes {
@@ -291,14 +301,20 @@ pub fn log_right(mem: &[u8], h: Header) -> bool
     h.entries == entries
 }
 
-// ── recording ──
+// ── recording: a block is judged, its pieces are appended, the header is put ──
+
+// Whether a block is taken, or why not.
+pub enum Recorded {
+    Taken,
+    Refused(u64),
+}
 
 // The nodes that the pieces of a block of n bytes charge together.
 fn block_nodes(n: usize) -> usize
     requires { ⌜ n ≤ 4096 ⌝ }
     ensures { λ r. ⌜ r ≡ block-nodes n ⌝ }
 {
-    n / 16 * 136 + piece_nodes(n % 16)
+    n / PIECE_SIZE * 136 + piece_nodes(n % PIECE_SIZE)
 }
 
 // How many pieces a block of n bytes has.
@@ -309,13 +325,13 @@ fn piece_count(n: usize) -> usize
     if n == 0 {
         return 1;
     }
-    (n + 15) / 16
+    (n + PIECE_SIZE - 1) / PIECE_SIZE
 }
 
-// The number of the refusal of a Memory block of n bytes, 0 where it is taken.
-fn block_refusal(h: Header, n: usize, l: SpacetimeLocation) -> u64
+// The number of the refusal of a Memory block of n bytes behind the pieces that h counts, 0 where it is taken.
+pub fn judge(h: Header, n: usize, l: SpacetimeLocation) -> u64
     requires { ⌜ (h .nodes ≤ h .«node_room») × (h .entries ≤ h .«entry_room») ⌝ }
-    ensures { λ r. ⌜ r ≡ refusal-of (first-cause (memory-checks (header-of h .capacity) (h .nodes + block-nodes n) (h .entries + entry-charge n) n (plain l))) ⌝ }
+    ensures { λ r. ⌜ r ≡ judged (header-of h) n (plain l) ⌝ }
 {
     if definitions::DATA_LIMIT < n {
         return definitions::DATA_TOO_LONG;
@@ -323,7 +339,7 @@ fn block_refusal(h: Header, n: usize, l: SpacetimeLocation) -> u64
     if l.destroyed_at.0 <= l.created_at.0 {
         return definitions::NO_LIFE;
     }
-    if 18446744073709551615 - (n as u64) < l.address.0 {
+    if LAST_NUMBER - (n as u64) < l.address.0 {
         return definitions::ADDRESS_TOO_HIGH;
     }
     let nodes = block_nodes(n);
@@ -354,10 +370,10 @@ fn part_end(n: usize, start: usize) -> usize
     requires { ⌜ start ≤ n ⌝ }
     ensures { λ r. ⌜ r ≡ start + min 16 (n - start) ⌝ }
 {
-    if n - start < 16 {
+    if n - start < PIECE_SIZE {
         return n;
     }
-    start + 16
+    start + PIECE_SIZE
 }
 
 // Writes the piece of a block from byte start on.
@@ -379,7 +395,7 @@ fn put_pieces(mem: &mut [u8], from: usize, data: &[u8], l: SpacetimeLocation)
     let mut done = 0;
     while 0 < left {
         left -= 1;
-        put_part(mem, from + 48 * done, data, 16 * left, l);
+        put_part(mem, from + LOGGED_SIZE * done, data, PIECE_SIZE * left, l);
         done += 1;
     }
 }
@@ -394,14 +410,14 @@ fn grown(h: Header, n: usize) -> Header
     charged(h, nodes, entries, h.payload + piece_count(n))
 }
 
-// Appends the pieces of a block that fits to the log, and counts them in the header.
-fn append(mem: &mut [u8], h: Header, data: &[u8], l: SpacetimeLocation)
+// Appends the pieces of a block that fits to the log, and answers the header that counts them, which is not written here.
+pub fn append(mem: &mut [u8], h: Header, data: &[u8], l: SpacetimeLocation) -> Header
     requires { ⌜ Fitting (now mem) (header-of h) (record { bytes = now «data»; at = plain l }) ⌝ }
-    ensures { λ _. ⌜ now (mem .exit) ≡ sets (sets (now (mem .entry)) (64 + 48 * h .payload) (log-bytes (pieces (record { bytes = now («data» .entry); at = plain l })))) 0 (header-bytes (grown (header-of h) (length (now («data» .entry))))) ⌝ }
+    ensures header { λ r. ⌜ header-of r ≡ grown (header-of h) (length (now («data» .entry))) ⌝ }
+    ensures memory { λ _. ⌜ now (mem .exit) ≡ logged (now (mem .entry)) (header-of h) (pieces (record { bytes = now («data» .entry); at = plain l })) ⌝ }
 {
-    let counted = grown(h, data.len());
-    put_pieces(mem, HEADER_SIZE + 48 * h.payload, data, l);
-    put_header(mem, counted);
+    put_pieces(mem, HEADER_SIZE + LOGGED_SIZE * h.payload, data, l);
+    grown(h, data.len())
 }
 
 // Records a block into an open index: h is the header of its memory.
@@ -423,10 +439,11 @@ pub fn record_open(
     if kind != definitions::MEMORY_KIND as u64 {
         return Recorded::Taken;
     }
-    let refusal = block_refusal(h, data.len(), l);
+    let refusal = judge(h, data.len(), l);
     if refusal != 0 {
         return Recorded::Refused(refusal);
     }
-    append(mem, h, data, l);
+    let counted = append(mem, h, data, l);
+    put_header(mem, counted);
     Recorded::Taken
 }

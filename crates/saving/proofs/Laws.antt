@@ -22,13 +22,13 @@ use Rattle.image_format.proofs.Sizes.{image-size}
 use Rattle.image_format.proofs.Theorems.{read-image-is}
 use Rattle.index_rule.specs.Check.{check-image}
 use Rattle.index_rule.proofs.Theorems.{check-image-is}
-use Rattle.index_memory.specs.Layout.{Header}
+use Rattle.index_memory.specs.Layout.{Room, Header}
+use Rattle.index_memory.specs.Opening.{Done, unless-refused}
 use Rattle.index_memory.specs.Index.{Index, broken, opened, finished, image-part, read-index}
-use Rattle.index_memory.specs.Record.{Done, unless-refused}
 use Rattle.inspecting.specs.Held.{ImageIn}
 use Rattle.inspecting.proofs.Facts.{same-part}
 use Rattle.finished_memory.specs.Finished.{finished-header, finished-memory, closed, Closable}
-use Rattle.finished_memory.specs.Room.{capacity-of, Room}
+use Rattle.finished_memory.specs.Room.{capacity-of}
 use Rattle.finished_memory.proofs.Standing.{closed-is}
 use Rattle.finished_memory.proofs.Holds.{part-bytes, part-small}
 use Rattle.saving.specs.Saving.{Saving, save-by, save-memory, load-by, load-memory}

@@ -21,8 +21,8 @@ use Rattle.image_format.specs.Savable.{Savable}
 use Rattle.image_format.proofs.Theorems.{image-read}
 use Rattle.index_rule.specs.Check.{and-rule, check-image}
 use Rattle.index_rule.proofs.Theorems.{check-image-is, index-rule-is}
+use Rattle.index_memory.specs.Opening.{Done, unless-refused}
 use Rattle.index_memory.specs.Index.{Index, broken, opened, finished, standing-of, read-index}
-use Rattle.index_memory.specs.Record.{Done, unless-refused}
 use Rattle.index_memory.proofs.Opening.{refused-leaves}
 use Rattle.finished_memory.specs.Finished.{finished-memory}
 use Rattle.finished_memory.specs.Room.{capacity-of, Within}

@@ -10,8 +10,8 @@ use Rattle.image_format.specs.Image.{image}
 use Rattle.image_format.specs.Held.{trie-in}
 use Rattle.image_format.specs.Reading.{fault-of, nodes-in, entries-in}
 use Rattle.index_rule.specs.Check.{check-image}
+use Rattle.index_memory.specs.Opening.{Done, unless-refused}
 use Rattle.index_memory.specs.Index.{Index, broken, opened, finished, standing-of, read-index}
-use Rattle.index_memory.specs.Record.{Done, unless-refused}
 use Rattle.finished_memory.specs.Finished.{finished-memory}
 
 -- ── save ──

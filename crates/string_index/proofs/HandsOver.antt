@@ -46,8 +46,8 @@ use Rattle.rows.proofs.Again.{LentAgain, lends-again, comes-back, LentToRead, l
 use Rattle.rows.proofs.put_rows as p
 use Rattle.rows.proofs.put_rows.Symbol.{name as #rows·put-rows}
 use Rattle.searching.specs.declared.Finding.{Finding}
-use Rattle.searching.proofs.Finding as F
-use Rattle.searching.proofs.Finding.Laws as F′
+use Rattle.tail_records.proofs.Finding as F
+use Rattle.tail_records.proofs.Finding.Laws as F′
 use Rattle.string_index.specs.declared.Answer.{Answer}
 use Rattle.string_index.specs.Answers.{answer-as}
 use Rattle.string_index.proofs.Answer as E

@@ -5,16 +5,15 @@ use mathlib.Core.Bool.{cond}
 use mathlib.Core.List.{List}
 use mathlib.Core.Option.{Option, none, some}
 use lib.ListN.{length}
-use lib.Seq.{sets}
 use lib.Dec.{eqb}
 use Rattle.definitions.specs.Location.{Location}
 use Rattle.definitions.specs.Blocks.{Block, pieces, memory-kind}
 use Rattle.definitions.specs.Rows.{rows}
 use Rattle.definitions.specs.Causes.{Cause, first-cause}
 use Rattle.definitions.specs.Calls.{Capacity, open-checks, record-checks, finish-checks, search-checks}
-use Rattle.index_memory.specs.Layout.{header-bytes}
+use Rattle.index_memory.specs.Opening.{fresh-memory, open-memory}
 use Rattle.index_memory.specs.Index.{standing-of, read-index}
-use Rattle.index_memory.specs.Record.{fresh-header, open-memory, appended, record-memory}
+use Rattle.index_memory.specs.Record.{appended, record-memory}
 use Rattle.index_memory.proofs.Opening.{refused-leaves}
 use Rattle.saving.proofs.Theorems.{save-leaves, load-leaves}
 use Rattle.string_index.specs.Finish.{finished-by, finish-memory}
@@ -23,7 +22,7 @@ use Rattle.string_index.specs.Promises.{RefusedLeaves}
 
 open-leaves : (m : List ℕ) (c : Capacity) → (open-memory m c .refusal ≡ 0 → ⊥) → open-memory m c .memory ≡ m
 unfolding open-memory
-open-leaves m c = refused-leaves (first-cause (open-checks c (length m))) m (sets m 0 (header-bytes (fresh-header c)))
+open-leaves m c = refused-leaves (first-cause (open-checks c (length m))) m (fresh-memory m c)
 
 record-leaves : (m : List ℕ) (kind : ℕ) (b : Block) → (record-memory m kind b .refusal ≡ 0 → ⊥) → record-memory m kind b .memory ≡ m
 unfolding record-memory

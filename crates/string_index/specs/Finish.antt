@@ -5,8 +5,8 @@ use Rattle.definitions.specs.Causes.{first-cause}
 use Rattle.definitions.specs.Calls.{finish-checks}
 use Rattle.trie.specs.Build.{trie-of}
 use Rattle.finished_memory.specs.Finished.{finished-memory}
+use Rattle.index_memory.specs.Opening.{Done, unless-refused}
 use Rattle.index_memory.specs.Index.{Index, broken, opened, finished, standing-of, read-index}
-use Rattle.index_memory.specs.Record.{Done, unless-refused}
 
 -- ── finish: the log becomes an image ──
 

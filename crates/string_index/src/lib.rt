@@ -13,7 +13,7 @@ ghost use lib.ListN.{length};
 ghost use Rattle.definitions.specs.Causes.{ScratchAfter};
 ghost use Rattle.location.specs.Plain.{plain};
 ghost use Rattle.index_memory.specs.Record.{record-memory};
-ghost use Rattle.index_memory.specs.Answers.{recorded-as};
+ghost use Rattle.index_memory.specs.Recorded.{recorded-as};
 ghost use Rattle.rows.specs.Rows.{numbers-of};
 ghost use Rattle.saving.specs.Saving.{save-memory, load-memory};
 ghost use Rattle.saving.specs.Answers.{saved-as, loaded-as};

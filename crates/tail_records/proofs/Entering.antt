@@ -11,7 +11,7 @@ use Rattle.words.proofs.Parts.{getD-sets-out}
 use Rattle.definitions.specs.Blocks.{Piece}
 use Rattle.records.specs.Records.{recordBytes, recordsBytes}
 use Rattle.trie.specs.Build.{Entry, entered, entered-all}
-use Rattle.index_memory.specs.Layout.{piece-in, log-in}
+use Rattle.index_memory.specs.Log.{piece-in, log-in}
 use Rattle.tails.specs.Tails.{tail-record}
 use Rattle.tail_records.specs.Log.{SoundPiece, SoundLog, tail-from}
 use Rattle.tail_records.proofs.Write.{piece-length, bytes-from, write-one, write-many}

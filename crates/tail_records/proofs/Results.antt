@@ -17,7 +17,7 @@ use Rattle.records.specs.Records.{recordAt, records, recordsBytes, sorted}
 use Rattle.records.proofs.Bytes.{Bytes, length-records}
 use Rattle.records.proofs.Lists.{sorted-mem, length-sorted}
 use Rattle.trie.specs.Build.{Entry, parts, entered, entered-all}
-use Rattle.index_memory.specs.Layout.{piece-in, log-in}
+use Rattle.index_memory.specs.Log.{piece-in, log-in}
 use Rattle.tails.specs.Tails.{Tail, numbered, tail-record, tail-records}
 use Rattle.tail_records.specs.Tail.{tail-of-record, tails-of, tails-in, ValidTail, ValidRecord, Held}
 use Rattle.tail_records.specs.Log.{SoundPiece, SoundLog}

@@ -14,7 +14,7 @@ use Rattle.location.proofs.Bytes.{put-numbers}
 use Rattle.records.specs.Records.{recordBytes, recordsBytes}
 use Rattle.records.proofs.Bytes.{recordBytes-sets, recordsBytes-sets}
 use Rattle.trie.specs.Build.{Entry}
-use Rattle.index_memory.specs.Layout.{piece-in}
+use Rattle.index_memory.specs.Log.{piece-in}
 use Rattle.tails.specs.Tails.{high, mark-of, numbered, tail-record, tail-records}
 use Rattle.tail_records.specs.Log.{tail-from, numbers}
 use Rattle.tail_records.proofs.Part.{part-drop}

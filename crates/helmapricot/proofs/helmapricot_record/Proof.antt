@@ -3,8 +3,9 @@ use mathlib.Core.Path.{_∙_, ap}
 use borrow.Author.Needs.{needs}
 use denote.Ref.{now}
 use Rattle.definitions.specs.Location.{Location}
-use Rattle.index_memory.specs.Record.{Done, record-memory}
-use Rattle.index_memory.specs.Answers.{recorded-number}
+use Rattle.index_memory.specs.Opening.{Done}
+use Rattle.index_memory.specs.Record.{record-memory}
+use Rattle.index_memory.specs.Recorded.{recorded-number}
 use Rattle.helmapricot.proofs.Numbers.{recorded-back}
 use Rattle.helmapricot.proofs.helmapricot_record.Statement.{statement}
 use Rattle.helmapricot.proofs.helmapricot_record.Tie as tie

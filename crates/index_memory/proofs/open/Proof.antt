@@ -5,7 +5,8 @@ use borrow.Author.Tests.{not-true, not-false}
 use borrow.Author.Needs.{needs}
 use denote.Ref.{now}
 use Rattle.definitions.specs.Calls.{Capacity}
-use Rattle.index_memory.proofs.Opening.{Opens, open-refused, open-taken}
+use Rattle.index_memory.specs.Layout.{Room}
+use Rattle.index_memory.proofs.Opening.{open-refused, open-taken}
 use Rattle.index_memory.proofs.HeaderFacts.{in-range, not-in-range}
 use Rattle.index_memory.proofs.open.Statement.{statement}
 use Rattle.index_memory.proofs.open.Tie as tie
@@ -63,7 +64,7 @@ returns-4 c =
     let b = in-range (c₁₁ .args .entries) (sym (c₇ .is-capacity2 .ensures) ∙ not-false _ (c₆ .if2 .left)) in
     let m = now (c₁₁ .args .mem) in
     let cap : Capacity = record { nodes = c₁₁ .args .nodes; entries = c₁₁ .args .entries } in
-    let o : Opens m cap = record { some-nodes = a .0; few-nodes = a .1; some-entries = b .0; few-entries = b .1; held = omega (arith, c₅ .needed .ensures, c₄ .if3 .left) } in
+    let o : Room m cap = record { some-nodes = a .0; few-nodes = a .1; some-entries = b .0; few-entries = b .1; held = omega (arith, c₅ .needed .ensures, c₄ .if3 .left) } in
     let f = open-taken m cap o in
     (f .0, c₂ .put-header .ensures ∙ f .1)
 

@@ -3,8 +3,8 @@ use mathlib.Core.Path.{ap, subst}
 use borrow.Author.Needs.{needs}
 use denote.Ref.{now}
 use Rattle.location.specs.Plain.{plain}
-use Rattle.index_memory.specs.Record.{Done}
-use Rattle.index_memory.specs.Answers.{recorded-as}
+use Rattle.index_memory.specs.Opening.{Done}
+use Rattle.index_memory.specs.Recorded.{recorded-as}
 use Rattle.index_memory.proofs.Outcome.{record-as}
 use Rattle.inspecting.specs.Held.{Inspects}
 use Rattle.string_index.proofs.record.Statement.{statement}

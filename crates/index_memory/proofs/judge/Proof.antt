@@ -1,11 +1,11 @@
--- `index_memory::block_refusal` meets its contract: at each answer the tests that led there say which check decides. Assumes nothing.
+-- `index_memory::judge` meets its contract: at each answer the tests that led there say which check decides. Assumes nothing.
 use native.Mathlib.Omega.{arith}
 use borrow.Author.Needs.{needs}
 use Rattle.location.specs.Plain.{plain}
 use Rattle.index_memory.specs.Answers.{header-of}
 use Rattle.index_memory.proofs.Recording.{refused-4, refused-5, refused-6, refused-7, refused-8, not-refused}
-use Rattle.index_memory.proofs.block_refusal.Statement.{statement}
-use Rattle.index_memory.proofs.block_refusal.Tie as tie
+use Rattle.index_memory.proofs.judge.Statement.{statement}
+use Rattle.index_memory.proofs.judge.Tie as tie
 
 returns : tie.Need-returns
 returns c = refused-4 (header-of (c .before .args .h) .capacity) _ _ (c .before .args .n) (plain (c .before .args .l)) (c .if1 .taken)
@@ -69,8 +69,8 @@ returns-6 c =
     (omega (arith, c₁₁ .pre, c₅ .block-nodes .ensures))
     (omega (arith, c₁₁ .pre, c₄ .entry-charge .ensures))
 
-pub block-refusal-spec : {M : Type 1} → statement M
-block-refusal-spec =
+pub judge-spec : {M : Type 1} → statement M
+judge-spec =
     tie.close
     (tie.spec
     returns
