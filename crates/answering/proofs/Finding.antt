@@ -10,8 +10,8 @@ use lib.Dec.{eqb}
 use Rattle.definitions.specs.Location.{Location, locations-in}
 use Rattle.definitions.specs.Program.{find, Reply, refused, found}
 use Rattle.definitions.proofs.Views.{Eq, eq}
-use Rattle.searching.specs.declared.Finding.{Finding}
-use Rattle.searching.specs.Search.{finding-of}
+use Rattle.row_buffer.specs.declared.Finding.{Finding}
+use Rattle.row_buffer.specs.Answer.{finding-of}
 use Rattle.string_index.specs.Find.{find-memory}
 use Rattle.string_index.proofs.Finding.{Finds, found-fit}
 use Rattle.replies.specs.Written.{Written, reply-bytes}

@@ -6,10 +6,10 @@ pub use index_memory::Recorded;
 pub use index_memory::open;
 use inspecting::Held;
 use location::SpacetimeLocation;
+pub use row_buffer::Finding;
 pub use rows::Row;
 pub use saving::Loaded;
 pub use saving::Saved;
-pub use searching::Finding;
 ghost use mathlib.Core.Path.{_≡_};
 ghost use lib.ListN.{length};
 ghost use Rattle.definitions.specs.Causes.{ScratchAfter};
@@ -22,7 +22,7 @@ ghost use Rattle.inspecting.specs.Held.{ImageIn};
 ghost use Rattle.rows.specs.Rows.{numbers-of};
 ghost use Rattle.saving.specs.Saving.{save-memory, load-memory};
 ghost use Rattle.saving.specs.Answers.{saved-as, loaded-as};
-ghost use Rattle.searching.specs.Search.{finding-of, AtFront};
+ghost use Rattle.row_buffer.specs.Answer.{finding-of, AtFront};
 ghost use Rattle.string_index.specs.Find.{find-by, find-memory};
 ghost use Rattle.string_index.specs.Finish.{finish-memory, search-memory};
 ghost use Rattle.string_index.specs.Answers.{finished-as, answer-as};
@@ -74,7 +74,7 @@ fn find_finished(mem: &[u8], h: Header, q: &[u8], scratch: &mut [u8], room: usiz
     ensures scratch { λ _. ⌜ ScratchAfter (find-by (finished (header-of h .capacity) (trie-in (image-part (now (mem .entry)) (header-of h)))) (now (q .entry)) (length (now (scratch .entry))) room .refusal) (now (scratch .entry)) (now (scratch .exit)) ⌝ }
 {
     if definitions::QUERY_LIMIT < q.len() {
-        return searching::no_rows(definitions::QUERY_TOO_LONG);
+        return row_buffer::no_rows(definitions::QUERY_TOO_LONG);
     }
     searching::search_image(&mem[HEADER_SIZE..HEADER_SIZE + h.payload], q, scratch, room)
 }
@@ -86,8 +86,8 @@ pub fn find(mem: &[u8], q: &[u8], scratch: &mut [u8], room: usize) -> Finding
     ensures scratch { λ _. ⌜ ScratchAfter (find-memory (now (mem .entry)) (now (q .entry)) (length (now (scratch .entry))) room .refusal) (now (scratch .entry)) (now (scratch .exit)) ⌝ }
 {
     match inspecting::inspect(mem) {
-        Held::Broken => searching::no_rows(definitions::INDEX_RULE_BROKEN),
-        Held::Open(_) => searching::no_rows(definitions::BEFORE_FINISH),
+        Held::Broken => row_buffer::no_rows(definitions::INDEX_RULE_BROKEN),
+        Held::Open(_) => row_buffer::no_rows(definitions::BEFORE_FINISH),
         Held::Finished(h) => find_finished(mem, h, q, scratch, room),
     }
 }
