@@ -14,8 +14,8 @@ use Rattle.finished_memory.proofs.Holds.{part-bytes, part-small}
 use Rattle.inspecting.specs.Held.{RightImage as Tested, ImageIn}
 use Rattle.inspecting.proofs.Facts.{same-part}
 use Rattle.searching.specs.Search.{search-answer}
-use Rattle.searching.specs.declared.Finding.{Finding}
-use Rattle.searching.proofs.Answering.{Answers}
+use Rattle.row_buffer.specs.declared.Finding.{Finding}
+use Rattle.row_buffer.proofs.Answering.{Answers}
 use Rattle.finding.specs.Find.{Rows-found, find-by}
 use Rattle.finding.proofs.FindCall.{by-pieces, Finds, searched}
 

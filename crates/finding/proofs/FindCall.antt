@@ -16,9 +16,10 @@ use Rattle.definitions.specs.Calls.{Capacity}
 use Rattle.trie.specs.Trie.{Trie, trie-pieces}
 use Rattle.trie.specs.Rule.{Rule}
 use Rattle.index_memory.specs.Index.{Index, finished, read-index}
-use Rattle.searching.specs.Search.{refused, finding-of, AtFront, rows-answer, search-answer}
-use Rattle.searching.specs.declared.Finding.{Finding}
-use Rattle.searching.proofs.Answering.{Answers, none-answers}
+use Rattle.row_buffer.specs.Answer.{refused, finding-of, AtFront, rows-answer}
+use Rattle.searching.specs.Search.{search-answer}
+use Rattle.row_buffer.specs.declared.Finding.{Finding}
+use Rattle.row_buffer.proofs.Answering.{Answers, none-answers}
 use Rattle.searching.proofs.Equations.{answer-by-pieces}
 use Rattle.finding.specs.Find.{Rows-found, rows-or-refused, find-by, find-memory}
 

@@ -6,10 +6,10 @@ use Rattle.definitions.specs.Location.{Location}
 use Rattle.definitions.specs.Rows.{rows}
 use Rattle.definitions.specs.Causes.{Cause, number, first-cause}
 use Rattle.definitions.specs.Calls.{search-checks}
-use Rattle.searching.specs.Search.{refused}
+use Rattle.row_buffer.specs.Answer.{refused}
 use Rattle.index_memory.specs.Index.{Index, standing-of, read-index}
 -- a refusal's number (0 for none), and the rows
-pub use Rattle.searching.specs.Search.{Rows-found}
+pub use Rattle.row_buffer.specs.Answer.{Rows-found}
 
 abbrev pub rows-or-refused : Option Cause → List Location → Rows-found
 rows-or-refused none rs = record { refusal = 0; rows = rs }

@@ -2,7 +2,7 @@
 use index_memory::HEADER_SIZE;
 use index_memory::Header;
 use inspecting::Held;
-use searching::Finding;
+use row_buffer::Finding;
 ghost use mathlib.Core.Path.{_≡_};
 ghost use lib.ListN.{length};
 ghost use Rattle.definitions.specs.Causes.{ScratchAfter};
@@ -10,7 +10,7 @@ ghost use Rattle.image_format.specs.Held.{trie-in};
 ghost use Rattle.index_memory.specs.Index.{finished, image-part};
 ghost use Rattle.index_memory.specs.Answers.{header-of};
 ghost use Rattle.inspecting.specs.Held.{ImageIn};
-ghost use Rattle.searching.specs.Search.{finding-of, AtFront};
+ghost use Rattle.row_buffer.specs.Answer.{finding-of, AtFront};
 ghost use Rattle.finding.specs.Find.{find-by, find-memory};
 
 // Finds the rows of a query in a finished index, where so many rows have room: h is the header of its memory.
@@ -21,7 +21,7 @@ fn find_finished(mem: &[u8], h: Header, q: &[u8], scratch: &mut [u8], room: usiz
     ensures scratch { λ _. ⌜ ScratchAfter (find-by (finished (header-of h .capacity) (trie-in (image-part (now (mem .entry)) (header-of h)))) (now (q .entry)) (length (now (scratch .entry))) room .refusal) (now (scratch .entry)) (now (scratch .exit)) ⌝ }
 {
     if definitions::QUERY_LIMIT < q.len() {
-        return searching::no_rows(definitions::QUERY_TOO_LONG);
+        return row_buffer::no_rows(definitions::QUERY_TOO_LONG);
     }
     searching::search_image(&mem[HEADER_SIZE..HEADER_SIZE + h.payload], q, scratch, room)
 }
@@ -33,8 +33,8 @@ pub fn find(mem: &[u8], q: &[u8], scratch: &mut [u8], room: usize) -> Finding
     ensures scratch { λ _. ⌜ ScratchAfter (find-memory (now (mem .entry)) (now (q .entry)) (length (now (scratch .entry))) room .refusal) (now (scratch .entry)) (now (scratch .exit)) ⌝ }
 {
     match inspecting::inspect(mem) {
-        Held::Broken => searching::no_rows(definitions::INDEX_RULE_BROKEN),
-        Held::Open(_) => searching::no_rows(definitions::BEFORE_FINISH),
+        Held::Broken => row_buffer::no_rows(definitions::INDEX_RULE_BROKEN),
+        Held::Open(_) => row_buffer::no_rows(definitions::BEFORE_FINISH),
         Held::Finished(h) => find_finished(mem, h, q, scratch, room),
     }
 }

@@ -10,8 +10,8 @@ use lib.Dec.{eqb}
 use Rattle.definitions.specs.Location.{Location, locations-in}
 use Rattle.definitions.specs.Program.{find, Reply, refused, found}
 use Rattle.definitions.proofs.Views.{Eq, eq}
-use Rattle.searching.specs.declared.Finding.{Finding}
-use Rattle.searching.specs.Search.{finding-of}
+use Rattle.row_buffer.specs.declared.Finding.{Finding}
+use Rattle.row_buffer.specs.Answer.{finding-of}
 use Rattle.finding.specs.Find.{find-memory}
 use Rattle.string_index.proofs.Finding.{found-fit}
 use Rattle.finding.proofs.FindCall.{Finds}

@@ -15,10 +15,11 @@ use Rattle.image_format.proofs.Spots.{Spots}
 use Rattle.image_format.specs.Held.{Entry, lists-in, table-entries}
 use Rattle.definitions.specs.Location.{locations-in}
 use Rattle.image_format.specs.Savable.{AllFit, AllKept, InBytes, Short}
-use Rattle.image_walk.specs.Parts.{prefix-list, chunk-list, suffix-list}
-use Rattle.image_walk.specs.Tables.{child-at, node-for, walk-from, walk-in}
+use Rattle.image_walk.specs.Parts.{prefix-list, chunk-list, suffix-list, table-at, children-at}
+use Rattle.image_walk.specs.Tables.{slots-from, child-at, node-for, walk-from, walk-in}
 use Rattle.image_walk.specs.Bounds.{Bounds}
 use Rattle.image_walk.specs.Here.{NodeHere, Matches, Found, FoundAt}
+use Rattle.image_walk.proofs.Entries.{slots-here}
 use Rattle.image_walk.proofs.Facts.{facts}
 use Rattle.image_walk.proofs.Walk.{walk-none}
 
@@ -84,6 +85,10 @@ here-leaf {s} {at} {n} h =
     let e = no-level (n .children) (h .short) in
     (e, no-spots s (table-entries s at) (subst (Spots s (table-entries s at)) e (facts s 0 at n h .spots)))
 
+-- going over the numbers of a node's table, the empty ones left out, gives its entries
+pub here-slots : {s : List ℕ} {d at : ℕ} {n : Node} → NodeHere s d at n → slots-from s (table-at s at) (children-at s at) (children-at s at) 0 ≡ table-entries s at
+here-slots {s} {d} {at} h = slots-here s at (here-bounds h)
+
 -- ── the child for a byte ──
 
 matches-child : (s : List ℕ) (d : ℕ) (es : List Entry) (f : Forest) (b : ℕ) → Matches s d es f → Found s d (node-for es b) (child f b)
@@ -139,21 +144,6 @@ here-walk {s} (suc d) at n h (b ∷ path) =
     go : (o : Option ℕ) (p : Option Node) → Found s d o p → ((q : ℕ) (m : Node) → NodeHere s d q m → Found s (d - length path) (walk-in s path q) (node-at m path)) →
         Found s (d - length path) (walk-from s path o) (walk path p)
     go none none f ih = rw (walk-none s path, trie.walk-none path) tt
-    go none (some m) f ih = absurd f
-    go (some q) none f ih = absurd f
-    go (some q) (some m) f ih = ih q m f
-
--- a path longer than the levels below a node leads nowhere
-pub here-deep : {s : List ℕ} (d at : ℕ) (n : Node) → NodeHere s d at n → (path : List ℕ) → d < length path → (walk-in s path at ≡ none) × (node-at n path ≡ none)
-here-deep {s} d at n h [] l = absurd (omega arith)
-here-deep {s} zero at n h (b ∷ path) l =
-    let e = no-child h b in
-    (rw (e .0) (walk-none s path), rw (e .1) (trie.walk-none path))
-here-deep {s} (suc d) at n h (b ∷ path) l = go (child-at s at b) (child (n .children) b) (here-child h b) (λ q m k. here-deep d q m k path (omega arith))
-  where
-    go : (o : Option ℕ) (p : Option Node) → Found s d o p → ((q : ℕ) (m : Node) → NodeHere s d q m → (walk-in s path q ≡ none) × (node-at m path ≡ none)) →
-        (walk-from s path o ≡ none) × (walk path p ≡ none)
-    go none none f ih = (walk-none s path, trie.walk-none path)
     go none (some m) f ih = absurd f
     go (some q) none f ih = absurd f
     go (some q) (some m) f ih = ih q m f

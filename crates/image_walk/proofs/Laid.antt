@@ -4,12 +4,11 @@ use native.Mathlib.Omega.{arith}
 use mathlib.Core.Path.{_≡_, sym, _∙_}
 use mathlib.Core.List.{List}
 use mathlib.Core.Option.{Option, none, some}
-use lib.ListN.{length}
-use Rattle.trie.specs.Trie.{Node, child, node-at}
-use Rattle.image_walk.specs.Tables.{child-at, walk-in}
+use Rattle.trie.specs.Trie.{Node, child}
+use Rattle.image_walk.specs.Tables.{child-at}
 use Rattle.image_walk.specs.Bounds.{Bounds}
 use Rattle.image_walk.specs.Here.{NodeHere, Laid, FoundAt}
-use Rattle.image_walk.proofs.Here.{here-bounds, here-child, here-walk, no-child, found-some}
+use Rattle.image_walk.proofs.Here.{here-bounds, here-child, no-child, found-some}
 
 pub laid-bounds : (s : List ℕ) (at : ℕ) → Laid s at → Bounds s at
 laid-bounds s at h = here-bounds (h .here)
@@ -30,9 +29,3 @@ laid-child s at b p h e = go (h .depth) (h .here)
     go : (d : ℕ) → NodeHere s d at n → Laid s p
     go zero k = absurd (clash (sym (no-child k b .0) ∙ e))
     go (suc d) k = laid-found s d p (child (n .children) b) (found-some s d (child-at s at b) (child (n .children) b) p (here-child k b) e)
-
--- and so is what a walk finds
-pub laid-walk : (s path : List ℕ) (at p : ℕ) → Laid s at → walk-in s path at ≡ some p → Laid s p
-laid-walk s path at p h e =
-    laid-found s (h .depth - length path) p (node-at (h .node) path)
-    (found-some s (h .depth - length path) (walk-in s path at) (node-at (h .node) path) p (here-walk (h .depth) at (h .node) (h .here) path) e)

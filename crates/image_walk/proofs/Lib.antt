@@ -5,8 +5,6 @@ pub mod Walk
 pub mod Facts
 pub mod Here
 pub mod Laid
-pub mod Slots
-pub mod ListParts
 pub mod Root
 -- for the code
 pub mod Parts

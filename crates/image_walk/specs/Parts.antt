@@ -1,14 +1,12 @@
 -- The node at an index of an image: where its three lists and its table stand, and how many they hold. Assumes nothing.
-use Prim.Native.Nat.{ℕ, _+_, _*_}
+use Prim.Native.Nat.{ℕ, _+_}
 use mathlib.Core.Bool.{cond}
 use mathlib.Core.List.{List}
-use lib.ListN.{getD, take, drop}
+use lib.ListN.{getD}
 use lib.Dec.{eqb}
 use Rattle.words.specs.Words.{le64}
 use Rattle.image_format.specs.Held.{list-end}
 use Rattle.image_walk.specs.declared.Node.{Node}
-
--- ── where the parts stand ──
 
 -- the count of `prefixes`; the first location of a list is 8 bytes behind its count
 abbrev pub prefix-list : ℕ → ℕ
@@ -46,21 +44,3 @@ parts-at s at = record {
   table = table-at s at;
   children = children-at s at;
 }
-
--- ── lists as parts of the image ──
-
--- n locations from an index on, 24 bytes each
-abbrev pub part-in : List ℕ → ℕ → ℕ → List ℕ
-part-in s start n = take (24 * n) (drop start s)
-
--- the locations of `prefixes`
-abbrev pub prefixes-in : List ℕ → ℕ → List ℕ
-prefixes-in s at = part-in s (prefix-list at + 8) (le64 s (prefix-list at))
-
--- the locations of `chunks`
-abbrev pub chunks-in : List ℕ → ℕ → List ℕ
-chunks-in s at = part-in s (chunk-list s at + 8) (le64 s (chunk-list s at))
-
--- the locations of `suffixes`
-abbrev pub suffixes-in : List ℕ → ℕ → List ℕ
-suffixes-in s at = part-in s (suffix-list s at + 8) (le64 s (suffix-list s at))

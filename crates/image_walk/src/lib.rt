@@ -6,7 +6,7 @@ ghost use lib.ListN.{length, getD};
 ghost use lib.Dec.{eqb};
 ghost use Rattle.words.specs.Words.{le64};
 ghost use Rattle.image_format.specs.Held.{sparse-entries};
-ghost use Rattle.image_walk.specs.Parts.{table-at, children-at, parts-at, part-in, prefixes-in, chunks-in, suffixes-in};
+ghost use Rattle.image_walk.specs.Parts.{parts-at};
 ghost use Rattle.image_walk.specs.Tables.{dense-slot, slot-in, entries-at, node-for, child-at, walk-in};
 ghost use Rattle.image_walk.specs.Bounds.{TableHere};
 ghost use Rattle.image_walk.specs.Here.{Laid};
@@ -116,15 +116,6 @@ pub fn slot_in(s: &[u8], table: usize, children: usize, j: usize) -> Slot
     }
 }
 
-// Entry j of the table of the node at index at.
-pub fn slot_at(s: &[u8], at: usize, j: usize) -> Slot
-    requires { ⌜ Laid (now s) at × (j < children-at (now s) at) ⌝ }
-    ensures { λ r. ⌜ entry-of-answer r ≡ slot-in (now (s .entry)) (table-at (now (s .entry)) at) (children-at (now (s .entry)) at) j ⌝ }
-{
-    let n = node_at(s, at);
-    slot_in(s, n.table, n.children, j)
-}
-
 // The child for a byte among the n entries of a table of byte and offset.
 fn sparse_child(s: &[u8], table: usize, n: usize, byte: u8) -> Child
     requires { ⌜ (table + n * 9 ≤ length (now s)) × ((j : ℕ) → j < n → le64 (now s) (table + j * 9 + 1) < length (now s)) ⌝ }
@@ -180,39 +171,4 @@ pub fn search_raw_str(s: &[u8], string: &[u8]) -> Child
         i += 1;
     }
     Child::At(at)
-}
-
-// So many locations from index start on, 24 bytes each, as the part of the image that they are.
-fn part<'a>(s: &'a [u8], start: usize, count: usize) -> &'a [u8]
-    requires { ⌜ start + 24 * count ≤ length (now s) ⌝ }
-    ensures { λ r. ⌜ now r ≡ part-in (now (s .entry)) start count ⌝ }
-{
-    &s[start..start + 24 * count]
-}
-
-// The prefixes of the node at index at, in place.
-pub fn prefixes<'a>(s: &'a [u8], at: usize) -> &'a [u8]
-    requires { ⌜ Laid (now s) at ⌝ }
-    ensures { λ r. ⌜ now r ≡ prefixes-in (now (s .entry)) at ⌝ }
-{
-    let n = node_at(s, at);
-    part(s, n.prefixes, n.prefix_count)
-}
-
-// The chunks of the node at index at, in place.
-pub fn chunks<'a>(s: &'a [u8], at: usize) -> &'a [u8]
-    requires { ⌜ Laid (now s) at ⌝ }
-    ensures { λ r. ⌜ now r ≡ chunks-in (now (s .entry)) at ⌝ }
-{
-    let n = node_at(s, at);
-    part(s, n.chunks, n.chunk_count)
-}
-
-// The suffixes of the node at index at, in place.
-pub fn suffixes<'a>(s: &'a [u8], at: usize) -> &'a [u8]
-    requires { ⌜ Laid (now s) at ⌝ }
-    ensures { λ r. ⌜ now r ≡ suffixes-in (now (s .entry)) at ⌝ }
-{
-    let n = node_at(s, at);
-    part(s, n.suffixes, n.suffix_count)
 }

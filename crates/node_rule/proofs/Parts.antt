@@ -18,8 +18,7 @@ use Rattle.image_walk.specs.Parts.{behind-lists, table-at, children-at, parts-a
 use Rattle.image_walk.specs.Tables.{slot-in, slots-from}
 use Rattle.image_walk.specs.Bounds.{Bounds}
 use Rattle.image_walk.specs.Here.{NodeHere, Matches}
-use Rattle.image_walk.proofs.Here.{here-bounds, here-chunks, here-entries, here-leaf, here-prefixes, here-suffixes}
-use Rattle.image_walk.proofs.Slots.{here-slots}
+use Rattle.image_walk.proofs.Here.{here-bounds, here-chunks, here-entries, here-leaf, here-prefixes, here-slots, here-suffixes}
 use Rattle.node_rule.specs.Parts.{TableOf, PartsOf}
 
 -- a table has 256 entries, or at most 96

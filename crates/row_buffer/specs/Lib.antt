@@ -1,2 +1,3 @@
--- `Numbers` has what the contracts cite. Assumes nothing.
+-- `Numbers` has the places of a row, `Answer` what a search answers by its rows. Assumes nothing.
 pub mod Numbers
+pub mod Answer

@@ -1,12 +1,19 @@
 // Rows: places with lives that touch, joined.
 use location::SpacetimeLocation;
 ghost use mathlib.Core.Path.{_≡_};
-ghost use Prim.Native.Nat.{_+_, _*_, _≤_, _<_};
+ghost use Prim.Native.Nat.{_+_, _-_, _*_, _≤_, _<_};
 ghost use lib.ListN.{length};
 ghost use lib.Seq.{sets};
 ghost use Rattle.definitions.specs.Location.{location-at, location-bytes, locations-in, locations-bytes};
 ghost use Rattle.definitions.specs.Rows.{goes-on, combine-split-times};
 ghost use Rattle.row_buffer.specs.Numbers.{row-size, row-at, ended};
+ghost use Rattle.row_buffer.specs.Answer.{refused, finding-of, AtFront, rows-answer};
+
+// What a search finds: the number of a refusal (0 for none), and how many rows stand at the front of scratch.
+pub struct Finding {
+    pub refusal: u64,
+    pub count: usize,
+}
 
 // Whether the place at byte p goes on from a row with an address and an end.
 fn goes_on(scratch: &[u8], p: usize, address: u64, end: u64) -> bool
@@ -71,4 +78,31 @@ pub fn combine_split_times(scratch: &mut [u8], at: usize, n: usize) -> usize
         count += 1;
     }
     count
+}
+
+// No rows, because of a refusal or, where its number is 0, because there are none.
+pub fn no_rows(refusal: u64) -> Finding
+    ensures { λ r. ⌜ r ≡ finding-of (refused refusal) ⌝ }
+{
+    Finding { refusal, count: 0 }
+}
+
+// So many rows.
+fn some_rows(count: usize) -> Finding
+    ensures { λ r. ⌜ r ≡ record { refusal = 0; count = count } ⌝ }
+{
+    Finding { refusal: 0, count }
+}
+
+// The rows of the places number from to to - 1, at the front of scratch, where so many have room.
+pub fn hand_over(scratch: &mut [u8], from: usize, to: usize, room: usize) -> Finding
+    requires { ⌜ (from ≤ to) × (to * 24 ≤ length (now scratch)) ⌝ }
+    ensures found { λ r. ⌜ r ≡ finding-of (rows-answer (combine-split-times (locations-in (now (scratch .entry)) (to - from) (from * 24))) room) ⌝ }
+    ensures rows { λ _. ⌜ AtFront (rows-answer (combine-split-times (locations-in (now (scratch .entry)) (to - from) (from * 24))) room .rows) (now (scratch .exit)) ⌝ }
+{
+    let count = combine_split_times(scratch, from * 24, to - from);
+    if room < count {
+        return no_rows(definitions::TOO_MANY_ROWS);
+    }
+    some_rows(count)
 }

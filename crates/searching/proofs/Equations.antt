@@ -10,9 +10,9 @@ use Rattle.definitions.specs.Rows.{combine-split-times, rows}
 use Rattle.definitions.specs.Causes.{number, scratch-too-small}
 use Rattle.trie.specs.Trie.{Trie, trie-pieces}
 use Rattle.trie.specs.Rule.{Rule}
-use Rattle.trie.specs.Find.{table-found}
 use Rattle.trie.proofs.Find.{table-found-is}
-use Rattle.searching.specs.Search.{refused, rows-answer, search-answer}
+use Rattle.row_buffer.specs.Answer.{refused, rows-answer}
+use Rattle.searching.specs.Search.{search-answer}
 use Rattle.searching.specs.Promises.{RowsFoundAre, PlacesFoundCounted}
 
 first-places : (ps : List Piece) (q : List ℕ) → first-of (table ps q) ≡ places ps q

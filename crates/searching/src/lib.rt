@@ -2,6 +2,7 @@
 use image_walk::Child;
 use image_walk::Node;
 use place_buffer::Places;
+use row_buffer::Finding;
 ghost use mathlib.Core.Path.{_≡_};
 ghost use mathlib.Core.Bool.{true};
 ghost use Prim.Native.Nat.{_+_, _-_, _*_, _/_, _≤_, _<_};
@@ -9,29 +10,16 @@ ghost use lib.ListN.{length, getD, drop};
 ghost use lib.Dec.{eqb};
 ghost use Rattle.definitions.specs.Location.{Sorted, locations-in, Less};
 ghost use Rattle.definitions.specs.Places.{first-of};
-ghost use Rattle.definitions.specs.Rows.{combine-split-times};
 ghost use Rattle.trie.specs.Rule.{Rule};
 ghost use Rattle.trie.specs.Find.{joins-each, ends-found};
 ghost use Rattle.image_format.specs.Held.{trie-in};
 ghost use Rattle.collecting.specs.Collected.{Standing};
 ghost use Rattle.place_buffer.specs.Buffer.{Valid, Taken};
+ghost use Rattle.row_buffer.specs.Answer.{finding-of, AtFront};
 ghost use Rattle.image_format.specs.Reading.{RightImage};
 ghost use Rattle.searching.specs.Found.{rooted, last-of, ended-lists, ending-lists, along-from};
 ghost use Rattle.searching.specs.Layout.{Sound, lists-of, Listed, EndsNothing, Ending, Reached, starting, LaidOut, EndFound, AllFound, Tabled, TableFound};
-ghost use Rattle.searching.specs.Search.{refused, finding-of, AtFront, rows-answer, search-answer};
-
-// What is found: the number of a refusal (0 for none), and how many rows stand at the front of scratch.
-pub struct Finding {
-    pub refusal: u64,
-    pub count: usize,
-}
-
-// No rows, because of a refusal or, where its number is 0, because there are none.
-pub fn no_rows(refusal: u64) -> Finding
-    ensures { λ r. ⌜ r ≡ finding-of (refused refusal) ⌝ }
-{
-    Finding { refusal, count: 0 }
-}
+ghost use Rattle.searching.specs.Search.{search-answer};
 
 // Joins what ends at the node n, k bytes long, with the places number from to to - 1, which stand before the set.
 fn join_node(
@@ -307,19 +295,6 @@ fn find_all(img: &[u8], q: &[u8], ends: &mut [usize], scratch: &mut [u8]) -> boo
     find_exactly(img, q, last, ends, scratch)
 }
 
-// The rows of the places number from to to - 1, at the front of scratch.
-fn hand_over(scratch: &mut [u8], from: usize, to: usize, room: usize) -> Finding
-    requires { ⌜ (from ≤ to) × (to * 24 ≤ length (now scratch)) ⌝ }
-    ensures found { λ r. ⌜ r ≡ finding-of (rows-answer (combine-split-times (locations-in (now (scratch .entry)) (to - from) (from * 24))) room) ⌝ }
-    ensures rows { λ _. ⌜ AtFront (rows-answer (combine-split-times (locations-in (now (scratch .entry)) (to - from) (from * 24))) room .rows) (now (scratch .exit)) ⌝ }
-{
-    let count = row_buffer::combine_split_times(scratch, from * 24, to - from);
-    if room < count {
-        return no_rows(definitions::TOO_MANY_ROWS);
-    }
-    Finding { refusal: 0, count }
-}
-
 // The rows of a query of at most 256 bytes in a sound image, where so many rows have room.
 // An empty query has none, nor has an empty index.
 pub fn search_image(img: &[u8], q: &[u8], scratch: &mut [u8], room: usize) -> Finding
@@ -328,14 +303,14 @@ pub fn search_image(img: &[u8], q: &[u8], scratch: &mut [u8], room: usize) -> Fi
     ensures rows { λ _. ⌜ AtFront (search-answer (trie-in (now (img .entry))) (now (q .entry)) (length (now (scratch .entry))) room .rows) (now (scratch .exit)) ⌝ }
 {
     if q.len() == 0 {
-        return no_rows(0);
+        return row_buffer::no_rows(0);
     }
     if img[0] == 0 {
-        return no_rows(0);
+        return row_buffer::no_rows(0);
     }
     let mut ends = [0usize; 257];
     if find_all(img, q, &mut ends, scratch) {
-        return no_rows(definitions::SCRATCH_TOO_SMALL);
+        return row_buffer::no_rows(definitions::SCRATCH_TOO_SMALL);
     }
-    hand_over(scratch, ends[1], ends[0], room)
+    row_buffer::hand_over(scratch, ends[1], ends[0], room)
 }

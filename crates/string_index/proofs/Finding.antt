@@ -15,7 +15,7 @@ use Rattle.definitions.specs.Calls.{Standing, search-checks}
 use Rattle.definitions.proofs.Checks.{none-applies}
 use Rattle.row_buffer.specs.Numbers.{row-numbers}
 use Rattle.index_memory.specs.Index.{standing-of, read-index}
-use Rattle.searching.specs.Search.{refused}
+use Rattle.row_buffer.specs.Answer.{refused}
 use Rattle.finding.specs.Find.{Rows-found, rows-or-refused, find-memory}
 use Rattle.string_index.specs.Search.{Found, found-or-refused, search-memory}
 

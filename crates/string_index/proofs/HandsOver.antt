@@ -45,9 +45,9 @@ use Rattle.rows.proofs.Row as T
 use Rattle.rows.proofs.Again.{LentAgain, lends-again, comes-back, LentToRead, lends-to-read, read-back}
 use Rattle.rows.proofs.put_rows as p
 use Rattle.rows.proofs.put_rows.Symbol.{name as #rows·put-rows}
-use Rattle.searching.specs.declared.Finding.{Finding}
-use Rattle.tail_records.proofs.Finding as F
-use Rattle.tail_records.proofs.Finding.Laws as F′
+use Rattle.row_buffer.specs.declared.Finding.{Finding}
+use Rattle.row_buffer.proofs.Finding as F
+use Rattle.row_buffer.proofs.Finding.Laws as F′
 use Rattle.string_index.specs.declared.Answer.{Answer}
 use Rattle.string_index.specs.Answers.{answer-as}
 use Rattle.string_index.proofs.Answer as E

@@ -11,7 +11,7 @@ use Rattle.row_buffer.specs.Numbers.{row-numbers}
 use Rattle.rows.specs.declared.Row.{Row}
 use Rattle.rows.specs.Rows.{rows-of, numbers-of}
 use Rattle.rows.proofs.Numbers.{length-numbers, numbers-put}
-use Rattle.searching.specs.declared.Finding.{Finding}
+use Rattle.row_buffer.specs.declared.Finding.{Finding}
 use Rattle.finding.specs.Find.{find-memory}
 use Rattle.string_index.specs.Search.{Found, search-memory}
 use Rattle.string_index.specs.Answers.{answer-as}

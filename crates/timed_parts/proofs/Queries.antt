@@ -20,8 +20,9 @@ use Rattle.image_format.specs.Reading as R
 use Rattle.image_format.specs.Savable.{AllBytes}
 use Rattle.index_rule.specs.Check.{check-image}
 use Rattle.index_rule.proofs.Theorems.{check-image-is}
-use Rattle.searching.specs.declared.Finding.{Finding}
-use Rattle.searching.specs.Search.{Rows-found, finding-of, rows-answer, search-answer, refused}
+use Rattle.row_buffer.specs.declared.Finding.{Finding}
+use Rattle.row_buffer.specs.Answer.{Rows-found, finding-of, rows-answer, refused}
+use Rattle.searching.specs.Search.{search-answer}
 use Rattle.timed_parts.specs.Parts.{query-size, last-query, last-of, query-search, found-in, counted, counted-in, ScratchIn}
 
 -- the part that the code cuts out is the last query

@@ -11,7 +11,8 @@ use Rattle.trie.specs.Trie.{Trie}
 use Rattle.image_format.specs.Held.{trie-in}
 use Rattle.image_format.specs.Reading.{Layout, right, refused}
 use Rattle.index_rule.specs.Check.{check-image}
-use Rattle.searching.specs.Search as S
+use Rattle.row_buffer.specs.Answer as S
+use Rattle.searching.specs.Search.{search-answer}
 
 -- the number of a refusal, 0 where there is none
 abbrev pub refusal-of : Layout → ℕ
@@ -31,7 +32,7 @@ last-of qs size = last-query qs (query-size qs size)
 
 -- what the search of an index finds: a query that is too long is refused first
 abbrev pub query-search : Trie → List ℕ → ℕ → ℕ → S.Rows-found
-query-search t q scratch room = cond (ltb query-limit (length q)) (S.refused (number query-too-long)) (S.search-answer t q scratch room)
+query-search t q scratch room = cond (ltb query-limit (length q)) (S.refused (number query-too-long)) (search-answer t q scratch room)
 
 -- the image's own refusal comes before that
 abbrev pub found-in : Layout → List ℕ → List ℕ → ℕ → ℕ → S.Rows-found

@@ -1,6 +1,6 @@
 // Parts of the calls that the benchmark times by themselves: the layout, the test of an image, the search behind one test.
 use fields::Layout;
-use searching::Finding;
+use row_buffer::Finding;
 ghost use mathlib.Core.Path.{_≡_};
 ghost use Prim.Native.Nat.{_≤_, min};
 ghost use lib.ListN.{length};
@@ -10,7 +10,8 @@ ghost use Rattle.image_format.specs.Held.{trie-in};
 ghost use Rattle.image_format.specs.Reading.{read-image, RightImage};
 ghost use Rattle.index_rule.specs.Check.{check-image};
 ghost use Rattle.definitions.specs.Causes.{ScratchAfter};
-ghost use Rattle.searching.specs.Search.{finding-of, search-answer};
+ghost use Rattle.row_buffer.specs.Answer.{finding-of};
+ghost use Rattle.searching.specs.Search.{search-answer};
 ghost use Rattle.timed_parts.specs.Parts.{refusal-of, query-size, last-query, last-of, query-search, counted, image-search, image-counted, ScratchIn};
 
 fn number(l: Layout) -> u64

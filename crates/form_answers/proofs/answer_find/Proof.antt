@@ -4,7 +4,7 @@ use native.Mathlib.Omega.{arith}
 use lib.ListN.{length-replicate}
 use Rattle.form_answers.proofs.Finding.{found-fits, found-none, found-rows}
 use borrow.Author.Needs.{needs}
-use Rattle.searching.proofs.Answering.{rows-within}
+use Rattle.row_buffer.proofs.Answering.{rows-within}
 use Rattle.form_answers.proofs.answer_find.Statement.{statement}
 use Rattle.form_answers.proofs.answer_find.Tie as tie
 

@@ -2,7 +2,7 @@
 use lib.ListN.{length}
 use mathlib.Core.Path.{_≡_}
 use Rattle.definitions.specs.Causes.{ScratchAfter}
-use Rattle.searching.specs.Search.{finding-of, AtFront}
+use Rattle.row_buffer.specs.Answer.{finding-of, AtFront}
 use Rattle.finding.specs.Find.{find-memory}
 use Rattle.finding.proofs.FindCall.{Finds}
 use Rattle.string_index.proofs.Searched.{able, answered, left, scratch-left}

@@ -1,6 +1,6 @@
 -- `test_recordings::find` is safe and ends. Assumes nothing.
 use borrow.Author.Needs.{needs}
-use Rattle.searching.proofs.Answering.{rows-within}
+use Rattle.row_buffer.proofs.Answering.{rows-within}
 use Rattle.test_recordings.proofs.find.Statement.{statement}
 use Rattle.test_recordings.proofs.find.Tie as tie
 
