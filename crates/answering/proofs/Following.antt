@@ -22,8 +22,8 @@ use Rattle.trie.specs.Trie.{trie-pieces}
 use Rattle.trie.specs.Build.{trie-of}
 use Rattle.index_memory.specs.Index.{Index, opened, standing-of, read-index}
 use Rattle.index_memory.specs.Index as I
-use Rattle.index_memory.specs.Opening.{open-memory, unless-refused}
-use Rattle.index_memory.specs.Record.{appended, record-by, record-memory}
+use Rattle.memory_header.specs.Opening.{open-memory, unless-refused}
+use Rattle.recording.specs.Record.{appended, record-by, record-memory}
 use Rattle.finding.specs.Find.{Rows-found, rows-or-refused, find-by, find-memory}
 use Rattle.string_index.specs.Finish.{finish-by, finish-memory}
 use Rattle.demand.specs.Demand.{Fits}

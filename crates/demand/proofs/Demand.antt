@@ -26,9 +26,9 @@ use Rattle.trie.specs.Trie.{Trie, trie-pieces}
 use Rattle.trie.specs.Build.{trie-of}
 use Rattle.trie.proofs.BuildRule.{SoundPiece}
 use Rattle.trie.proofs.BuildPieces.{trie-of-pieces}
-use Rattle.index_memory.specs.Opening.{open-memory}
+use Rattle.memory_header.specs.Opening.{open-memory}
 use Rattle.index_memory.specs.Index.{Index, opened, finished, standing-of, read-index}
-use Rattle.index_memory.specs.Record.{appended}
+use Rattle.recording.specs.Record.{appended}
 use Rattle.row_buffer.specs.Numbers.{row-numbers}
 use Rattle.finished_memory.specs.Finished.{finished-memory}
 use Rattle.string_index.specs.Search.{Found, found-or-refused, search-by, search-memory}

@@ -15,9 +15,9 @@ use Rattle.definitions.specs.Recording.{Call, record-block, finish, search, aft
 use Rattle.definitions.proofs.Cutting.{pieces-added}
 use Rattle.definitions.proofs.Taken.{Right, right-after}
 use Rattle.trie.specs.Build.{trie-of}
-use Rattle.index_memory.specs.Opening.{unless-refused}
+use Rattle.memory_header.specs.Opening.{unless-refused}
 use Rattle.index_memory.specs.Index.{Index, opened, finished, read-index}
-use Rattle.index_memory.specs.Record.{appended, record-by, record-memory}
+use Rattle.recording.specs.Record.{appended, record-by, record-memory}
 use Rattle.finished_memory.specs.Finished.{finished-memory}
 use Rattle.string_index.specs.Finish.{finish-by, finish-memory}
 use Rattle.demand.specs.Demand.{memory-after, memory-after-all, Fits, CallFits}

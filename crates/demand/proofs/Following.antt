@@ -10,9 +10,9 @@ use Rattle.trie.specs.Build.{trie-of}
 use Rattle.trie.specs.Trie.{trie-pieces}
 use Rattle.trie.proofs.BuildPieces.{trie-of-pieces}
 use Rattle.definitions.proofs.Chains.{SamePieces}
-use Rattle.index_memory.specs.Opening.{open-memory}
+use Rattle.memory_header.specs.Opening.{open-memory}
 use Rattle.index_memory.proofs.Holding.{opened-fresh}
-use Rattle.index_memory.proofs.Taken.{read-appended}
+use Rattle.recording.proofs.Taken.{read-appended}
 use Rattle.demand.specs.Demand.{CallFits, memory-after}
 use Rattle.demand.proofs.Follow.{holds, Follows, follow-all}
 use Rattle.demand.proofs.ReadFinished.{read-finished}

@@ -10,7 +10,7 @@ use Rattle.definitions.proofs.Order.{mem-getD}
 use Rattle.definitions.proofs.Cutting.{FromBlock, pieces-mem}
 use Rattle.location.specs.Fits as L
 use Rattle.index_memory.proofs.Holding.{opened-fresh}
-use Rattle.index_memory.proofs.Taken.{read-appended}
+use Rattle.recording.proofs.Taken.{read-appended}
 use Rattle.demand.specs.Demand.{Fits, Demand3}
 use Rattle.demand.proofs.Follow.{AllFit}
 use Rattle.demand.proofs.SavedTrie.{PieceFits}

@@ -11,8 +11,8 @@ use Rattle.definitions.specs.Runs.{LongestRun, Consistent, Query, SameHeld}
 use Rattle.definitions.specs.Causes.{number, scratch-too-small, too-many-rows}
 use Rattle.definitions.specs.Calls.{Capacity, last-number}
 use Rattle.definitions.specs.Recording.{Call, record-block, finish, search, taken, Finished}
-use Rattle.index_memory.specs.Opening.{open-memory}
-use Rattle.index_memory.specs.Record.{record-memory}
+use Rattle.memory_header.specs.Opening.{open-memory}
+use Rattle.recording.specs.Record.{record-memory}
 use Rattle.row_buffer.specs.Numbers.{row-numbers}
 use Rattle.string_index.specs.Finish.{finish-memory}
 use Rattle.string_index.specs.Search.{Found, search-memory}

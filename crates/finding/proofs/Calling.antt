@@ -8,7 +8,7 @@ use Rattle.image_format.specs.Held.{trie-in}
 use Rattle.image_format.specs.Reading.{read-image, right, RightImage}
 use Rattle.image_format.specs.Savable.{AllBytes}
 use Rattle.index_rule.proofs.Theorems.{check-image-is}
-use Rattle.index_memory.specs.Layout.{Header}
+use Rattle.memory_header.specs.Layout.{Header}
 use Rattle.index_memory.specs.Index.{finished, image-part}
 use Rattle.finished_memory.proofs.Holds.{part-bytes, part-small}
 use Rattle.inspecting.specs.Held.{RightImage as Tested, ImageIn}

@@ -1,14 +1,14 @@
 // Searching a memory: the checks in their order, then the rows into scratch.
-use index_memory::HEADER_SIZE;
-use index_memory::Header;
 use inspecting::Held;
+use memory_header::HEADER_SIZE;
+use memory_header::Header;
 use row_buffer::Finding;
 ghost use mathlib.Core.Path.{_≡_};
 ghost use lib.ListN.{length};
 ghost use Rattle.definitions.specs.Causes.{ScratchAfter};
 ghost use Rattle.image_format.specs.Held.{trie-in};
 ghost use Rattle.index_memory.specs.Index.{finished, image-part};
-ghost use Rattle.index_memory.specs.Answers.{header-of};
+ghost use Rattle.memory_header.specs.Answers.{header-of};
 ghost use Rattle.inspecting.specs.Held.{ImageIn};
 ghost use Rattle.row_buffer.specs.Answer.{finding-of, AtFront};
 ghost use Rattle.finding.specs.Find.{find-by, find-memory};

@@ -21,14 +21,14 @@ use Rattle.image_format.specs.Held.{trie-in}
 use Rattle.image_format.specs.Savable.{AllBytes, Savable}
 use Rattle.image_format.proofs.Sizes.{image-size}
 use Rattle.image_format.proofs.Theorems.{image-read, read-image-is}
-use Rattle.index_memory.specs.Layout.{Room, Header, header-at, header-bytes, header-right}
-use Rattle.index_memory.specs.Answers.{heading-at}
+use Rattle.memory_header.specs.Layout.{Room, Header, header-at, header-bytes, header-right}
+use Rattle.memory_header.specs.Answers.{heading-at}
 use Rattle.index_memory.specs.Log.{log-in}
 use Rattle.index_memory.specs.Index.{Index, broken, opened, finished, log-right, open-index, read-index, image-part, if-right, finished-index}
-use Rattle.index_memory.proofs.HeaderBytes.{HeaderFits, length-header, header-written, first-zero, second-zero}
-use Rattle.index_memory.proofs.HeaderFacts.{HeaderFacts, header-facts, facts-room, heading-some}
+use Rattle.memory_header.proofs.HeaderBytes.{HeaderFits, length-header, header-written, first-zero, second-zero}
+use Rattle.memory_header.proofs.HeaderFacts.{HeaderFacts, header-facts, facts-room, heading-some}
 use Rattle.index_memory.proofs.Holding.{index-by-image}
-use Rattle.index_memory.proofs.Tests.{and-left, and-right}
+use Rattle.memory_header.proofs.Tests.{and-left, and-right}
 use Rattle.finished_memory.specs.Finished.{finished-header, finished-memory}
 use Rattle.finished_memory.specs.Room.{capacity-of, Within}
 

@@ -12,8 +12,8 @@ use Rattle.words.proofs.Holding.{holds-append, holds-get, holds-ext, holds-sets
 use Rattle.definitions.specs.Calls.{Capacity, needed}
 use Rattle.trie.specs.Trie.{Trie}
 use Rattle.image_format.specs.Image.{image}
-use Rattle.index_memory.specs.Layout.{Header, header-bytes}
-use Rattle.index_memory.proofs.HeaderBytes.{length-header}
+use Rattle.memory_header.specs.Layout.{Header, header-bytes}
+use Rattle.memory_header.proofs.HeaderBytes.{length-header}
 use Rattle.finished_memory.specs.Finished.{finished-header, finished-memory, closed}
 
 -- bytes that stand at the front, the rest as it was

@@ -6,7 +6,7 @@ use lib.Seq.{sets}
 use Rattle.definitions.specs.Calls.{Capacity, header-size, needed}
 use Rattle.trie.specs.Trie.{Trie, nodes, entries}
 use Rattle.image_format.specs.Image.{image}
-use Rattle.index_memory.specs.Layout.{Header, header-bytes}
+use Rattle.memory_header.specs.Layout.{Header, header-bytes}
 
 -- the tally is the nodes and the entries of the trie
 abbrev pub finished-header : Capacity → Trie → Header

@@ -7,7 +7,7 @@ use Rattle.definitions.specs.Calls.{Capacity}
 use Rattle.trie.specs.Trie.{Trie}
 use Rattle.trie.specs.Test.{index-rule}
 use Rattle.image_format.specs.Savable.{Savable}
-use Rattle.index_memory.specs.Layout.{Room, header-at}
+use Rattle.memory_header.specs.Layout.{Room, header-at}
 use Rattle.index_memory.specs.Index.{finished, read-index}
 use Rattle.finished_memory.specs.Finished.{finished-header, finished-memory}
 use Rattle.finished_memory.specs.Room.{Within}

@@ -12,10 +12,10 @@ use Rattle.trie.specs.Trie.{Trie, nodes, entries}
 use Rattle.trie.specs.Build.{trie-of}
 use Rattle.image_format.specs.Image.{image}
 use Rattle.tally.specs.Tallied.{finished}
-use Rattle.index_memory.specs.Layout.{Header}
-use Rattle.index_memory.specs.Answers.{header-of, with-tally}
+use Rattle.memory_header.specs.Layout.{Header}
+use Rattle.memory_header.specs.Answers.{header-of, with-tally}
 use Rattle.index_memory.specs.Log.{log-in}
-use Rattle.index_memory.specs.declared.Header as C
+use Rattle.memory_header.specs.declared.Header as C
 use Rattle.index_memory.proofs.Holding.{OpenIs}
 use Rattle.list_writer.specs.declared.End.{End}
 use Rattle.node_writer.specs.Images.{ImageWritten}

@@ -13,10 +13,10 @@ use Rattle.definitions.specs.Calls.{Capacity, needed}
 use Rattle.trie.specs.Trie.{nodes}
 use Rattle.trie.specs.Build.{Entry, parts, entered, entered-all, trie-of}
 use Rattle.trie.proofs.BuildCounts.{trie-of-nodes}
-use Rattle.index_memory.specs.Layout.{header-at}
+use Rattle.memory_header.specs.Layout.{header-at}
 use Rattle.index_memory.specs.Log.{log-in}
 use Rattle.index_memory.proofs.LogBytes.{length-log-in, is-log-sound}
-use Rattle.index_memory.proofs.HeaderFacts.{open-payload}
+use Rattle.memory_header.proofs.HeaderFacts.{open-payload}
 use Rattle.index_memory.proofs.Holding.{OpenIs, open-room, open-bytes}
 use Rattle.tails.specs.Tails.{Tail, numbered, tail-record, tail-records}
 use Rattle.tails.specs.Runs.{SoundPath}

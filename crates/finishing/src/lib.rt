@@ -1,12 +1,12 @@
 // Finish: the log of an open index becomes an image.
-use index_memory::HEADER_SIZE;
-use index_memory::Header;
-use index_memory::LOGGED_SIZE;
-use index_memory::NODE_SIZE;
+use memory_header::HEADER_SIZE;
+use memory_header::Header;
+use memory_header::LOGGED_SIZE;
+use memory_header::NODE_SIZE;
 ghost use mathlib.Core.Path.{_≡_};
 ghost use Rattle.trie.specs.Build.{trie-of};
-ghost use Rattle.index_memory.specs.Layout.{header-at};
-ghost use Rattle.index_memory.specs.Answers.{header-of};
+ghost use Rattle.memory_header.specs.Layout.{header-at};
+ghost use Rattle.memory_header.specs.Answers.{header-of};
 ghost use Rattle.index_memory.specs.Log.{log-in};
 ghost use Rattle.index_memory.specs.Index.{read-index, opened};
 ghost use Rattle.finished_memory.specs.Finished.{finished-memory};
@@ -30,6 +30,6 @@ pub fn finish_open(mem: &mut [u8], h: Header)
     let work = HEADER_SIZE + NODE_SIZE * h.node_room + LOGGED_SIZE * h.entry_room;
     let tails = sort_tails(mem, h.payload, work);
     let end = node_writer::put_image(mem, work, tails);
-    let closed = index_memory::closed(h, end.nodes, end.entries, end.at - HEADER_SIZE);
+    let closed = memory_header::closed(h, end.nodes, end.entries, end.at - HEADER_SIZE);
     finished_memory::put_finished(mem, closed);
 }

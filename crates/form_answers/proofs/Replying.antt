@@ -7,8 +7,8 @@ use mathlib.Core.List.{List, [], _∷_, append-nil}
 use lib.ListN.{length}
 use lib.Dec.{eqb}
 use Rattle.definitions.specs.Program.{text, decimal, Reply, refused}
-use Rattle.index_memory.specs.Recorded.{recorded-as}
-use Rattle.index_memory.specs.declared.Recorded.the-variants as R
+use Rattle.recording.specs.Recorded.{recorded-as}
+use Rattle.recording.specs.declared.Recorded.the-variants as R
 use Rattle.string_index.specs.Answers.{finished-as}
 use Rattle.string_index.specs.declared.Finished.the-variants as F
 use Rattle.replies.specs.Written.{Written, reply-bytes}

@@ -6,7 +6,7 @@ use mathlib.Core.Option.{Option, none, some}
 use lib.Dec.{eqb}
 use Rattle.definitions.specs.Causes.{number, no-form}
 use Rattle.definitions.specs.Program.{Form, block, finish, find, Reply, taken, finished, refused, found, program-rows}
-use Rattle.index_memory.specs.Record.{record-memory}
+use Rattle.recording.specs.Record.{record-memory}
 use Rattle.finding.specs.Find.{Rows-found, find-memory}
 use Rattle.string_index.specs.Finish.{finish-memory}
 use Rattle.forms.specs.ReadLine.{read-line}

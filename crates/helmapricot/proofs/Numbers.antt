@@ -6,10 +6,10 @@ use mathlib.Core.List.{List}
 use lib.ListN.{set}
 use lib.Dec.{eqb}
 use Rattle.definitions.proofs.Views.{Eq, eq}
-use Rattle.index_memory.specs.Answers.{opened-as, opened-number}
-use Rattle.index_memory.specs.Recorded.{recorded-as, recorded-number}
-use Rattle.index_memory.specs.declared.Opened.the-variants as O
-use Rattle.index_memory.specs.declared.Recorded.the-variants as R
+use Rattle.memory_header.specs.Answers.{opened-as, opened-number}
+use Rattle.recording.specs.Recorded.{recorded-as, recorded-number}
+use Rattle.memory_header.specs.declared.Opened.the-variants as O
+use Rattle.recording.specs.declared.Recorded.the-variants as R
 use Rattle.saving.specs.declared.Saved.{Saved}
 use Rattle.saving.specs.declared.Saved.the-variants as S
 use Rattle.saving.specs.declared.Loaded.the-variants as L

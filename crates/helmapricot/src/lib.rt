@@ -1,9 +1,9 @@
 // The calls for programs in other languages. Each answers the number of its refusal, 0 where there is none.
 use block_stream::Block;
 use block_stream::Read;
-use index_memory::Opened;
-use index_memory::Recorded;
 use location::SpacetimeLocation;
+use memory_header::Opened;
+use recording::Recorded;
 use rows::Row;
 use saving::Loaded;
 use saving::Saved;
@@ -16,10 +16,10 @@ ghost use lib.Seq.{sets};
 ghost use mathlib.Core.List.{[], _∷_};
 ghost use Rattle.definitions.specs.BlockStream.{read-block};
 ghost use Rattle.definitions.specs.Causes.{ScratchAfter};
-ghost use Rattle.index_memory.specs.Opening.{open-memory};
-ghost use Rattle.index_memory.specs.Answers.{opened-number};
-ghost use Rattle.index_memory.specs.Record.{record-memory};
-ghost use Rattle.index_memory.specs.Recorded.{recorded-number};
+ghost use Rattle.memory_header.specs.Opening.{open-memory};
+ghost use Rattle.memory_header.specs.Answers.{opened-number};
+ghost use Rattle.recording.specs.Record.{record-memory};
+ghost use Rattle.recording.specs.Recorded.{recorded-number};
 ghost use Rattle.rows.specs.Rows.{numbers-of};
 ghost use Rattle.string_index.specs.Finish.{finish-memory};
 ghost use Rattle.string_index.specs.Search.{search-memory};
@@ -71,7 +71,7 @@ pub extern "C" fn helmapricot_open(mem: &mut [u8], nodes: u64, entries: u64) -> 
     ensures answer { λ r. ⌜ r ≡ open-memory (now (mem .entry)) (record { nodes = nodes; entries = entries }) .refusal ⌝ }
     ensures memory { λ _. ⌜ now (mem .exit) ≡ open-memory (now (mem .entry)) (record { nodes = nodes; entries = entries }) .memory ⌝ }
 {
-    opened_number(index_memory::open(mem, nodes, entries))
+    opened_number(memory_header::open(mem, nodes, entries))
 }
 
 // Records a block.

@@ -14,17 +14,17 @@ use Rattle.definitions.specs.Calls.{Capacity}
 use Rattle.trie.specs.Test.{index-rule}
 use Rattle.image_format.specs.Reading.{Layout, right, refused, read-image}
 use Rattle.image_format.specs.Held.{trie-in}
-use Rattle.index_memory.specs.Layout.{Room, Header, header-at, header-bytes, with-header, header-right}
-use Rattle.index_memory.specs.Opening.{open-memory}
+use Rattle.memory_header.specs.Layout.{Room, Header, header-at, header-bytes, with-header, header-right}
+use Rattle.memory_header.specs.Opening.{open-memory}
 use Rattle.index_memory.specs.Log.{log-in, log-sound}
 use Rattle.index_memory.specs.Index.{broken, opened, finished, open-header, log-right, open-index, finished-index, if-right, read-index, image-part}
-use Rattle.index_memory.specs.Answers.{heading-at}
-use Rattle.index_memory.proofs.Tests.{and-left, and-right, both}
+use Rattle.memory_header.specs.Answers.{heading-at}
+use Rattle.memory_header.proofs.Tests.{and-left, and-right, both}
 use Rattle.index_memory.proofs.LogBytes.{AllSound, log-elsewhere, log-in-bytes, length-log-in, log-sound-is, is-log-sound}
 use Rattle.index_memory.proofs.Charges.{charge-count}
-use Rattle.index_memory.proofs.HeaderBytes.{length-header}
-use Rattle.index_memory.proofs.HeaderFacts.{HeaderFacts, header-facts, facts-room, heading-some, open-payload}
-use Rattle.index_memory.proofs.Opening.{open-holds, open-taken, head-at, head-facts}
+use Rattle.memory_header.proofs.HeaderBytes.{length-header}
+use Rattle.memory_header.proofs.HeaderFacts.{HeaderFacts, header-facts, facts-room, heading-some, open-payload}
+use Rattle.memory_header.proofs.Opening.{open-holds, open-taken, head-at, head-facts}
 
 -- ---- by the heading
 

@@ -16,7 +16,7 @@ use Rattle.definitions.specs.Calls.{last-number}
 use Rattle.definitions.proofs.Views.{lt-or-le}
 use Rattle.index_memory.specs.Log.{AllSmall, piece-in, piece-bytes, log-in, log-bytes, piece-sound, log-sound}
 use Rattle.index_memory.proofs.PieceBytes.{PieceFits, length-piece, size-written, piece-written, piece-ext}
-use Rattle.index_memory.proofs.Tests.{and-left, and-right, both}
+use Rattle.memory_header.proofs.Tests.{and-left, and-right, both}
 
 -- ---- what is written is read back
 

@@ -12,14 +12,14 @@ use Rattle.words.specs.Words.{le64}
 use Rattle.definitions.specs.Blocks.{Piece, node-charge, entry-charge, charge}
 use Rattle.definitions.specs.Calls.{last-number}
 use Rattle.definitions.proofs.Views.{Le, le}
-use Rattle.index_memory.specs.Layout.{Header}
+use Rattle.memory_header.specs.Layout.{Header}
 use Rattle.index_memory.specs.Log.{piece-in, log-in, piece-sound, log-sound}
 use Rattle.index_memory.specs.Index.{log-right}
-use Rattle.index_memory.specs.Answers.{heading-at}
+use Rattle.memory_header.specs.Answers.{heading-at}
 use Rattle.index_memory.proofs.Charges.{node-bound, entry-max}
-use Rattle.index_memory.proofs.Tests.{and-left}
+use Rattle.memory_header.proofs.Tests.{and-left}
 use Rattle.index_memory.proofs.LogBytes.{piece-length}
-use Rattle.index_memory.proofs.HeaderFacts.{HeaderFacts, heading-is, open-payload}
+use Rattle.memory_header.proofs.HeaderFacts.{HeaderFacts, heading-is, open-payload}
 
 -- ---- the ways out of testing a piece
 

@@ -14,7 +14,7 @@ use Rattle.definitions.specs.Blocks.{Piece}
 use Rattle.location.specs.Fits.{Fits}
 use Rattle.location.proofs.Bytes.{location-written}
 use Rattle.index_memory.specs.Log.{piece-in, piece-bytes}
-use Rattle.index_memory.proofs.Numbers.{part-ext, part-other}
+use Rattle.memory_header.proofs.Numbers.{part-ext, part-other}
 
 -- a piece with the same bytes at the same place
 pub piece-path : {p q : Piece} → p .bytes ≡ q .bytes → p .at .address ≡ q .at .address → p .at .created ≡ q .at .created

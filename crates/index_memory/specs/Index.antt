@@ -11,7 +11,7 @@ use Rattle.trie.specs.Trie.{Trie, trie-pieces}
 use Rattle.trie.specs.Test.{index-rule}
 use Rattle.image_format.specs.Reading.{Layout, right, refused, read-image}
 use Rattle.image_format.specs.Held.{trie-in}
-use Rattle.index_memory.specs.Layout.{Header, header-at, header-right}
+use Rattle.memory_header.specs.Layout.{Header, header-at, header-right}
 use Rattle.index_memory.specs.Log.{log-in, log-sound}
 
 -- what a memory holds

@@ -8,7 +8,7 @@ use Rattle.words.specs.Words.{le64, bytes64}
 use Rattle.definitions.specs.Location.{location-at, location-bytes}
 use Rattle.definitions.specs.Blocks.{Piece, piece-size}
 use Rattle.definitions.specs.Calls.{last-number}
-use Rattle.index_memory.specs.Layout.{logged-size}
+use Rattle.memory_header.specs.Layout.{logged-size}
 
 -- a piece in the log: its length, its bytes padded with zeros to 16, its location
 abbrev pub piece-in : List ℕ → ℕ → Piece

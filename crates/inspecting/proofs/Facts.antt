@@ -13,12 +13,12 @@ use Rattle.trie.specs.Test.{index-rule}
 use Rattle.image_format.specs.Held.{trie-in}
 use Rattle.image_format.specs.Reading.{Layout, right, refused, read-image}
 use Rattle.index_rule.specs.Check.{and-rule, check-image}
-use Rattle.index_memory.specs.Layout.{Header, header-at, payload-size}
-use Rattle.index_memory.specs.Answers.{header-of, heading-at}
+use Rattle.memory_header.specs.Layout.{Header, header-at, payload-size}
+use Rattle.memory_header.specs.Answers.{header-of, heading-at}
 use Rattle.index_memory.specs.Log.{log-in}
 use Rattle.index_memory.specs.Index.{Index, broken, finished, image-part, if-right, finished-index, log-right, read-index}
-use Rattle.index_memory.specs.declared.Header as C
-use Rattle.index_memory.proofs.HeaderFacts.{HeaderFacts, heading-is}
+use Rattle.memory_header.specs.declared.Header as C
+use Rattle.memory_header.proofs.HeaderFacts.{HeaderFacts, heading-is}
 use Rattle.index_memory.proofs.Holding.{index-broken, open-by-log, broken-by-log, index-by-image}
 use Rattle.inspecting.specs.Held.{SaysImage, Inspects}
 use Rattle.inspecting.specs.declared.Held.the-variants.{Broken, Open, Finished}

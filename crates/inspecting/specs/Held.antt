@@ -8,8 +8,8 @@ use Rattle.definitions.specs.Calls.{header-size}
 use Rattle.image_format.specs.Held.{trie-in}
 use Rattle.image_format.specs.Reading.{right}
 use Rattle.index_rule.specs.Check.{check-image}
-use Rattle.index_memory.specs.Layout.{Header, header-at}
-use Rattle.index_memory.specs.Answers.{header-of}
+use Rattle.memory_header.specs.Layout.{Header, header-at}
+use Rattle.memory_header.specs.Answers.{header-of}
 use Rattle.index_memory.specs.Log.{log-in}
 use Rattle.index_memory.specs.Index.{Index, broken, opened, finished, image-part, finished-index, read-index}
 use Rattle.inspecting.specs.declared.Held.{Held}

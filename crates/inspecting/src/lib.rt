@@ -1,11 +1,11 @@
 // What a lent memory holds, tested before any call relies on it: no index, an open one, or a finished one.
 use fields::Layout;
-use index_memory::HEADER_SIZE;
-use index_memory::Header;
-use index_memory::Heading;
+use memory_header::HEADER_SIZE;
+use memory_header::Header;
+use memory_header::Heading;
 ghost use mathlib.Core.Path.{_≡_};
 ghost use mathlib.Core.Option.{some};
-ghost use Rattle.index_memory.specs.Answers.{header-of, heading-at};
+ghost use Rattle.memory_header.specs.Answers.{header-of, heading-at};
 ghost use Rattle.inspecting.specs.Held.{SaysImage, Inspects};
 
 // What a memory holds, by its header.
@@ -33,7 +33,7 @@ fn image_right(mem: &[u8], h: Header) -> bool
 pub fn inspect(mem: &[u8]) -> Held
     ensures { λ r. ⌜ Inspects (now (mem .entry)) r ⌝ }
 {
-    let Heading::Right(h) = index_memory::header_in(mem) else {
+    let Heading::Right(h) = memory_header::header_in(mem) else {
         return Held::Broken;
     };
     if h.phase == 0 {

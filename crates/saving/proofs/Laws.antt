@@ -22,8 +22,8 @@ use Rattle.image_format.proofs.Sizes.{image-size}
 use Rattle.image_format.proofs.Theorems.{read-image-is}
 use Rattle.index_rule.specs.Check.{check-image}
 use Rattle.index_rule.proofs.Theorems.{check-image-is}
-use Rattle.index_memory.specs.Layout.{Room, Header}
-use Rattle.index_memory.specs.Opening.{Done, unless-refused}
+use Rattle.memory_header.specs.Layout.{Room, Header}
+use Rattle.memory_header.specs.Opening.{Done, unless-refused}
 use Rattle.index_memory.specs.Index.{Index, broken, opened, finished, image-part, read-index}
 use Rattle.inspecting.specs.Held.{ImageIn}
 use Rattle.inspecting.proofs.Facts.{same-part}

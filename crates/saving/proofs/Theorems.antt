@@ -21,9 +21,9 @@ use Rattle.image_format.specs.Savable.{Savable}
 use Rattle.image_format.proofs.Theorems.{image-read}
 use Rattle.index_rule.specs.Check.{and-rule, check-image}
 use Rattle.index_rule.proofs.Theorems.{check-image-is, index-rule-is}
-use Rattle.index_memory.specs.Opening.{Done, unless-refused}
+use Rattle.memory_header.specs.Opening.{Done, unless-refused}
 use Rattle.index_memory.specs.Index.{Index, broken, opened, finished, standing-of, read-index}
-use Rattle.index_memory.proofs.Opening.{refused-leaves}
+use Rattle.memory_header.proofs.Opening.{refused-leaves}
 use Rattle.finished_memory.specs.Finished.{finished-memory}
 use Rattle.finished_memory.specs.Room.{capacity-of, Within}
 use Rattle.finished_memory.proofs.Holds.{FinishedIs, finished-holds, finished-is, room-of}

@@ -1,15 +1,15 @@
 // Saving the image of a finished index, and loading an image in place of what a memory holds.
 use fields::Layout;
 use fields::Tally;
-use index_memory::HEADER_SIZE;
-use index_memory::Header;
+use memory_header::HEADER_SIZE;
+use memory_header::Header;
 ghost use mathlib.Core.Path.{_≡_};
 ghost use mathlib.Core.Option.{some};
 ghost use Rattle.image_format.specs.Held.{trie-in};
 ghost use Rattle.image_format.specs.Reading.{right};
 ghost use Rattle.index_rule.specs.Check.{check-image};
 ghost use Rattle.index_memory.specs.Index.{finished, image-part, read-index};
-ghost use Rattle.index_memory.specs.Answers.{header-of};
+ghost use Rattle.memory_header.specs.Answers.{header-of};
 ghost use Rattle.inspecting.specs.Held.{ImageIn};
 ghost use Rattle.finished_memory.specs.Room.{capacity-of};
 ghost use Rattle.saving.specs.Saving.{save-memory, load-memory};
@@ -55,7 +55,7 @@ fn load_right(mem: &mut [u8], h: Header, t: Tally, s: &[u8]) -> Loaded
     }
     let payload = s.len();
     words::copy(s, 0, mem, HEADER_SIZE, payload);
-    let closed = index_memory::closed(h, t.nodes, t.entries, payload);
+    let closed = memory_header::closed(h, t.nodes, t.entries, payload);
     finished_memory::put_finished(mem, closed);
     Loaded::Done
 }

@@ -11,10 +11,10 @@ use Rattle.definitions.specs.Blocks.{Block, pieces, memory-kind}
 use Rattle.definitions.specs.Rows.{rows}
 use Rattle.definitions.specs.Causes.{Cause, first-cause}
 use Rattle.definitions.specs.Calls.{Capacity, open-checks, record-checks, finish-checks, search-checks}
-use Rattle.index_memory.specs.Opening.{fresh-memory, open-memory}
+use Rattle.memory_header.specs.Opening.{fresh-memory, open-memory}
 use Rattle.index_memory.specs.Index.{standing-of, read-index}
-use Rattle.index_memory.specs.Record.{appended, record-memory}
-use Rattle.index_memory.proofs.Opening.{refused-leaves}
+use Rattle.recording.specs.Record.{appended, record-memory}
+use Rattle.memory_header.proofs.Opening.{refused-leaves}
 use Rattle.saving.proofs.Theorems.{save-leaves, load-leaves}
 use Rattle.string_index.specs.Finish.{finished-by, finish-memory}
 use Rattle.string_index.specs.Search.{found-or-refused, search-memory}

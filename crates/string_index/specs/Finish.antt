@@ -5,7 +5,7 @@ use Rattle.definitions.specs.Causes.{first-cause}
 use Rattle.definitions.specs.Calls.{finish-checks}
 use Rattle.trie.specs.Build.{trie-of}
 use Rattle.finished_memory.specs.Finished.{finished-memory}
-use Rattle.index_memory.specs.Opening.{Done, unless-refused}
+use Rattle.memory_header.specs.Opening.{Done, unless-refused}
 use Rattle.index_memory.specs.Index.{Index, broken, opened, finished, standing-of, read-index}
 
 -- ── finish: the log becomes an image ──

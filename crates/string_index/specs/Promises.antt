@@ -4,8 +4,8 @@ use mathlib.Core.Path.{_≡_}
 use mathlib.Core.List.{List}
 use Rattle.definitions.specs.Blocks.{Block}
 use Rattle.definitions.specs.Calls.{Capacity}
-use Rattle.index_memory.specs.Opening.{open-memory}
-use Rattle.index_memory.specs.Record.{record-memory}
+use Rattle.memory_header.specs.Opening.{open-memory}
+use Rattle.recording.specs.Record.{record-memory}
 use Rattle.saving.specs.Saving.{save-memory, load-memory}
 use Rattle.string_index.specs.Finish.{finish-memory}
 use Rattle.string_index.specs.Search.{search-memory}

@@ -1,9 +1,9 @@
 // The calls of the index. Each but opening inspects the lent memory first, so none asks anything of it.
-pub use index_memory::Opened;
-pub use index_memory::Recorded;
-pub use index_memory::open;
 use inspecting::Held;
 use location::SpacetimeLocation;
+pub use memory_header::Opened;
+pub use memory_header::open;
+pub use recording::Recorded;
 pub use row_buffer::Finding;
 pub use rows::Row;
 pub use saving::Loaded;
@@ -12,8 +12,8 @@ ghost use mathlib.Core.Path.{_≡_};
 ghost use lib.ListN.{length};
 ghost use Rattle.definitions.specs.Causes.{ScratchAfter};
 ghost use Rattle.location.specs.Plain.{plain};
-ghost use Rattle.index_memory.specs.Record.{record-memory};
-ghost use Rattle.index_memory.specs.Recorded.{recorded-as};
+ghost use Rattle.recording.specs.Record.{record-memory};
+ghost use Rattle.recording.specs.Recorded.{recorded-as};
 ghost use Rattle.rows.specs.Rows.{numbers-of};
 ghost use Rattle.saving.specs.Saving.{save-memory, load-memory};
 ghost use Rattle.saving.specs.Answers.{saved-as, loaded-as};
@@ -28,7 +28,7 @@ pub fn record(mem: &mut [u8], kind: u64, l: SpacetimeLocation, data: &[u8]) -> R
 {
     match inspecting::inspect(mem) {
         Held::Broken => Recorded::Refused(definitions::INDEX_RULE_BROKEN),
-        Held::Open(h) => index_memory::record_open(mem, h, kind, l, data),
+        Held::Open(h) => recording::record_open(mem, h, kind, l, data),
         Held::Finished(_) => Recorded::Refused(definitions::RECORD_AFTER_FINISH),
     }
 }

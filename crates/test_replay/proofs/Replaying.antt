@@ -9,7 +9,7 @@ use lib.ListN.{length, getD, set, take, drop}
 use lib.Seq.{take-suc, take-length}
 use lib.Dec.{eqb}
 use Rattle.definitions.specs.Program.{text, hex, hex-digit, refused, program-capacity}
-use Rattle.index_memory.specs.Opening.{open-memory}
+use Rattle.memory_header.specs.Opening.{open-memory}
 use Rattle.saving.specs.Saving.{Saving}
 use Rattle.saving.specs.Answers.{saved-as}
 use Rattle.saving.specs.declared.Saved.the-variants as S

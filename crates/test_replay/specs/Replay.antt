@@ -7,7 +7,7 @@ use lib.ListN.{length, take, drop, replicate}
 use lib.Seq.{sets}
 use lib.Dec.{eqb}
 use Rattle.definitions.specs.Program.{text, hex, refused, program-capacity}
-use Rattle.index_memory.specs.Opening.{open-memory}
+use Rattle.memory_header.specs.Opening.{open-memory}
 use Rattle.saving.specs.Saving.{Saving, save-memory}
 use Rattle.numerals.specs.Numerals.{starts}
 use Rattle.lines.specs.Cut.{line-end}

@@ -3,7 +3,7 @@ use native.Mathlib.Omega.{arith}
 use borrow.Author.Needs.{needs}
 use borrow.Author.Tests.{lt-ltb}
 use denote.Ref.{now}
-use Rattle.index_memory.specs.Answers.{header-of}
+use Rattle.memory_header.specs.Answers.{header-of}
 use Rattle.finding.proofs.FindCall.{none-front, unchanged}
 use Rattle.finding.proofs.Calling.{searchable, answered-part}
 use Rattle.finding.proofs.find_finished.Statement.{statement}

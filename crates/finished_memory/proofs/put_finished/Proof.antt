@@ -7,8 +7,8 @@ use lib.ListN.{replicate}
 use lib.Seq.{sets}
 use denote.Ref.{now}
 use borrow.Author.Needs.{needs}
-use Rattle.index_memory.specs.Layout.{header-bytes}
-use Rattle.index_memory.specs.Answers.{header-of}
+use Rattle.memory_header.specs.Layout.{header-bytes}
+use Rattle.memory_header.specs.Answers.{header-of}
 use Rattle.finished_memory.proofs.put_finished.Statement.{statement}
 use Rattle.finished_memory.proofs.put_finished.Tie as tie
 

@@ -4,7 +4,7 @@ use mathlib.Core.Path.{refl, _∙_}
 use borrow.Author.Needs.{needs}
 use denote.Ref.{now}
 use Rattle.records.proofs.Bytes.{Bytes}
-use Rattle.index_memory.specs.Answers.{header-of}
+use Rattle.memory_header.specs.Answers.{header-of}
 use Rattle.index_memory.specs.Log.{log-in}
 use Rattle.index_memory.proofs.Holding.{open-is}
 use Rattle.finishing.proofs.Image.{small-nodes, small-entries, tails-asked, image-asked}

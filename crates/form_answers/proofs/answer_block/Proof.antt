@@ -2,7 +2,7 @@
 use denote.Ref.{now}
 use mathlib.Core.List.{[], _∷_}
 use Rattle.location.specs.Plain.{plain}
-use Rattle.index_memory.specs.Record.{record-memory}
+use Rattle.recording.specs.Record.{record-memory}
 use native.Mathlib.Omega.{arith}
 use mathlib.Core.Path.{sym, _∙_}
 use Rattle.definitions.specs.Program.{taken}

@@ -1,7 +1,7 @@
 -- `helmapricot_open` keeps the contract of the call that it exports. Assumes nothing.
 use mathlib.Core.Path.{_∙_, ap}
 use borrow.Author.Needs.{needs}
-use Rattle.index_memory.specs.Answers.{opened-number}
+use Rattle.memory_header.specs.Answers.{opened-number}
 use Rattle.helmapricot.proofs.Numbers.{opened-back}
 use Rattle.helmapricot.proofs.helmapricot_open.Statement.{statement}
 use Rattle.helmapricot.proofs.helmapricot_open.Tie as tie

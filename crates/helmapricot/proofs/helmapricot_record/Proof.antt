@@ -3,9 +3,9 @@ use mathlib.Core.Path.{_∙_, ap}
 use borrow.Author.Needs.{needs}
 use denote.Ref.{now}
 use Rattle.definitions.specs.Location.{Location}
-use Rattle.index_memory.specs.Opening.{Done}
-use Rattle.index_memory.specs.Record.{record-memory}
-use Rattle.index_memory.specs.Recorded.{recorded-number}
+use Rattle.memory_header.specs.Opening.{Done}
+use Rattle.recording.specs.Record.{record-memory}
+use Rattle.recording.specs.Recorded.{recorded-number}
 use Rattle.helmapricot.proofs.Numbers.{recorded-back}
 use Rattle.helmapricot.proofs.helmapricot_record.Statement.{statement}
 use Rattle.helmapricot.proofs.helmapricot_record.Tie as tie

@@ -3,7 +3,7 @@ use native.Mathlib.Omega.{arith}
 use mathlib.Core.Path.{sym, _∙_}
 use borrow.Author.Tests.{not-true, not-false}
 use denote.Ref.{now}
-use Rattle.index_memory.specs.Answers.{header-of}
+use Rattle.memory_header.specs.Answers.{header-of}
 use Rattle.index_memory.proofs.LogWalk.{sound-small, walk-nodes, walk-entries, Walking, walk-start, walk-refused, walk-turn}
 use Rattle.index_memory.proofs.Charges.{node-bound, entry-max}
 use Rattle.index_memory.proofs.log_right.Statement.{statement}

@@ -7,7 +7,7 @@ use borrow.Author.Tests.{eq-eqb, ne-eqb}
 use borrow.Author.Needs.{needs}
 use denote.Ref.{now}
 use Rattle.fields.specs.Answers.{layout-of}
-use Rattle.index_memory.specs.Answers.{header-of}
+use Rattle.memory_header.specs.Answers.{header-of}
 use Rattle.inspecting.proofs.Facts.{image-room, image-small, same-part, image-refused, image-right, other-nodes, same-nodes}
 use Rattle.inspecting.proofs.image_right.Statement.{statement}
 use Rattle.inspecting.proofs.image_right.Tie as tie

@@ -2,7 +2,7 @@
 use mathlib.Core.Path.{sym, ap, _∙_}
 use borrow.Author.Needs.{needs}
 use denote.Ref.{now}
-use Rattle.index_memory.specs.Answers.{heading-of}
+use Rattle.memory_header.specs.Answers.{heading-of}
 use Rattle.inspecting.proofs.Facts.{held-broken, held-open, held-log-broken, phase-one, held-finished, held-image-broken}
 use Rattle.inspecting.proofs.inspect.Statement.{statement}
 use Rattle.inspecting.proofs.inspect.Tie as tie

@@ -3,8 +3,8 @@ use mathlib.Core.Path.{sym, ap, _∙_}
 use borrow.Author.Needs.{needs}
 use denote.Ref.{now}
 use Rattle.fields.specs.Answers.{layout-of}
-use Rattle.index_memory.specs.Opening.{Done}
-use Rattle.index_memory.specs.Answers.{header-of}
+use Rattle.memory_header.specs.Opening.{Done}
+use Rattle.memory_header.specs.Answers.{header-of}
 use Rattle.saving.specs.Answers.{loaded-as}
 use Rattle.saving.proofs.Laws.{refused-as, fault-over, load-as}
 use Rattle.saving.proofs.Theorems.{image-refusal, fault-some}

@@ -5,8 +5,8 @@ use lib.ListN.{length}
 use lib.Seq.{length-sets}
 use borrow.Author.Needs.{needs}
 use denote.Ref.{now}
-use Rattle.index_memory.specs.Opening.{Done}
-use Rattle.index_memory.specs.Answers.{header-of}
+use Rattle.memory_header.specs.Opening.{Done}
+use Rattle.memory_header.specs.Answers.{header-of}
 use Rattle.finished_memory.proofs.Holds.{room-of}
 use Rattle.saving.specs.Answers.{loaded-as}
 use Rattle.saving.proofs.Laws.{load-as, nodes-over, entries-over, room, closable, loaded}

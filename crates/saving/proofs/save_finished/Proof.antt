@@ -3,7 +3,7 @@ use native.Mathlib.Omega.{arith}
 use mathlib.Core.Path.{ap}
 use borrow.Author.Needs.{needs}
 use denote.Ref.{now}
-use Rattle.index_memory.specs.Answers.{header-of}
+use Rattle.memory_header.specs.Answers.{header-of}
 use Rattle.saving.specs.Saving.{Saving}
 use Rattle.saving.specs.Answers.{saved-as}
 use Rattle.saving.proofs.Laws.{cut-is, too-short, saved}

@@ -2,7 +2,7 @@
 use mathlib.Core.Path.{ap, _∙_, subst}
 use borrow.Author.Needs.{needs}
 use denote.Ref.{now}
-use Rattle.index_memory.specs.Opening.{Done}
+use Rattle.memory_header.specs.Opening.{Done}
 use Rattle.inspecting.specs.Held.{Inspects}
 use Rattle.string_index.specs.Answers.{finished-as}
 use Rattle.string_index.proofs.FinishCall.{finish-as}

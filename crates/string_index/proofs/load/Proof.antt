@@ -2,7 +2,7 @@
 use mathlib.Core.Path.{ap, subst}
 use borrow.Author.Needs.{needs}
 use denote.Ref.{now}
-use Rattle.index_memory.specs.Opening.{Done}
+use Rattle.memory_header.specs.Opening.{Done}
 use Rattle.inspecting.specs.Held.{Inspects}
 use Rattle.finished_memory.specs.Room.{capacity-of}
 use Rattle.saving.specs.Answers.{loaded-as}

@@ -3,9 +3,9 @@ use mathlib.Core.Path.{ap, subst}
 use borrow.Author.Needs.{needs}
 use denote.Ref.{now}
 use Rattle.location.specs.Plain.{plain}
-use Rattle.index_memory.specs.Opening.{Done}
-use Rattle.index_memory.specs.Recorded.{recorded-as}
-use Rattle.index_memory.proofs.Outcome.{record-as}
+use Rattle.memory_header.specs.Opening.{Done}
+use Rattle.recording.specs.Recorded.{recorded-as}
+use Rattle.recording.proofs.Outcome.{record-as}
 use Rattle.inspecting.specs.Held.{Inspects}
 use Rattle.string_index.proofs.record.Statement.{statement}
 use Rattle.string_index.proofs.record.Tie as tie

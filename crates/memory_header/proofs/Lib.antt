@@ -1,0 +1,6 @@
+pub mod Numbers
+pub mod Tests
+pub mod HeaderBytes
+pub mod HeaderFacts
+pub mod Opening
+pub mod Tallies

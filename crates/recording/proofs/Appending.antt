@@ -1,0 +1,114 @@
+-- What is left where pieces are appended: an open index, with them behind the others. Assumes nothing.
+use Prim.Native.Nat.{ℕ, _+_, _-_, _*_, _≤_, _<_}
+use native.Mathlib.Omega.{arith}
+use mathlib.Core.Path.{_≡_, refl, sym, ap, _∙_, subst}
+use mathlib.Core.Logic.{_⊎_, inl, inr}
+use mathlib.Core.List.{List, _++_, append-nil, append-assoc, List·Memᴰ as Mem, List·Memᴰ·append-cases as append-cases}
+use lib.ListN.{length, getD, length-append}
+use lib.Seq.{sets, length-sets}
+use Rattle.words.proofs.Laws.{Outside}
+use Rattle.words.proofs.Parts.{lt-or-ge, sets-append, getD-sets, getD-sets-out, sets-over}
+use Rattle.definitions.specs.Blocks.{Piece, nodes-tallied, entries-tallied}
+use Rattle.definitions.specs.Calls.{Capacity}
+use Rattle.memory_header.specs.Layout.{Room, Header, header-bytes, with-header}
+use Rattle.index_memory.specs.Log.{AllSmall, log-in, log-bytes}
+use Rattle.index_memory.specs.Index.{opened, open-header, read-index}
+use Rattle.recording.specs.Record.{logged, appended}
+use Rattle.recording.specs.Promises.{LengthAppended, AppendedNone, AppendedTwice}
+use Rattle.index_memory.proofs.Charges.{charge-count}
+use Rattle.memory_header.proofs.HeaderBytes.{length-header, header-same}
+use Rattle.index_memory.proofs.LogBytes.{AllFit, AllSound, PieceSound, length-log, log-bytes-append, log-written, log-append, log-elsewhere}
+use Rattle.index_memory.proofs.Holding.{OpenIs, open-is, room-open, open-counted, put-holds}
+
+-- ---- what is read back
+
+module _ (m : List ℕ) (c : Capacity) (ps new : List Piece) where
+  -- the log with the new pieces, before the header is written
+  abbrev behind : List ℕ
+  behind = logged m (open-header c ps) new
+
+  long : length behind ≡ length m
+  unfolding logged
+  long = length-sets m (64 + 48 * length ps) (log-bytes new)
+
+  module _ (o : OpenIs m c ps) (f : AllFit new) (s : AllSound new) (n : nodes-tallied (ps ++ new) ≤ c .nodes) (e : entries-tallied (ps ++ new) ≤ c .entries) where
+    room : Room behind c
+    room =
+        let r : Room m c = room-open m c ps o in
+        record { some-nodes = r .some-nodes; few-nodes = r .few-nodes; some-entries = r .some-entries; few-entries = r .few-entries; held = omega (arith, long, r .held) }
+
+    within : 64 + 48 * (length ps + length new) ≤ length m
+    within = omega (arith, charge-count (ps ++ new), length-append ps new, room .held, long)
+
+    whole-log : log-in behind (length (ps ++ new)) 64 ≡ ps ++ new
+    unfolding logged
+    whole-log =
+        let q : ℕ = 64 + 48 * length ps in
+        let p : log-in m (length ps) 64 ≡ ps = ap (λ (k : ℕ). log-in m k 64) (sym (o .payload)) ∙ sym (o .log) in
+        let old : log-in behind (length ps) 64 ≡ ps = log-elsewhere (log-bytes new) m q (length ps) 64 (omega (arith, within)) (subst AllSound (sym p) (o .sound)) (inl (omega arith)) ∙ p in
+        let new-log : log-in behind (length new) q ≡ new = log-written new m q f (omega (arith, within)) in
+        ap (λ (k : ℕ). log-in behind k 64) (length-append ps new) ∙ log-append behind (length ps) (length new) 64 ∙ (λ i. old i ++ new-log i)
+
+    all-sound : AllSound (ps ++ new)
+    all-sound p k = go (append-cases ps k)
+      where
+        go : Mem p ps ⊎ Mem p new → PieceSound p
+        go (inl j) = o .sound p j
+        go (inr j) = s p j
+
+    -- pieces that fit go behind the others
+    pub read-behind : read-index (appended m c ps new) ≡ opened c (ps ++ new)
+    unfolding appended
+    read-behind = put-holds behind c (ps ++ new) room n e all-sound whole-log
+
+-- ---- the other laws
+
+pub length-appended : LengthAppended
+unfolding appended
+length-appended m c ps new = length-sets (behind m c ps new) 0 (header-bytes (open-header c (ps ++ new))) ∙ long m c ps new
+
+pub appended-none : AppendedNone
+unfolding appended logged log-bytes
+appended-none m c ps b e =
+    let o : OpenIs m c ps = open-is m c ps e in
+    let f = o .header in
+    rw (append-nil ps, ← open-counted m c ps o) (header-same m b (f .room) (f .first-zero) (f .second-zero))
+
+-- a byte that two lists share they share where others are written
+shared : (zs xs ys : List ℕ) (at k : ℕ) → length xs ≡ length ys → at + length zs ≤ length xs → getD xs k 0 ≡ getD ys k 0 → getD (sets xs at zs) k 0 ≡ getD (sets ys at zs) k 0
+shared zs xs ys at k l h e = go (lt-or-ge k at) (lt-or-ge k (at + length zs))
+  where
+    go : (k < at) ⊎ (at ≤ k) → (k < at + length zs) ⊎ (at + length zs ≤ k) → getD (sets xs at zs) k 0 ≡ getD (sets ys at zs) k 0
+    go (inl a) b = getD-sets-out zs xs at k (inl a) ∙ e ∙ sym (getD-sets-out zs ys at k (inl a))
+    go (inr a) (inr b) = getD-sets-out zs xs at k (inr b) ∙ e ∙ sym (getD-sets-out zs ys at k (inr b))
+    go (inr a) (inl b) =
+        let q : k ≡ at + (k - at) = omega arith in
+        rw q (getD-sets zs xs at (k - at) (omega arith) h ∙ sym (getD-sets zs ys at (k - at) (omega arith) (omega arith)))
+
+-- a header that is put before the pieces are is written over by the one that counts them
+header-over : (m : List ℕ) (h h′ h″ : Header) (new : List Piece) → AllSmall new → 64 + 48 * (h′ .payload + length new) ≤ length m
+    → with-header (logged (with-header m h) h′ new) h″ ≡ with-header (logged m h′ new) h″
+unfolding logged
+header-over m h h′ h″ new s l =
+    let at : ℕ = 64 + 48 * h′ .payload in
+    let ys : List ℕ = log-bytes new in
+    let long : length (with-header m h) ≡ length m = length-sets m 0 (header-bytes h) in
+    let n : at + length ys ≤ length m = omega (arith, length-log new s) in
+    sets-over (header-bytes h″) (sets (with-header m h) at ys) (sets m at ys) 0
+    (length-sets (with-header m h) at ys ∙ long ∙ sym (length-sets m at ys))
+    (omega (arith, length-header h″, length-sets (with-header m h) at ys))
+    (λ k o. shared ys (with-header m h) m at k long (omega arith) (getD-sets-out (header-bytes h) m 0 k (subst (λ (n : ℕ). Outside n 0 k) (length-header h″ ∙ sym (length-header h)) o)))
+
+-- pieces behind pieces
+logged-twice : (m : List ℕ) (c : Capacity) (ps new more : List Piece) → AllSmall new
+    → logged (logged m (open-header c ps) new) (open-header c (ps ++ new)) more ≡ logged m (open-header c ps) (new ++ more)
+unfolding logged
+logged-twice m c ps new more s =
+    let e : 64 + 48 * length (ps ++ new) ≡ 64 + 48 * length ps + length (log-bytes new) = omega (arith, length-append ps new, length-log new s) in
+    rw (e, log-bytes-append new more, sets-append m (64 + 48 * length ps) (log-bytes new) (log-bytes more)) refl
+
+pub appended-twice : AppendedTwice
+unfolding appended
+appended-twice m c ps new more s t l =
+    header-over (behind m c ps new) (open-header c (ps ++ new)) (open-header c (ps ++ new)) (open-header c (ps ++ new ++ more)) more t (omega (arith, long m c ps new, length-append ps new))
+    ∙ rw (logged-twice m c ps new more s, append-assoc ps new more)

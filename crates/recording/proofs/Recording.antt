@@ -1,0 +1,138 @@
+-- Recording a block by the header alone: the ways out of its checks, and the pieces as they are written. Assumes nothing.
+use Prim.Native.Nat.{ℕ, suc, _+_, _-_, _*_, _≤_, _<_, min}
+use native.Mathlib.Omega.{arith}
+use mathlib.Core.Path.{_≡_, refl, sym, ap, _∙_}
+use mathlib.Core.Logic.{_⊎_, inl, inr}
+use mathlib.Core.List.{List}
+use lib.ListN.{length, take, drop, replicate, length-take, length-drop}
+use lib.Seq.{sets, length-sets, take-length, take-all}
+use borrow.Author.Tests.{lt-ltb, le-ltb, le-leb, lt-leb}
+use Rattle.words.specs.Words.{setLe64}
+use Rattle.definitions.specs.Location.{Location, moved, location-bytes}
+use Rattle.definitions.specs.Blocks.{Block, Piece, pieces, entry-charge}
+use Rattle.definitions.specs.Causes.{first-cause, refusal-of}
+use Rattle.definitions.specs.Calls.{Capacity, last-number, memory-checks}
+use Rattle.definitions.proofs.Views.{lt-or-le}
+use Rattle.tally.specs.Tallied.{recorded}
+use Rattle.index_memory.specs.Log.{piece-bytes, log-bytes}
+use Rattle.recording.specs.Cut.{part, parts, piece-count, block-nodes}
+use Rattle.memory_header.specs.Answers.{header-of, tally-in, with-tally}
+use Rattle.recording.specs.Record.{grown}
+use Rattle.memory_header.specs.declared.Header as C
+use Rattle.recording.proofs.Cut.{pieces-parts}
+use Rattle.index_memory.proofs.PieceBytes.{piece-parts}
+use Rattle.index_memory.proofs.LogBytes.{log-sets}
+
+-- ---- the ways out of the checks, each behind those before it
+
+module _ (c : Capacity) (nodes entries n : ℕ) (l : Location) where
+  abbrev answer : ℕ
+  answer = refusal-of (first-cause (memory-checks c nodes entries n l))
+
+  pub refused-4 : 4096 < n → 4 ≡ answer
+  refused-4 a = rw (lt-ltb 4096 n a)
+
+  module _ (a : n ≤ 4096) where
+    pub refused-5 : l .destroyed ≤ l .created → 5 ≡ answer
+    refused-5 b = rw (le-ltb 4096 n a, le-leb (l .destroyed) (l .created) b)
+
+    module _ (b : l .created < l .destroyed) where
+      pub refused-6 : last-number < l .address + n → 6 ≡ answer
+      refused-6 d = rw (le-ltb 4096 n a, lt-leb (l .destroyed) (l .created) b, lt-ltb last-number (l .address + n) d)
+
+      module _ (d : l .address + n ≤ last-number) where
+        pub refused-7 : c .nodes < nodes → 7 ≡ answer
+        refused-7 e = rw (le-ltb 4096 n a, lt-leb (l .destroyed) (l .created) b, le-ltb last-number (l .address + n) d, lt-ltb (c .nodes) nodes e)
+
+        module _ (e : nodes ≤ c .nodes) where
+          pub refused-8 : c .entries < entries → 8 ≡ answer
+          refused-8 f =
+              rw (
+                le-ltb 4096 n a,
+                lt-leb (l .destroyed) (l .created) b,
+                le-ltb last-number (l .address + n) d,
+                le-ltb (c .nodes) nodes e,
+                lt-ltb (c .entries) entries f,
+              )
+
+          pub not-refused : entries ≤ c .entries → 0 ≡ answer
+          not-refused f =
+              rw (
+                le-ltb 4096 n a,
+                lt-leb (l .destroyed) (l .created) b,
+                le-ltb last-number (l .address + n) d,
+                le-ltb (c .nodes) nodes e,
+                le-ltb (c .entries) entries f,
+              )
+
+-- ---- the pieces as they are written
+
+-- a piece is written in four parts
+pub put-in-turn : (m₀ m₁ m₂ m₃ m₄ : List ℕ) (at : ℕ) (p : Piece) → length (p .bytes) ≤ 16
+    → m₁ ≡ setLe64 m₀ at (length (p .bytes)) → m₂ ≡ sets m₁ (at + 8) (take (length (p .bytes)) (drop 0 (p .bytes)))
+    → m₃ ≡ sets m₂ (at + 8 + length (p .bytes)) (replicate (at + 24 - (at + 8 + length (p .bytes))) 0)
+    → m₄ ≡ sets m₃ (at + 24) (location-bytes (p .at)) → m₄ ≡ sets m₀ at (piece-bytes p)
+put-in-turn m₀ m₁ m₂ m₃ m₄ at p h e₁ e₂ e₃ e₄ =
+    let n : ℕ = length (p .bytes) in
+    let s : at + 24 - (at + 8 + n) ≡ 16 - n = omega arith in
+    e₄ ∙ rw (e₃, s, e₂, take-length (p .bytes), e₁) (piece-parts m₀ at p h)
+
+-- the bytes of a piece, up to where it ends
+pub part-bytes : (xs : List ℕ) (start end : ℕ) → start ≤ length xs → end ≡ start + min 16 (length xs - start)
+    → take (end - start) (drop start xs) ≡ take 16 (drop start xs)
+part-bytes xs start end h e = go (lt-or-le (length xs - start) 16)
+  where
+    go : (length xs - start < 16) ⊎ (16 ≤ length xs - start) → take (end - start) (drop start xs) ≡ take 16 (drop start xs)
+    go (inl k) =
+        let n : length (drop start xs) ≡ length xs - start = length-drop start xs in
+        take-all (end - start) (drop start xs) (omega arith) ∙ sym (take-all 16 (drop start xs) (omega arith))
+    go (inr k) =
+        let n : end - start ≡ 16 = omega arith in
+        rw n
+
+pub part-written : (m m′ xs : List ℕ) (at start end : ℕ) (l l′ : Location) → start ≤ length xs → end ≡ start + min 16 (length xs - start) → l′ ≡ moved l start
+    → m′ ≡ sets m at (piece-bytes (record { bytes = take (end - start) (drop start xs); at = l′ })) → m′ ≡ sets m at (piece-bytes (part (record { bytes = xs; at = l }) start))
+part-written m m′ xs at start end l l′ h e f g = g ∙ rw (part-bytes xs start end h e, f) refl
+
+-- what is left to be written behind what is done, written, is always the same
+pub record Writing (b : Block) (from : ℕ) (m₀ m : List ℕ) (done left : ℕ) : Type 0 where
+  pub count : done + left ≡ piece-count (length (b .bytes))
+  pub room : from + 48 * (done + left) ≤ length m
+  pub long : length m ≡ length m₀
+  pub same : sets m (from + 48 * done) (log-bytes (parts b left)) ≡ sets m₀ from (log-bytes (pieces b))
+
+module _ (b : Block) (from : ℕ) (m₀ : List ℕ) where
+  pub writing-start : (n : ℕ) → n ≡ piece-count (length (b .bytes)) → from + 48 * piece-count (length (b .bytes)) ≤ length m₀ → Writing b from m₀ m₀ 0 n
+  writing-start n e h =
+      let s : from + 48 * 0 ≡ from = omega arith in
+      record { count = omega arith; room = omega arith; long = refl; same = rw (s, e, pieces-parts b) refl }
+
+  pub writing-turn : {m : List ℕ} {done left : ℕ} → Writing b from m₀ m done left → 0 < left
+      → (m′ : List ℕ) → m′ ≡ sets m (from + 48 * done) (piece-bytes (part b (16 * (left - 1)))) → Writing b from m₀ m′ (done + 1) (left - 1)
+  unfolding parts
+  writing-turn {m} {done} {left} w l m′ e =
+      let s : left ≡ suc (left - 1) = omega arith in
+      let at : ℕ = from + 48 * done in
+      let next : from + 48 * (done + 1) ≡ at + 48 = omega arith in
+      let p : Piece = part b (16 * (left - 1)) in
+      let small : length (p .bytes) ≤ 16 = omega (arith, length-take 16 (drop (16 * (left - 1)) (b .bytes))) in
+      let long : length m′ ≡ length m = ap length e ∙ length-sets m at (piece-bytes p) in
+      let t : sets m at (log-bytes (parts b (suc (left - 1)))) ≡ sets (sets m at (piece-bytes p)) (at + 48) (log-bytes (parts b (left - 1))) =
+      log-sets p (parts b (left - 1)) m at small in
+      record {
+        count = omega (arith, w .count);
+        room = omega (arith, w .room);
+        long = long ∙ w .long;
+        same = rw (next, e) (sym t ∙ sym (ap (λ (k : ℕ). sets m at (log-bytes (parts b k))) s) ∙ w .same);
+      }
+
+  pub writing-end : {m : List ℕ} {done left : ℕ} → Writing b from m₀ m done left → left ≤ 0 → m ≡ sets m₀ from (log-bytes (pieces b))
+  unfolding parts log-bytes
+  writing-end {m} {done} {left} w l =
+      let s : left ≡ 0 = omega arith in
+      sym (ap (λ (k : ℕ). sets m (from + 48 * done) (log-bytes (parts b k))) s) ∙ w .same
+
+-- the header that counts a block: what it charges goes to the tally
+pub grown-by : (h r : C.Header) (n x y z : ℕ) → x ≡ block-nodes n → y ≡ entry-charge n → z ≡ piece-count n
+    → r ≡ with-tally h (recorded (tally-in h) x y) (h .payload + z) → header-of r ≡ grown (header-of h) n
+grown-by h r n x y z e f g w = ap header-of w ∙ rw (e, f, g) refl

@@ -1,0 +1,89 @@
+-- A block that is taken: what its checks tell, and that its pieces fit and are sound. Assumes nothing.
+use Prim.Native.Nat.{ℕ, _+_}
+use native.Mathlib.Omega.{arith}
+use mathlib.Core.Path.{_≡_, sym, ap, _∙_}
+use mathlib.Core.List.{List, _++_}
+use lib.ListN.{length, length-append}
+use Rattle.definitions.specs.Blocks.{Block, Piece, pieces, entry-charge, nodes-tallied, entries-tallied}
+use Rattle.definitions.specs.Causes.{Check, first-cause, refusal-of}
+use Rattle.definitions.specs.Calls.{Capacity, block-checks}
+use Rattle.definitions.specs.Recording.{Sound}
+use Rattle.definitions.proofs.Cutting.{PieceOf, piece-of}
+use Rattle.definitions.proofs.Tallied.{nodes-with, entries-with}
+use Rattle.definitions.proofs.Checks.{none-applies, none-refused}
+use Rattle.definitions.proofs.Taken.{passed}
+use Rattle.location.specs.Fits.{Fits}
+use Rattle.memory_header.specs.Layout.{Room}
+use Rattle.index_memory.specs.Index.{open-header}
+use Rattle.recording.specs.Cut.{piece-count, block-nodes}
+use Rattle.recording.specs.Record.{judged, grown, Fitting}
+use Rattle.recording.specs.Promises.{ReadAppended}
+use Rattle.index_memory.proofs.Charges.{charge-count}
+use Rattle.recording.proofs.Cut.{pieces-nodes, pieces-entries, pieces-length}
+use Rattle.index_memory.proofs.LogBytes.{AllFit, AllSound}
+use Rattle.index_memory.proofs.Holding.{open-is}
+use Rattle.recording.proofs.Appending.{read-behind}
+
+-- ---- the checks
+
+-- the tally with a block behind the pieces
+pub tally-nodes : (ps : List Piece) (b : Block) → nodes-tallied (ps ++ pieces b) ≡ nodes-tallied ps + block-nodes (length (b .bytes))
+tally-nodes ps b = nodes-with ps (pieces b) ∙ ap (λ (n : ℕ). nodes-tallied ps + n) (pieces-nodes b)
+
+pub tally-entries : (ps : List Piece) (b : Block) → entries-tallied (ps ++ pieces b) ≡ entries-tallied ps + entry-charge (length (b .bytes))
+tally-entries ps b = entries-with ps (pieces b) ∙ ap (λ (n : ℕ). entries-tallied ps + n) (pieces-entries b)
+
+-- a block by the header that counts the pieces: its refusal, and the header that counts it too
+pub judged-is : (c : Capacity) (ps : List Piece) (b : Block) → judged (open-header c ps) (length (b .bytes)) (b .at) ≡ refusal-of (first-cause (block-checks c ps b))
+judged-is c ps b = rw (tally-nodes ps b, tally-entries ps b)
+
+pub grown-is : (c : Capacity) (ps : List Piece) (b : Block) → grown (open-header c ps) (length (b .bytes)) ≡ open-header c (ps ++ pieces b)
+grown-is c ps b =
+    let n = sym (tally-nodes ps b) in
+    let e = sym (tally-entries ps b) in
+    let k : length ps + piece-count (length (b .bytes)) ≡ length (ps ++ pieces b) = omega (arith, length-append ps (pieces b), pieces-length b) in
+    λ i. record { capacity = c; phase = 0; nodes = n i; entries = e i; payload = k i }
+
+-- a block that no check turned back fits, whatever header is written
+pub fitting : (m : List ℕ) (c : Capacity) (ps : List Piece) (b : Block) → Room m c → refusal-of (first-cause (block-checks c ps b)) ≡ 0 → Fitting m (open-header c ps) b
+fitting m c ps b r z =
+    let cs : List Check = block-checks c ps b in
+    let p = passed c _ _ (length (b .bytes)) (b .at) (none-applies cs (none-refused (first-cause cs) z)) in
+    record {
+      short = p .short;
+      below = p .below;
+      nodes = omega (arith, p .few-nodes, tally-nodes ps b, r .few-nodes);
+      entries = omega (arith, p .few-entries, tally-entries ps b, r .few-entries);
+      count = omega (arith, charge-count (ps ++ pieces b), length-append ps (pieces b), p .few-entries, r .few-entries);
+      room = omega (arith, charge-count (ps ++ pieces b), length-append ps (pieces b), pieces-length b, p .few-entries, r .held);
+    }
+
+-- ---- the pieces
+
+pub sound-pieces : (b : Block) → Sound b → AllSound (pieces b)
+sound-pieces b s p k =
+    let w : PieceOf (b .at) (b .bytes) p = piece-of b p k in
+    record {
+      small = w .small;
+      alive = omega (arith, w .created, w .destroyed, s .alive);
+      below = omega (arith, w .address, w .fits, s .below);
+    }
+
+pub fit-pieces : (b : Block) → Sound b → Fits (b .at) → AllFit (pieces b)
+fit-pieces b s f p k =
+    let w : PieceOf (b .at) (b .bytes) p = piece-of b p k in
+    record {
+      small = w .small;
+      place = record {
+        address = omega (arith, w .address, w .fits, s .below);
+        created = omega (arith, w .created, f .created);
+        destroyed = omega (arith, w .destroyed, f .destroyed);
+      };
+    }
+
+-- a block that is taken goes behind the pieces that are there
+pub read-appended : ReadAppended
+read-appended m c ps b e q f =
+    let p = passed c _ _ _ _ (none-applies (block-checks c ps b) q) in
+    let s : Sound b = record { short = p .short; alive = p .alive; below = p .below } in
+    read-behind m c ps (pieces b) (open-is m c ps e) (fit-pieces b s f) (sound-pieces b s) (p .few-nodes) (p .few-entries)

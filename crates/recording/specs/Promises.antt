@@ -1,0 +1,34 @@
+-- What a reader may conclude of the memory that recording leaves. Assumes nothing.
+use Prim.Native.Nat.{ℕ, _+_, _*_, _≤_, _<_}
+use mathlib.Core.Path.{_≡_}
+use mathlib.Core.List.{List, [], _++_}
+use mathlib.Core.Option.{none}
+use lib.ListN.{length, getD}
+use Rattle.definitions.specs.Blocks.{Block, Piece, pieces}
+use Rattle.definitions.specs.Causes.{first-cause}
+use Rattle.definitions.specs.Calls.{Capacity, header-size, block-checks}
+use Rattle.location.specs.Fits.{Fits}
+use Rattle.memory_header.specs.Layout.{logged-size}
+use Rattle.index_memory.specs.Log.{AllSmall}
+use Rattle.index_memory.specs.Index.{opened, read-index}
+use Rattle.recording.specs.Record.{appended}
+
+-- a block that is taken stands behind the pieces that were there
+abbrev pub ReadAppended : Type 0
+ReadAppended =
+    (m : List ℕ) (c : Capacity) (ps : List Piece) (b : Block) → read-index m ≡ opened c ps → first-cause (block-checks c ps b) ≡ none → Fits (b .at)
+    → read-index (appended m c ps (pieces b)) ≡ opened c (ps ++ pieces b)
+
+-- the memory is as long as it was
+abbrev pub LengthAppended : Type 0
+LengthAppended = (m : List ℕ) (c : Capacity) (ps new : List Piece) → length (appended m c ps new) ≡ length m
+
+-- a memory of bytes is as it was where no pieces are appended
+abbrev pub AppendedNone : Type 0
+AppendedNone = (m : List ℕ) (c : Capacity) (ps : List Piece) → ((k : ℕ) → getD m k 0 < 256) → read-index m ≡ opened c ps → appended m c ps [] ≡ m
+
+-- pieces, and then more pieces, are all of them at once
+abbrev pub AppendedTwice : Type 0
+AppendedTwice =
+    (m : List ℕ) (c : Capacity) (ps new more : List Piece) → AllSmall new → AllSmall more → header-size + logged-size * (length ps + length new + length more) ≤ length m
+    → appended (appended m c ps new) c (ps ++ new) more ≡ appended m c ps (new ++ more)

@@ -1,0 +1,167 @@
+// Recording into an open index: a block is judged, appended to the log, and the header put.
+use definitions::PIECE_SIZE;
+use index_memory::LAST_NUMBER;
+use location::SpacetimeLocation;
+use memory_header::HEADER_SIZE;
+use memory_header::Header;
+use memory_header::LOGGED_SIZE;
+ghost use mathlib.Core.Path.{_≡_};
+ghost use Prim.Native.Nat.{_+_, _-_, _*_, _^_, _≤_, _<_, min};
+ghost use lib.ListN.{length};
+ghost use lib.Seq.{sets};
+ghost use Rattle.definitions.specs.Blocks.{entry-charge, pieces};
+ghost use Rattle.location.specs.Plain.{plain};
+ghost use Rattle.memory_header.specs.Layout.{header-at};
+ghost use Rattle.memory_header.specs.Answers.{header-of};
+ghost use Rattle.index_memory.specs.Log.{piece-bytes, log-bytes, log-in};
+ghost use Rattle.index_memory.specs.Index.{read-index, opened};
+ghost use Rattle.recording.specs.Cut.{part, piece-count, block-nodes};
+ghost use Rattle.recording.specs.Record.{record-memory, judged, logged, grown, Fitting};
+ghost use Rattle.recording.specs.Recorded.{recorded-as};
+
+// ── recording: a block is judged, its pieces are appended, the header is put ──
+
+// Whether a block is taken, or why not.
+pub enum Recorded {
+    Taken,
+    Refused(u64),
+}
+
+// The nodes that the pieces of a block of n bytes charge together.
+fn block_nodes(n: usize) -> usize
+    requires { ⌜ n ≤ 4096 ⌝ }
+    ensures { λ r. ⌜ r ≡ block-nodes n ⌝ }
+{
+    n / PIECE_SIZE * 136 + index_memory::piece_nodes(n % PIECE_SIZE)
+}
+
+// How many pieces a block of n bytes has.
+fn piece_count(n: usize) -> usize
+    requires { ⌜ n ≤ 4096 ⌝ }
+    ensures { λ r. ⌜ r ≡ piece-count n ⌝ }
+{
+    if n == 0 {
+        return 1;
+    }
+    (n + PIECE_SIZE - 1) / PIECE_SIZE
+}
+
+// The number of the refusal of a Memory block of n bytes behind the pieces that h counts, 0 where it is taken.
+pub fn judge(h: Header, n: usize, l: SpacetimeLocation) -> u64
+    requires { ⌜ (h .nodes ≤ h .«node_room») × (h .entries ≤ h .«entry_room») ⌝ }
+    ensures { λ r. ⌜ r ≡ judged (header-of h) n (plain l) ⌝ }
+{
+    if definitions::DATA_LIMIT < n {
+        return definitions::DATA_TOO_LONG;
+    }
+    if l.destroyed_at.0 <= l.created_at.0 {
+        return definitions::NO_LIFE;
+    }
+    if LAST_NUMBER - (n as u64) < l.address.0 {
+        return definitions::ADDRESS_TOO_HIGH;
+    }
+    let nodes = block_nodes(n);
+    let entries = index_memory::entry_charge(n);
+    if h.node_room - h.nodes < nodes {
+        return definitions::TOO_MANY_NODES;
+    }
+    if h.entry_room - h.entries < entries {
+        return definitions::TOO_MANY_ENTRIES;
+    }
+    0
+}
+
+// Writes a piece to the 48 bytes from index at on: its length, its bytes, zeros up to 16 bytes, its location.
+fn put_piece(mem: &mut [u8], at: usize, piece: &[u8], l: SpacetimeLocation)
+    requires { ⌜ (at + 48 ≤ length (now mem)) × (length (now piece) ≤ 16) ⌝ }
+    ensures { λ _. ⌜ now (mem .exit) ≡ sets (now (mem .entry)) at (piece-bytes (record { bytes = now (piece .entry); at = plain l })) ⌝ }
+{
+    let n = piece.len();
+    words::put64(mem, at, n as u64);
+    words::copy(piece, 0, mem, at + 8, n);
+    words::clear(mem, at + 8 + n, at + 24);
+    location::put_location(mem, at + 24, l);
+}
+
+// Where the piece of a block of n bytes from byte start on ends.
+fn part_end(n: usize, start: usize) -> usize
+    requires { ⌜ start ≤ n ⌝ }
+    ensures { λ r. ⌜ r ≡ start + min 16 (n - start) ⌝ }
+{
+    if n - start < PIECE_SIZE {
+        return n;
+    }
+    start + PIECE_SIZE
+}
+
+// Writes the piece of a block from byte start on.
+fn put_part(mem: &mut [u8], at: usize, data: &[u8], start: usize, l: SpacetimeLocation)
+    requires { ⌜ (at + 48 ≤ length (now mem)) × (start ≤ length (now «data»)) × (l .address .0 + start < 2 ^ 64) ⌝ }
+    ensures { λ _. ⌜ now (mem .exit) ≡ sets (now (mem .entry)) at (piece-bytes (part (record { bytes = now («data» .entry); at = plain l }) start)) ⌝ }
+{
+    let end = part_end(data.len(), start);
+    let piece = &data[start..end];
+    put_piece(mem, at, piece, l.moved(start));
+}
+
+// Writes the pieces of a block from index from on, the hindmost first.
+fn put_pieces(mem: &mut [u8], from: usize, data: &[u8], l: SpacetimeLocation)
+    requires { ⌜ (length (now «data») ≤ 4096) × (l .address .0 + length (now «data») < 2 ^ 64) × (from + 48 * piece-count (length (now «data»)) ≤ length (now mem)) ⌝ }
+    ensures { λ _. ⌜ now (mem .exit) ≡ sets (now (mem .entry)) from (log-bytes (pieces (record { bytes = now («data» .entry); at = plain l }))) ⌝ }
+{
+    let mut left = piece_count(data.len());
+    let mut done = 0;
+    while 0 < left {
+        left -= 1;
+        put_part(mem, from + LOGGED_SIZE * done, data, PIECE_SIZE * left, l);
+        done += 1;
+    }
+}
+
+// The header that counts a block of n bytes too.
+fn grown(h: Header, n: usize) -> Header
+    requires { ⌜ (n ≤ 4096) × (h .nodes + block-nodes n < 2 ^ 64) × (h .entries + entry-charge n < 2 ^ 64) × (h .payload + piece-count n < 2 ^ 64) ⌝ }
+    ensures { λ r. ⌜ header-of r ≡ grown (header-of h) n ⌝ }
+{
+    let nodes = block_nodes(n);
+    let entries = index_memory::entry_charge(n);
+    memory_header::charged(h, nodes, entries, h.payload + piece_count(n))
+}
+
+// Appends the pieces of a block that fits to the log, and answers the header that counts them, which is not written here.
+pub fn append(mem: &mut [u8], h: Header, data: &[u8], l: SpacetimeLocation) -> Header
+    requires { ⌜ Fitting (now mem) (header-of h) (record { bytes = now «data»; at = plain l }) ⌝ }
+    ensures header { λ r. ⌜ header-of r ≡ grown (header-of h) (length (now («data» .entry))) ⌝ }
+    ensures memory { λ _. ⌜ now (mem .exit) ≡ logged (now (mem .entry)) (header-of h) (pieces (record { bytes = now («data» .entry); at = plain l })) ⌝ }
+{
+    put_pieces(mem, HEADER_SIZE + LOGGED_SIZE * h.payload, data, l);
+    grown(h, data.len())
+}
+
+// Records a block into an open index: h is the header of its memory.
+// Only the bytes of a block of kind Memory are recorded.
+pub fn record_open(
+    mem: &mut [u8],
+    h: Header,
+    kind: u64,
+    l: SpacetimeLocation,
+    data: &[u8],
+) -> Recorded
+    requires { ⌜ (header-at (now mem) ≡ header-of h) × (read-index (now mem) ≡ opened (header-of h .capacity) (log-in (now mem) (h .payload) 64)) ⌝ }
+    ensures answer { λ r. ⌜ r ≡ recorded-as (record-memory (now (mem .entry)) kind (record { bytes = now («data» .entry); at = plain l }) .refusal) ⌝ }
+    ensures memory { λ _. ⌜ now (mem .exit) ≡ record-memory (now (mem .entry)) kind (record { bytes = now («data» .entry); at = plain l }) .memory ⌝ }
+{
+    if (definitions::LAST_KIND as u64) < kind {
+        return Recorded::Refused(definitions::UNKNOWN_KIND);
+    }
+    if kind != definitions::MEMORY_KIND as u64 {
+        return Recorded::Taken;
+    }
+    let refusal = judge(h, data.len(), l);
+    if refusal != 0 {
+        return Recorded::Refused(refusal);
+    }
+    let counted = append(mem, h, data, l);
+    memory_header::put_header(mem, counted);
+    Recorded::Taken
+}
