@@ -10,13 +10,13 @@ ghost use Rattle.image_format.specs.Turns.{Within, Skips};
 ghost use Rattle.fields.specs.Thin.{Thin, ThinRun};
 
 // The nodes and entries of an image.
-pub struct Tally {
+pub struct Counts {
     pub nodes: usize,
     pub entries: usize,
 }
 
 pub enum Layout {
-    Right(Tally),
+    Right(Counts),
     Refused(u64),
 }
 

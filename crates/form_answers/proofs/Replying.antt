@@ -9,8 +9,8 @@ use lib.Dec.{eqb}
 use Rattle.definitions.specs.Program.{text, decimal, Reply, refused}
 use Rattle.recording.specs.Recorded.{recorded-as}
 use Rattle.recording.specs.declared.Recorded.the-variants as R
-use Rattle.string_index.specs.Answers.{finished-as}
-use Rattle.string_index.specs.declared.Finished.the-variants as F
+use Rattle.memory_header.specs.Answers.{outcome-as}
+use Rattle.memory_header.specs.declared.Outcome.the-variants as F
 use Rattle.replies.specs.Written.{Written, reply-bytes}
 use Rattle.replies.proofs.Writing.{written-same}
 use Rattle.row_replies.specs.Program.{replies-bytes}
@@ -53,14 +53,14 @@ was-refused n x rs e = go (eqb n 0) e
     go true k = absurd (let z : _≡_ {A = ℕ} 0 1 = cc in omega arith)
     go false k = cc
 
-pub was-finished : (n : ℕ) (rs : List Reply) → F.Done ≡ finished-as n → unless-number n rs ≡ rs
+pub was-finished : (n : ℕ) (rs : List Reply) → F.Done ≡ outcome-as n → unless-number n rs ≡ rs
 was-finished n rs e = go (eqb n 0) e
   where
     go : (o : Bool) → F.Done ≡ cond o F.Done (F.Refused n) → cond o rs (refused n ∷ []) ≡ rs
     go true k = refl
     go false k = absurd (let z : _≡_ {A = ℕ} 0 1 = cc in omega arith)
 
-pub not-finished : (n x : ℕ) (rs : List Reply) → F.Refused x ≡ finished-as n → unless-number n rs ≡ refused x ∷ []
+pub not-finished : (n x : ℕ) (rs : List Reply) → F.Refused x ≡ outcome-as n → unless-number n rs ≡ refused x ∷ []
 not-finished n x rs e = go (eqb n 0) e
   where
     go : (o : Bool) → F.Refused x ≡ cond o F.Done (F.Refused n) → cond o rs (refused n ∷ []) ≡ refused x ∷ []

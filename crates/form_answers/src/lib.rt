@@ -1,8 +1,7 @@
 // The answer to one form, a block, a finish or a find, on a memory.
 use forms::Form;
 use location::SpacetimeLocation;
-use string_index::Finished;
-use string_index::Opened;
+use string_index::Outcome;
 use string_index::Recorded;
 ghost use mathlib.Core.Path.{_≡_};
 ghost use Prim.Native.Nat.{_+_, _≤_, min};
@@ -11,7 +10,7 @@ ghost use mathlib.Core.Option.{some};
 ghost use Rattle.definitions.specs.Program.{block, finish, find, found, program-capacity};
 ghost use Rattle.location.specs.Plain.{plain};
 ghost use Rattle.memory_header.specs.Opening.{open-memory};
-ghost use Rattle.memory_header.specs.Answers.{opened-as};
+ghost use Rattle.memory_header.specs.Answers.{outcome-as};
 ghost use Rattle.row_replies.specs.Program.{replies-bytes};
 ghost use Rattle.form_answers.specs.Memory.{form-answer, memory-after-form, line-answer, memory-after-line};
 ghost use Rattle.form_answers.specs.Answered.{AnsweredBy};
@@ -23,8 +22,8 @@ const SCRATCH_SIZE: usize = 6144;
 const ROW_LIMIT: usize = 64;
 
 // Opens the index of the program.
-pub fn open(mem: &mut [u8]) -> Opened
-    ensures answer { λ r. ⌜ r ≡ opened-as (open-memory (now (mem .entry)) program-capacity .refusal) ⌝ }
+pub fn open(mem: &mut [u8]) -> Outcome
+    ensures answer { λ r. ⌜ r ≡ outcome-as (open-memory (now (mem .entry)) program-capacity .refusal) ⌝ }
     ensures memory { λ _. ⌜ now (mem .exit) ≡ open-memory (now (mem .entry)) program-capacity .memory ⌝ }
 {
     string_index::open(mem, 1000, 400)
@@ -59,8 +58,8 @@ fn answer_finish(mem: &mut [u8], out: &mut [u8], at: usize) -> usize
     ensures { λ r. ⌜ AnsweredBy (now (out .entry)) at (replies-bytes (form-answer (now (mem .entry)) (some finish))) (memory-after-form (now (mem .entry)) (some finish)) (now (out .exit)) (now (mem .exit)) r ⌝ }
 {
     match string_index::finish(mem) {
-        Finished::Done => replies::put_finished(out, at),
-        Finished::Refused(n) => replies::put_refused(out, at, n),
+        Outcome::Done => replies::put_finished(out, at),
+        Outcome::Refused(n) => replies::put_refused(out, at, n),
     }
 }
 

@@ -6,17 +6,15 @@ use mathlib.Core.List.{List}
 use lib.ListN.{set}
 use lib.Dec.{eqb}
 use Rattle.definitions.proofs.Views.{Eq, eq}
-use Rattle.memory_header.specs.Answers.{opened-as, opened-number}
+use Rattle.memory_header.specs.Answers.{outcome-as, outcome-number}
 use Rattle.recording.specs.Recorded.{recorded-as, recorded-number}
-use Rattle.memory_header.specs.declared.Opened.the-variants as O
+use Rattle.memory_header.specs.declared.Outcome.the-variants as O
 use Rattle.recording.specs.declared.Recorded.the-variants as R
 use Rattle.saving.specs.declared.Saved.{Saved}
 use Rattle.saving.specs.declared.Saved.the-variants as S
-use Rattle.saving.specs.declared.Loaded.the-variants as L
-use Rattle.saving.specs.Answers.{saved-as, loaded-as, loaded-number}
-use Rattle.string_index.specs.declared.Finished.the-variants as F
+use Rattle.saving.specs.Answers.{saved-as}
 use Rattle.string_index.specs.declared.Answer.the-variants as A
-use Rattle.string_index.specs.Answers.{finished-as, finished-number, answer-as, answer-number}
+use Rattle.string_index.specs.Answers.{answer-as, answer-number}
 use Rattle.helmapricot.specs.Counts.{put-unless-refused, count-after}
 
 -- the number that a save's answer is handed over as, and the place of the size
@@ -29,10 +27,10 @@ size-after (S.Bytes n) xs = set xs 0 n
 size-after (S.Refused n) xs = xs
 
 module _ (n : ℕ) where
-  pub opened-back : opened-number (opened-as n) ≡ n
-  opened-back = go (eqb n 0) (eq n 0)
+  pub outcome-back : outcome-number (outcome-as n) ≡ n
+  outcome-back = go (eqb n 0) (eq n 0)
     where
-      go : (o : Bool) → Eq o n 0 → opened-number (cond o O.Done (O.Refused n)) ≡ n
+      go : (o : Bool) → Eq o n 0 → outcome-number (cond o O.Done (O.Refused n)) ≡ n
       go true e = sym e
       go false h = refl
 
@@ -40,20 +38,6 @@ module _ (n : ℕ) where
   recorded-back = go (eqb n 0) (eq n 0)
     where
       go : (o : Bool) → Eq o n 0 → recorded-number (cond o R.Taken (R.Refused n)) ≡ n
-      go true e = sym e
-      go false h = refl
-
-  pub finished-back : finished-number (finished-as n) ≡ n
-  finished-back = go (eqb n 0) (eq n 0)
-    where
-      go : (o : Bool) → Eq o n 0 → finished-number (cond o F.Done (F.Refused n)) ≡ n
-      go true e = sym e
-      go false h = refl
-
-  pub loaded-back : loaded-number (loaded-as n) ≡ n
-  loaded-back = go (eqb n 0) (eq n 0)
-    where
-      go : (o : Bool) → Eq o n 0 → loaded-number (cond o L.Done (L.Refused n)) ≡ n
       go true e = sym e
       go false h = refl
 

@@ -2,13 +2,11 @@
 use block_stream::Block;
 use block_stream::Read;
 use location::SpacetimeLocation;
-use memory_header::Opened;
+use memory_header::Outcome;
 use recording::Recorded;
 use rows::Row;
-use saving::Loaded;
 use saving::Saved;
 use string_index::Answer;
-use string_index::Finished;
 ghost use mathlib.Core.Path.{_≡_};
 ghost use Prim.Native.Nat.{_-_, _≤_};
 ghost use lib.ListN.{length};
@@ -17,24 +15,24 @@ ghost use mathlib.Core.List.{[], _∷_};
 ghost use Rattle.definitions.specs.BlockStream.{read-block};
 ghost use Rattle.definitions.specs.Causes.{ScratchAfter};
 ghost use Rattle.memory_header.specs.Opening.{open-memory};
-ghost use Rattle.memory_header.specs.Answers.{opened-number};
+ghost use Rattle.memory_header.specs.Answers.{outcome-number};
 ghost use Rattle.recording.specs.Record.{record-memory};
 ghost use Rattle.recording.specs.Recorded.{recorded-number};
 ghost use Rattle.rows.specs.Rows.{numbers-of};
 ghost use Rattle.string_index.specs.Finish.{finish-memory};
 ghost use Rattle.string_index.specs.Search.{search-memory};
-ghost use Rattle.string_index.specs.Answers.{finished-number, answer-number};
+ghost use Rattle.string_index.specs.Answers.{answer-number};
 ghost use Rattle.saving.specs.Saving.{save-memory, load-memory};
-ghost use Rattle.saving.specs.Answers.{loaded-number};
 ghost use Rattle.helmapricot.specs.Counts.{put-unless-refused, count-after};
 ghost use Rattle.helmapricot.specs.Stream.{stream-number, with-fields};
 
-fn opened_number(r: Opened) -> u64
-    ensures { λ n. ⌜ n ≡ opened-number r ⌝ }
+// The number of a refusal, 0 where the call is done.
+fn outcome_number(r: Outcome) -> u64
+    ensures { λ n. ⌜ n ≡ outcome-number r ⌝ }
 {
     match r {
-        Opened::Done => 0,
-        Opened::Refused(n) => n,
+        Outcome::Done => 0,
+        Outcome::Refused(n) => n,
     }
 }
 
@@ -47,31 +45,13 @@ fn recorded_number(r: Recorded) -> u64
     }
 }
 
-fn finished_number(r: Finished) -> u64
-    ensures { λ n. ⌜ n ≡ finished-number r ⌝ }
-{
-    match r {
-        Finished::Done => 0,
-        Finished::Refused(n) => n,
-    }
-}
-
-fn loaded_number(r: Loaded) -> u64
-    ensures { λ n. ⌜ n ≡ loaded-number r ⌝ }
-{
-    match r {
-        Loaded::Done => 0,
-        Loaded::Refused(n) => n,
-    }
-}
-
 // Opens an index of a capacity in the lent memory.
 #[no_mangle]
 pub extern "C" fn helmapricot_open(mem: &mut [u8], nodes: u64, entries: u64) -> u64
     ensures answer { λ r. ⌜ r ≡ open-memory (now (mem .entry)) (record { nodes = nodes; entries = entries }) .refusal ⌝ }
     ensures memory { λ _. ⌜ now (mem .exit) ≡ open-memory (now (mem .entry)) (record { nodes = nodes; entries = entries }) .memory ⌝ }
 {
-    opened_number(memory_header::open(mem, nodes, entries))
+    outcome_number(memory_header::open(mem, nodes, entries))
 }
 
 // Records a block.
@@ -97,7 +77,7 @@ pub extern "C" fn helmapricot_finish(mem: &mut [u8]) -> u64
     ensures answer { λ r. ⌜ r ≡ finish-memory (now (mem .entry)) .refusal ⌝ }
     ensures memory { λ _. ⌜ now (mem .exit) ≡ finish-memory (now (mem .entry)) .memory ⌝ }
 {
-    finished_number(string_index::finish(mem))
+    outcome_number(string_index::finish(mem))
 }
 
 // Writes how many rows there are, unless the search is refused, and answers the refusal's number.
@@ -153,7 +133,7 @@ pub extern "C" fn helmapricot_load(mem: &mut [u8], img: &[u8]) -> u64
     ensures answer { λ r. ⌜ r ≡ load-memory (now (mem .entry)) (now (img .entry)) .refusal ⌝ }
     ensures memory { λ _. ⌜ now (mem .exit) ≡ load-memory (now (mem .entry)) (now (img .entry)) .memory ⌝ }
 {
-    loaded_number(string_index::load(mem, img))
+    outcome_number(string_index::load(mem, img))
 }
 
 // Writes what is known of a block, with the length of its data.

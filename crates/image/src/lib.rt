@@ -3,7 +3,7 @@ use fields::Children;
 use fields::Due;
 use fields::Layout;
 use fields::Past;
-use fields::Tally;
+use fields::Counts;
 ghost use mathlib.Core.Path.{_≡_};
 ghost use Prim.Native.Nat.{_+_, _*_, _≤_, _<_};
 ghost use lib.ListN.{length};
@@ -121,7 +121,7 @@ pub fn read_image(s: &[u8]) -> Layout
     if root.at != s.len() {
         return Layout::Refused(definitions::IMAGE_BROKEN);
     }
-    Layout::Right(Tally {
+    Layout::Right(Counts {
         nodes: root.nodes,
         entries: root.entries,
     })

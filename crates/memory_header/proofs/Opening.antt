@@ -13,8 +13,8 @@ use Rattle.definitions.specs.Calls.{Capacity, out-of-range, needed}
 use Rattle.definitions.proofs.Views.{Lt, lt}
 use Rattle.memory_header.specs.Layout.{Room, Header, header-at, header-bytes, with-header}
 use Rattle.memory_header.specs.Opening.{Done, open-memory, unless-refused, fresh-memory}
-use Rattle.memory_header.specs.Answers.{opened-as}
-use Rattle.memory_header.specs.declared.Opened.the-variants as O
+use Rattle.memory_header.specs.Answers.{outcome-as}
+use Rattle.memory_header.specs.declared.Outcome.the-variants as O
 use Rattle.memory_header.proofs.HeaderBytes.{HeaderFits, header-written, first-zero, second-zero}
 use Rattle.memory_header.proofs.HeaderFacts.{Range, range, HeaderFacts}
 
@@ -45,19 +45,19 @@ module _ (m : List ℕ) (c : Capacity) where
   abbrev by-test : Bool → Done
   by-test o = unless-refused (cond o (some capacity-refused) none) m (fresh-memory m c)
 
-  pub open-refused : (Room m c → ⊥) → (O.Refused 16 ≡ opened-as (open-memory m c .refusal)) × (m ≡ open-memory m c .memory)
+  pub open-refused : (Room m c → ⊥) → (O.Refused 16 ≡ outcome-as (open-memory m c .refusal)) × (m ≡ open-memory m c .memory)
   unfolding open-memory
   open-refused f = go refuses view
     where
-      go : (o : Bool) → View o → (O.Refused 16 ≡ opened-as (by-test o .refusal)) × (m ≡ by-test o .memory)
+      go : (o : Bool) → View o → (O.Refused 16 ≡ outcome-as (by-test o .refusal)) × (m ≡ by-test o .memory)
       go true v = (refl, refl)
       go false v = absurd (f v)
 
-  pub open-taken : Room m c → (O.Done ≡ opened-as (open-memory m c .refusal)) × (fresh-memory m c ≡ open-memory m c .memory)
+  pub open-taken : Room m c → (O.Done ≡ outcome-as (open-memory m c .refusal)) × (fresh-memory m c ≡ open-memory m c .memory)
   unfolding open-memory
   open-taken f = go refuses view
     where
-      go : (o : Bool) → View o → (O.Done ≡ opened-as (by-test o .refusal)) × (fresh-memory m c ≡ by-test o .memory)
+      go : (o : Bool) → View o → (O.Done ≡ outcome-as (by-test o .refusal)) × (fresh-memory m c ≡ by-test o .memory)
       go true v = absurd (v f)
       go false v = (refl, refl)
 

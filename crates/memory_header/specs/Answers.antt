@@ -11,10 +11,10 @@ use Rattle.definitions.specs.Calls.{needed}
 use Rattle.tally.specs.declared.Tally.{Tally}
 use Rattle.memory_header.specs.declared.Heading.{Heading}
 use Rattle.memory_header.specs.declared.Heading.the-variants.{Right, Broken}
-use Rattle.memory_header.specs.declared.Opened.{Opened}
+use Rattle.memory_header.specs.declared.Outcome.{Outcome}
 use Rattle.memory_header.specs.Layout.{Header, header-at, header-right}
 use Rattle.memory_header.specs.declared.Header as C
-use Rattle.memory_header.specs.declared.Opened.the-variants as O
+use Rattle.memory_header.specs.declared.Outcome.the-variants as O
 
 -- the header of the definitions
 abbrev pub header-of : C.Header → Header
@@ -37,14 +37,14 @@ tally-in h = record { nodes = h .nodes; entries = h .entries; phase = h .phase }
 abbrev pub with-tally : C.Header → Tally → ℕ → C.Header
 with-tally h t payload = record { «node_room» = h .«node_room»; «entry_room» = h .«entry_room»; phase = t .phase; nodes = t .nodes; entries = t .entries; payload = payload }
 
--- what opening answers for the number of its refusal, which is 0 where it is not refused
-abbrev pub opened-as : ℕ → Opened
-opened-as n = cond (eqb n 0) O.Done (O.Refused n)
+-- what a call answers for the number of its refusal, which is 0 where it is not refused
+abbrev pub outcome-as : ℕ → Outcome
+outcome-as n = cond (eqb n 0) O.Done (O.Refused n)
 
 -- the number of a refusal, 0 where the call was not refused
-abbrev pub opened-number : Opened → ℕ
-opened-number O.Done = 0
-opened-number (O.Refused n) = n
+abbrev pub outcome-number : Outcome → ℕ
+outcome-number O.Done = 0
+outcome-number (O.Refused n) = n
 
 -- the first part of the rule of a header: its capacity, which the memory holds, and its two zeros
 pub record Front (m : List ℕ) (nodes entries : ℕ) : Type 0 where

@@ -9,7 +9,7 @@ ghost use Rattle.definitions.specs.Calls.{needed, out-of-range};
 ghost use Rattle.tally.specs.Tallied.{recorded, finished};
 ghost use Rattle.memory_header.specs.Layout.{payload-size, with-header};
 ghost use Rattle.memory_header.specs.Opening.{open-memory};
-ghost use Rattle.memory_header.specs.Answers.{header-of, heading-of, heading-at, Front, opened-as, tally-in, with-tally};
+ghost use Rattle.memory_header.specs.Answers.{header-of, heading-of, heading-at, Front, outcome-as, tally-in, with-tally};
 
 // What the header takes, and what a capacity needs for each node and each entry.
 pub const HEADER_SIZE: usize = 64;
@@ -38,7 +38,8 @@ pub enum Heading {
     Broken,
 }
 
-pub enum Opened {
+// Whether a call is done, or the number of its refusal.
+pub enum Outcome {
     Done,
     Refused(u64),
 }
@@ -194,20 +195,20 @@ pub fn closed(h: Header, nodes: usize, entries: usize, payload: usize) -> Header
 // ── opening ──
 
 // Opens an index of a capacity in the lent memory: only the header is written.
-pub fn open(mem: &mut [u8], nodes: u64, entries: u64) -> Opened
-    ensures answer { λ r. ⌜ r ≡ opened-as (open-memory (now (mem .entry)) (record { nodes = nodes; entries = entries }) .refusal) ⌝ }
+pub fn open(mem: &mut [u8], nodes: u64, entries: u64) -> Outcome
+    ensures answer { λ r. ⌜ r ≡ outcome-as (open-memory (now (mem .entry)) (record { nodes = nodes; entries = entries }) .refusal) ⌝ }
     ensures memory { λ _. ⌜ now (mem .exit) ≡ open-memory (now (mem .entry)) (record { nodes = nodes; entries = entries }) .memory ⌝ }
 {
     if !is_capacity(nodes) {
-        return Opened::Refused(definitions::CAPACITY_REFUSED);
+        return Outcome::Refused(definitions::CAPACITY_REFUSED);
     }
     if !is_capacity(entries) {
-        return Opened::Refused(definitions::CAPACITY_REFUSED);
+        return Outcome::Refused(definitions::CAPACITY_REFUSED);
     }
     let node_room = nodes as usize;
     let entry_room = entries as usize;
     if mem.len() < needed(node_room, entry_room) {
-        return Opened::Refused(definitions::CAPACITY_REFUSED);
+        return Outcome::Refused(definitions::CAPACITY_REFUSED);
     }
     put_header(
         mem,
@@ -220,5 +221,5 @@ pub fn open(mem: &mut [u8], nodes: u64, entries: u64) -> Opened
             payload: 0,
         },
     );
-    Opened::Done
+    Outcome::Done
 }

@@ -32,8 +32,8 @@ use Rattle.finished_memory.specs.Room.{capacity-of}
 use Rattle.finished_memory.proofs.Standing.{closed-is}
 use Rattle.finished_memory.proofs.Holds.{part-bytes, part-small}
 use Rattle.saving.specs.Saving.{Saving, save-by, save-memory, load-by, load-memory}
-use Rattle.saving.specs.Answers.{loaded-as}
-use Rattle.saving.specs.declared.Loaded.the-variants as L
+use Rattle.memory_header.specs.Answers.{outcome-as}
+use Rattle.memory_header.specs.declared.Outcome.the-variants as L
 use Rattle.saving.proofs.Faults.{Number}
 
 -- ── an image that passes the test ──
@@ -70,7 +70,7 @@ module _ (m s buffer : List ℕ) (c : Capacity) (t : Trie) (holds : read-index m
 -- ── load ──
 
 -- a number that is not 0 is answered as a refusal
-pub refused-as : (n : ℕ) → (n ≡ 0 → ⊥) → L.Refused n ≡ loaded-as n
+pub refused-as : (n : ℕ) → (n ≡ 0 → ⊥) → L.Refused n ≡ outcome-as n
 refused-as n h = rw (ne-eqb n 0 h) refl
 
 -- an image of this layout, loaded where the capacity is c

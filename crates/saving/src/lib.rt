@@ -1,28 +1,24 @@
 // Saving the image of a finished index, and loading an image in place of what a memory holds.
 use fields::Layout;
-use fields::Tally;
+use fields::Counts;
 use memory_header::HEADER_SIZE;
 use memory_header::Header;
+use memory_header::Outcome;
 ghost use mathlib.Core.Path.{_≡_};
 ghost use mathlib.Core.Option.{some};
 ghost use Rattle.image_format.specs.Held.{trie-in};
 ghost use Rattle.image_format.specs.Reading.{right};
 ghost use Rattle.index_rule.specs.Check.{check-image};
 ghost use Rattle.index_memory.specs.Index.{finished, image-part, read-index};
-ghost use Rattle.memory_header.specs.Answers.{header-of};
+ghost use Rattle.memory_header.specs.Answers.{header-of, outcome-as};
 ghost use Rattle.inspecting.specs.Held.{ImageIn};
 ghost use Rattle.finished_memory.specs.Room.{capacity-of};
 ghost use Rattle.saving.specs.Saving.{save-memory, load-memory};
-ghost use Rattle.saving.specs.Answers.{saved-as, loaded-as};
+ghost use Rattle.saving.specs.Answers.{saved-as};
 
 // How many bytes of the save buffer are the image, or a refusal.
 pub enum Saved {
     Bytes(usize),
-    Refused(u64),
-}
-
-pub enum Loaded {
-    Done,
     Refused(u64),
 }
 
@@ -42,32 +38,32 @@ pub fn save_finished(mem: &[u8], h: Header, out: &mut [u8]) -> Saved
 }
 
 // Loads an image that is right, with this tally, if the capacity in h has room for it.
-fn load_right(mem: &mut [u8], h: Header, t: Tally, s: &[u8]) -> Loaded
+fn load_right(mem: &mut [u8], h: Header, t: Counts, s: &[u8]) -> Outcome
     requires { ⌜ (capacity-of (read-index (now mem)) ≡ some (header-of h .capacity)) × (check-image (now s) ≡ right (t .nodes) (t .entries)) ⌝ }
-    ensures answer { λ r. ⌜ r ≡ loaded-as (load-memory (now (mem .entry)) (now (s .entry)) .refusal) ⌝ }
+    ensures answer { λ r. ⌜ r ≡ outcome-as (load-memory (now (mem .entry)) (now (s .entry)) .refusal) ⌝ }
     ensures memory { λ _. ⌜ now (mem .exit) ≡ load-memory (now (mem .entry)) (now (s .entry)) .memory ⌝ }
 {
     if h.node_room < t.nodes {
-        return Loaded::Refused(definitions::TOO_MANY_NODES);
+        return Outcome::Refused(definitions::TOO_MANY_NODES);
     }
     if h.entry_room < t.entries {
-        return Loaded::Refused(definitions::TOO_MANY_ENTRIES);
+        return Outcome::Refused(definitions::TOO_MANY_ENTRIES);
     }
     let payload = s.len();
     words::copy(s, 0, mem, HEADER_SIZE, payload);
     let closed = memory_header::closed(h, t.nodes, t.entries, payload);
     finished_memory::put_finished(mem, closed);
-    Loaded::Done
+    Outcome::Done
 }
 
 // Loads an image in place of what a memory holds, whose capacity is in h: nothing else of it is read.
-pub fn load_into(mem: &mut [u8], h: Header, s: &[u8]) -> Loaded
+pub fn load_into(mem: &mut [u8], h: Header, s: &[u8]) -> Outcome
     requires { ⌜ capacity-of (read-index (now mem)) ≡ some (header-of h .capacity) ⌝ }
-    ensures answer { λ r. ⌜ r ≡ loaded-as (load-memory (now (mem .entry)) (now (s .entry)) .refusal) ⌝ }
+    ensures answer { λ r. ⌜ r ≡ outcome-as (load-memory (now (mem .entry)) (now (s .entry)) .refusal) ⌝ }
     ensures memory { λ _. ⌜ now (mem .exit) ≡ load-memory (now (mem .entry)) (now (s .entry)) .memory ⌝ }
 {
     match index_rule::check(s) {
-        Layout::Refused(n) => Loaded::Refused(n),
+        Layout::Refused(n) => Outcome::Refused(n),
         Layout::Right(t) => load_right(mem, h, t, s),
     }
 }

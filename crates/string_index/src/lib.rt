@@ -1,12 +1,11 @@
 // The calls of the index. Each but opening inspects the lent memory first, so none asks anything of it.
 use inspecting::Held;
 use location::SpacetimeLocation;
-pub use memory_header::Opened;
+pub use memory_header::Outcome;
 pub use memory_header::open;
 pub use recording::Recorded;
 pub use row_buffer::Finding;
 pub use rows::Row;
-pub use saving::Loaded;
 pub use saving::Saved;
 ghost use mathlib.Core.Path.{_≡_};
 ghost use lib.ListN.{length};
@@ -16,10 +15,11 @@ ghost use Rattle.recording.specs.Record.{record-memory};
 ghost use Rattle.recording.specs.Recorded.{recorded-as};
 ghost use Rattle.rows.specs.Rows.{numbers-of};
 ghost use Rattle.saving.specs.Saving.{save-memory, load-memory};
-ghost use Rattle.saving.specs.Answers.{saved-as, loaded-as};
+ghost use Rattle.saving.specs.Answers.{saved-as};
+ghost use Rattle.memory_header.specs.Answers.{outcome-as};
 ghost use Rattle.string_index.specs.Finish.{finish-memory};
 ghost use Rattle.string_index.specs.Search.{search-memory};
-ghost use Rattle.string_index.specs.Answers.{finished-as, answer-as};
+ghost use Rattle.string_index.specs.Answers.{answer-as};
 
 // Records a block: the bytes of one of kind Memory go into an open index.
 pub fn record(mem: &mut [u8], kind: u64, l: SpacetimeLocation, data: &[u8]) -> Recorded
@@ -33,24 +33,18 @@ pub fn record(mem: &mut [u8], kind: u64, l: SpacetimeLocation, data: &[u8]) -> R
     }
 }
 
-// Whether an index is finished, or why not.
-pub enum Finished {
-    Done,
-    Refused(u64),
-}
-
 // Finishes an index: its log becomes an image. Finishing again changes nothing.
-pub fn finish(mem: &mut [u8]) -> Finished
-    ensures answer { λ r. ⌜ r ≡ finished-as (finish-memory (now (mem .entry)) .refusal) ⌝ }
+pub fn finish(mem: &mut [u8]) -> Outcome
+    ensures answer { λ r. ⌜ r ≡ outcome-as (finish-memory (now (mem .entry)) .refusal) ⌝ }
     ensures memory { λ _. ⌜ now (mem .exit) ≡ finish-memory (now (mem .entry)) .memory ⌝ }
 {
     match inspecting::inspect(mem) {
-        Held::Broken => Finished::Refused(definitions::INDEX_RULE_BROKEN),
+        Held::Broken => Outcome::Refused(definitions::INDEX_RULE_BROKEN),
         Held::Open(h) => {
             finishing::finish_open(mem, h);
-            Finished::Done
+            Outcome::Done
         }
-        Held::Finished(_) => Finished::Done,
+        Held::Finished(_) => Outcome::Done,
     }
 }
 
@@ -95,12 +89,12 @@ pub fn save(mem: &[u8], out: &mut [u8]) -> Saved
 }
 
 // Loads an image in place of what the index holds; its capacity stays.
-pub fn load(mem: &mut [u8], image: &[u8]) -> Loaded
-    ensures answer { λ r. ⌜ r ≡ loaded-as (load-memory (now (mem .entry)) (now (image .entry)) .refusal) ⌝ }
+pub fn load(mem: &mut [u8], image: &[u8]) -> Outcome
+    ensures answer { λ r. ⌜ r ≡ outcome-as (load-memory (now (mem .entry)) (now (image .entry)) .refusal) ⌝ }
     ensures memory { λ _. ⌜ now (mem .exit) ≡ load-memory (now (mem .entry)) (now (image .entry)) .memory ⌝ }
 {
     match inspecting::inspect(mem) {
-        Held::Broken => Loaded::Refused(definitions::INDEX_RULE_BROKEN),
+        Held::Broken => Outcome::Refused(definitions::INDEX_RULE_BROKEN),
         Held::Open(h) => saving::load_into(mem, h, image),
         Held::Finished(h) => saving::load_into(mem, h, image),
     }

@@ -3,9 +3,7 @@
 use libc::STDOUT_FILENO;
 use location::SpacetimeLocation;
 use string_index::Answer;
-use string_index::Finished;
-use string_index::Loaded;
-use string_index::Opened;
+use string_index::Outcome;
 use string_index::Recorded;
 use string_index::Row;
 use string_index::Saved;
@@ -34,8 +32,8 @@ fn print_line(n: u64) {
 
 fn open(mem: &mut [u8], nodes: u64, entries: u64) {
     match string_index::open(mem, nodes, entries) {
-        Opened::Done => {}
-        Opened::Refused(n) => {
+        Outcome::Done => {}
+        Outcome::Refused(n) => {
             io::write_all(STDOUT_FILENO, b"  opening refused");
             print_line(n);
         }
@@ -63,8 +61,8 @@ fn record(mem: &mut [u8], address: u64, data: &[u8]) {
 
 fn finish(mem: &mut [u8]) {
     match string_index::finish(mem) {
-        Finished::Done => {}
-        Finished::Refused(n) => {
+        Outcome::Done => {}
+        Outcome::Refused(n) => {
             io::write_all(STDOUT_FILENO, b"  finish refused");
             print_line(n);
         }
@@ -130,10 +128,10 @@ fn load(mem: &mut [u8], out: &[u8], n: usize) {
     io::write_all(STDOUT_FILENO, b"  image of");
     print_number(n as u64);
     match string_index::load(mem, &out[0..n]) {
-        Loaded::Done => {
+        Outcome::Done => {
             io::write_all(STDOUT_FILENO, b" loaded\n");
         }
-        Loaded::Refused(n) => {
+        Outcome::Refused(n) => {
             io::write_all(STDOUT_FILENO, b" refused");
             print_line(n);
         }

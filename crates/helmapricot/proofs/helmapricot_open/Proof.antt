@@ -1,15 +1,15 @@
 -- `helmapricot_open` keeps the contract of the call that it exports. Assumes nothing.
 use mathlib.Core.Path.{_∙_, ap}
 use borrow.Author.Needs.{needs}
-use Rattle.memory_header.specs.Answers.{opened-number}
-use Rattle.helmapricot.proofs.Numbers.{opened-back}
+use Rattle.memory_header.specs.Answers.{outcome-number}
+use Rattle.helmapricot.proofs.Numbers.{outcome-back}
 use Rattle.helmapricot.proofs.helmapricot_open.Statement.{statement}
 use Rattle.helmapricot.proofs.helmapricot_open.Tie as tie
 
 returns : tie.Need-returns
 returns c =
     let r = c .before .before .before .«open» in
-    (c .opened-number .ensures ∙ ap opened-number (r .ensures .0) ∙ opened-back _, r .ensures .1)
+    (c .outcome-number .ensures ∙ ap outcome-number (r .ensures .0) ∙ outcome-back _, r .ensures .1)
 
 pub helmapricot-open-spec : {M : Type 1} → statement M
 helmapricot-open-spec =

@@ -4,8 +4,7 @@ use borrow.Author.Needs.{needs}
 use denote.Ref.{now}
 use Rattle.fields.specs.Answers.{layout-of}
 use Rattle.memory_header.specs.Opening.{Done}
-use Rattle.memory_header.specs.Answers.{header-of}
-use Rattle.saving.specs.Answers.{loaded-as}
+use Rattle.memory_header.specs.Answers.{header-of, outcome-as}
 use Rattle.saving.proofs.Laws.{refused-as, fault-over, load-as}
 use Rattle.saving.proofs.Theorems.{image-refusal, fault-some}
 use Rattle.saving.proofs.load_into.Statement.{statement}
@@ -36,7 +35,7 @@ returns c =
     let x = sym (ap layout-of (sym (c₁ .n .given .1)) ∙ c₃ .check .ensures) in
     let k = image-refusal (now (a .s)) n x in
     let e = fault-over (header-of (a .h) .capacity) (now (a .mem)) (now (a .s)) n k ∙ load-as (now (a .mem)) (now (a .s)) _ _ (start .pre) x in
-    (refused-as n (fault-some k) ∙ ap (λ (d : Done). loaded-as (d .refusal)) e, ap (λ (d : Done). d .memory) e)
+    (refused-as n (fault-some k) ∙ ap (λ (d : Done). outcome-as (d .refusal)) e, ap (λ (d : Done). d .memory) e)
 
 same-length : tie.Need-same-length
 same-length c = search needs

@@ -6,9 +6,8 @@ use lib.Seq.{length-sets}
 use borrow.Author.Needs.{needs}
 use denote.Ref.{now}
 use Rattle.memory_header.specs.Opening.{Done}
-use Rattle.memory_header.specs.Answers.{header-of}
+use Rattle.memory_header.specs.Answers.{header-of, outcome-as}
 use Rattle.finished_memory.proofs.Holds.{room-of}
-use Rattle.saving.specs.Answers.{loaded-as}
 use Rattle.saving.proofs.Laws.{load-as, nodes-over, entries-over, room, closable, loaded}
 use Rattle.saving.proofs.load_right.Statement.{statement}
 use Rattle.saving.proofs.load_right.Tie as tie
@@ -18,7 +17,7 @@ returns c =
     let start = c .before .before .before .before .before in
     let a = start .args in
     let e = nodes-over (header-of (a .h) .capacity) (now (a .mem)) (now (a .s)) (a .t .nodes) (a .t .entries) (c .if1 .taken) ∙ load-as (now (a .mem)) (now (a .s)) _ _ (start .pre .0) (start .pre .1) in
-    (ap (λ (d : Done). loaded-as (d .refusal)) e, ap (λ (d : Done). d .memory) e)
+    (ap (λ (d : Done). outcome-as (d .refusal)) e, ap (λ (d : Done). d .memory) e)
 
 returns-2 : tie.Need-returns-2
 returns-2 c =
@@ -26,7 +25,7 @@ returns-2 c =
     let start = c₃ .before .before .before .before .before in
     let a = start .args in
     let e = entries-over (header-of (a .h) .capacity) (now (a .mem)) (now (a .s)) (a .t .nodes) (a .t .entries) (c₃ .if1 .left) (c .if2 .taken) ∙ load-as (now (a .mem)) (now (a .s)) _ _ (start .pre .0) (start .pre .1) in
-    (ap (λ (d : Done). loaded-as (d .refusal)) e, ap (λ (d : Done). d .memory) e)
+    (ap (λ (d : Done). outcome-as (d .refusal)) e, ap (λ (d : Done). d .memory) e)
 
 copy-requires : tie.Need-copy-requires
 copy-requires c κs =
@@ -72,7 +71,7 @@ returns-3 c =
     loaded (header-of (a .h) .capacity) (now (a .mem)) (now (a .s)) (a .t .nodes) (a .t .entries) (room-of (now (a .mem)) _ (start .pre .0)) (λ j. omega (arith, c₁₅ .shared-slice-known .given j)) (omega (arith, start .good .1 .1 .1 .0)) (start .pre .1) (c₁₂ .if1 .left) (c₉ .if2 .left)
     (header-of (k .result)) (ap header-of (k .ensures)) (c₇ .copy .last .1 .1 .0) (w .last .0) (c₇ .copy .ensures) (w .ensures)
     ∙ load-as (now (a .mem)) (now (a .s)) _ _ (start .pre .0) (start .pre .1) in
-    (ap (λ (d : Done). loaded-as (d .refusal)) e, ap (λ (d : Done). d .memory) e)
+    (ap (λ (d : Done). outcome-as (d .refusal)) e, ap (λ (d : Done). d .memory) e)
 
 pub load-right-spec : {M : Type 1} → statement M
 load-right-spec =

@@ -4,7 +4,7 @@ use borrow.Author.Needs.{needs}
 use denote.Ref.{now}
 use Rattle.memory_header.specs.Opening.{Done}
 use Rattle.inspecting.specs.Held.{Inspects}
-use Rattle.string_index.specs.Answers.{finished-as}
+use Rattle.memory_header.specs.Answers.{outcome-as}
 use Rattle.string_index.proofs.FinishCall.{finish-as}
 use Rattle.string_index.proofs.finish.Statement.{statement}
 use Rattle.string_index.proofs.finish.Tie as tie
@@ -37,7 +37,7 @@ returns c =
     let m = now (c₂ .before .before .before .args .mem) in
     let w = subst (Inspects m) (c .enum-told .given .1) (c₂ .inspect .ensures) in
     let e = finish-as m _ (w .holds) in
-    (ap (λ (d : Done). finished-as (d .refusal)) e, ap (λ (d : Done). d .memory) e)
+    (ap (λ (d : Done). outcome-as (d .refusal)) e, ap (λ (d : Done). d .memory) e)
 
 same-length-2 : tie.Need-same-length-2
 same-length-2 c = search needs
@@ -49,7 +49,7 @@ returns-2 c =
     let m = now (c₇ .before .before .before .args .mem) in
     let w = subst (Inspects m) (c₅ .h .given .1) (c₇ .inspect .ensures) in
     let e = finish-as m _ (w .holds) in
-    (ap (λ (d : Done). finished-as (d .refusal)) e, c .before .before .finish-open .ensures ∙ ap (λ (d : Done). d .memory) e)
+    (ap (λ (d : Done). outcome-as (d .refusal)) e, c .before .before .finish-open .ensures ∙ ap (λ (d : Done). d .memory) e)
 
 same-length-3 : tie.Need-same-length-3
 same-length-3 c = search needs
@@ -60,7 +60,7 @@ returns-3 c =
     let m = now (c₂ .before .before .before .args .mem) in
     let w = subst (Inspects m) (c .enum-told2 .given .1) (c₂ .inspect .ensures) in
     let e = finish-as m _ (w .holds) in
-    (ap (λ (d : Done). finished-as (d .refusal)) e, ap (λ (d : Done). d .memory) e)
+    (ap (λ (d : Done). outcome-as (d .refusal)) e, ap (λ (d : Done). d .memory) e)
 
 pub finish-spec : {M : Type 1} → statement M
 finish-spec =

@@ -5,7 +5,7 @@ use denote.Ref.{now}
 use Rattle.memory_header.specs.Opening.{Done}
 use Rattle.inspecting.specs.Held.{Inspects}
 use Rattle.finished_memory.specs.Room.{capacity-of}
-use Rattle.saving.specs.Answers.{loaded-as}
+use Rattle.memory_header.specs.Answers.{outcome-as}
 use Rattle.saving.proofs.Laws.{load-broken}
 use Rattle.string_index.proofs.load.Statement.{statement}
 use Rattle.string_index.proofs.load.Tie as tie
@@ -47,7 +47,7 @@ returns c =
     let a = c₂ .before .before .before .before .args in
     let w = subst (Inspects (now (a .mem))) (c .enum-told .given .1) (c₂ .inspect .ensures) in
     let e = load-broken (now (a .mem)) (now (a .image)) (w .holds) in
-    (ap (λ (d : Done). loaded-as (d .refusal)) e, ap (λ (d : Done). d .memory) e)
+    (ap (λ (d : Done). outcome-as (d .refusal)) e, ap (λ (d : Done). d .memory) e)
 
 same-length-2 : tie.Need-same-length-2
 same-length-2 c = search needs
