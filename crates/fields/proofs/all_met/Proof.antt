@@ -1,4 +1,4 @@
--- `image::all_met` meets its contract. Assumes nothing.
+-- `fields::all_met` meets its contract. Assumes nothing.
 use native.Mathlib.Omega.{arith}
 use mathlib.Core.Path.{_∙_, refl, sym}
 use borrow.Author.Needs.{needs}

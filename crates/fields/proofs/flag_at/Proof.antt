@@ -1,4 +1,4 @@
--- `image::flag_at` meets its contract. Assumes nothing.
+-- `fields::flag_at` meets its contract. Assumes nothing.
 use native.Mathlib.Omega.{arith}
 use borrow.Author.Needs.{needs}
 use Rattle.image_format.proofs.Nodes.{flag-cut, flag-node, flag-none, flag-off, flag-other, flag-zero}

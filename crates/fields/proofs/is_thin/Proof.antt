@@ -1,4 +1,4 @@
--- `image::thin::is_thin` meets its contract. Assumes nothing.
+-- `fields::is_thin` meets its contract. Assumes nothing.
 use native.Mathlib.Omega.{arith}
 use borrow.Author.Needs.{needs}
 use Rattle.fields.proofs.ThinNodes.{by-flag, not-true}

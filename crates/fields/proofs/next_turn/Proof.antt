@@ -1,4 +1,4 @@
--- `image::next_turn` meets its contract. Assumes nothing.
+-- `fields::next_turn` meets its contract. Assumes nothing.
 use native.Mathlib.Omega.{arith}
 use Rattle.image_format.proofs.Tables.{skips-least, skips-none}
 use Rattle.fields.specs.Answers.{table-in}

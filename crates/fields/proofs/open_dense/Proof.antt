@@ -1,4 +1,4 @@
--- `image::open_dense` meets its contract. Assumes nothing.
+-- `fields::open_dense` meets its contract. Assumes nothing.
 use native.Mathlib.Omega.{arith}
 use mathlib.Core.Path.{_∙_, refl}
 use borrow.Author.Needs.{needs}

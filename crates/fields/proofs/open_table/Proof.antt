@@ -1,4 +1,4 @@
--- `image::open_table` meets its contract. Assumes nothing.
+-- `fields::open_table` meets its contract. Assumes nothing.
 use Prim.Native.Nat.{ℕ}
 use native.Mathlib.Omega.{arith}
 use mathlib.Core.Path.{_∙_, ap, refl, sym}

@@ -1,4 +1,4 @@
--- `image::read_head` meets its contract. Assumes nothing.
+-- `fields::read_head` meets its contract. Assumes nothing.
 use Prim.Native.Nat.{_+_}
 use native.Mathlib.Omega.{arith}
 use mathlib.Core.Path.{_∙_, _≡_, refl, sym}

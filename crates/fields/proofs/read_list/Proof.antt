@@ -1,4 +1,4 @@
--- `image::read_list` meets its contract. Assumes nothing.
+-- `fields::read_list` meets its contract. Assumes nothing.
 use native.Mathlib.Omega.{arith}
 use mathlib.Core.Path.{_∙_, refl, sym}
 use Rattle.fields.proofs.AnswerLaws.{list-right, list-with}

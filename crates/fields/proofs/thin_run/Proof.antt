@@ -1,4 +1,4 @@
--- `image::thin::thin_run` meets its contract. Assumes nothing.
+-- `fields::thin_run` meets its contract. Assumes nothing.
 use Prim.Native.Nat.{_-_}
 use native.Mathlib.Omega.{arith}
 use borrow.Author.Needs.{needs}

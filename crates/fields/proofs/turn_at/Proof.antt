@@ -1,4 +1,4 @@
--- `image::turn_at` meets its contract. Assumes nothing.
+-- `fields::turn_at` meets its contract. Assumes nothing.
 use native.Mathlib.Omega.{arith}
 use borrow.Author.Needs.{needs}
 use Rattle.image_format.proofs.Nodes.{turn-by, turn-read}

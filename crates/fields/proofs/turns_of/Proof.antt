@@ -1,4 +1,4 @@
--- `image::turns_of` meets its contract. Assumes nothing.
+-- `fields::turns_of` meets its contract. Assumes nothing.
 use borrow.Author.Tests.{eq-eqb, ne-eqb}
 use Rattle.fields.proofs.turns_of.Statement.{statement}
 use Rattle.fields.proofs.turns_of.Tie as tie

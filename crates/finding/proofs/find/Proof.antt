@@ -1,4 +1,4 @@
--- `string_index::find` meets its contract: what the memory holds decides. Assumes nothing.
+-- `finding::find` meets its contract: what the memory holds decides. Assumes nothing.
 use mathlib.Core.Path.{refl, subst}
 use borrow.Author.Needs.{needs}
 use denote.Ref.{now}

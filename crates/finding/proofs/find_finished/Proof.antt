@@ -1,4 +1,4 @@
--- `string_index::find_finished` meets its contract: the image passed the test, so what is found is that by its pieces. Assumes nothing.
+-- `finding::find_finished` meets its contract: the image passed the test, so what is found is that by its pieces. Assumes nothing.
 use native.Mathlib.Omega.{arith}
 use borrow.Author.Needs.{needs}
 use borrow.Author.Tests.{lt-ltb}

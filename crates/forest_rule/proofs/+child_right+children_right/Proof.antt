@@ -1,4 +1,4 @@
--- `index_rule::child_right` and `index_rule::children_right`, which call each other, meet their contracts: the levels left fall. Assumes nothing.
+-- `forest_rule::child_right` and `forest_rule::children_right`, which call each other, meet their contracts: the levels left fall. Assumes nothing.
 use native.Mathlib.Omega.{arith}
 use mathlib.Core.Path.{_≡_, refl, sym, ap, _∙_}
 use mathlib.Core.Bool.{true, false}

@@ -1,4 +1,4 @@
--- `index_rule::leaf_right` meets its contract: the prefix of a leaf against the lists of its front. Assumes nothing.
+-- `forest_rule::leaf_right` meets its contract: the prefix of a leaf against the lists of its front. Assumes nothing.
 use native.Mathlib.Omega.{arith}
 use mathlib.Core.Path.{_∙_, ap, sym}
 use borrow.Author.Tests.{not-false}

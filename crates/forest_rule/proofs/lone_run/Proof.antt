@@ -1,4 +1,4 @@
--- `index_rule::lone_run` meets its contract. Assumes nothing.
+-- `forest_rule::lone_run` meets its contract. Assumes nothing.
 use borrow.Author.Needs.{needs}
 use denote.Ref.{now}
 use Rattle.single_runs.proofs.SingleLaws.{singles-lone}

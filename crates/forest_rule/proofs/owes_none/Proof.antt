@@ -1,4 +1,4 @@
--- `index_rule::owes_none` meets its contract. Assumes nothing.
+-- `forest_rule::owes_none` meets its contract. Assumes nothing.
 use Rattle.single_runs.proofs.RunLaws.{none-say}
 use borrow.Author.Needs.{needs}
 use Rattle.forest_rule.proofs.owes_none.Statement.{statement}

@@ -1,4 +1,4 @@
--- `index_rule::run_with_front` meets its contract: no run, one that ends at leaves, or one with its last front on the stack. Assumes nothing.
+-- `forest_rule::run_with_front` meets its contract: no run, one that ends at leaves, or one with its last front on the stack. Assumes nothing.
 use Prim.Native.Nat.{ℕ, _-_}
 use native.Mathlib.Omega.{arith}
 use mathlib.Core.Bool.{false}

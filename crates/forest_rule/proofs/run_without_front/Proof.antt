@@ -1,4 +1,4 @@
--- `index_rule::run_without_front` meets its contract. Assumes nothing.
+-- `forest_rule::run_without_front` meets its contract. Assumes nothing.
 use mathlib.Core.Path.{subst}
 use Prim.Native.Nat.{ℕ}
 use borrow.Author.Needs.{needs}

@@ -1,4 +1,4 @@
--- `answering::answer` meets its contract: the form that was read is answered. Assumes nothing.
+-- `form_answers::answer` meets its contract: the form that was read is answered. Assumes nothing.
 use Prim.Native.Nat.{ℕ}
 use native.Mathlib.Omega.{arith}
 use mathlib.Core.Path.{_≡_, refl, ap, subst, _∙_}

@@ -1,4 +1,4 @@
--- `answering::answer_block` meets its contract. Assumes nothing.
+-- `form_answers::answer_block` meets its contract. Assumes nothing.
 use denote.Ref.{now}
 use mathlib.Core.List.{[], _∷_}
 use Rattle.location.specs.Plain.{plain}

@@ -1,4 +1,4 @@
--- `answering::answer_find` meets its contract. Assumes nothing.
+-- `form_answers::answer_find` meets its contract. Assumes nothing.
 use Prim.Native.Nat.{ℕ}
 use native.Mathlib.Omega.{arith}
 use lib.ListN.{length-replicate}

@@ -1,4 +1,4 @@
--- `answering::answer_finish` meets its contract. Assumes nothing.
+-- `form_answers::answer_finish` meets its contract. Assumes nothing.
 use denote.Ref.{now}
 use mathlib.Core.List.{[], _∷_}
 use Rattle.string_index.specs.Finish.{finish-memory}

@@ -1,4 +1,4 @@
--- `index_rule::within::each_marked` meets its contract: the fronts ahead decide. Assumes nothing.
+-- `fronts::each_marked` meets its contract: the fronts ahead decide. Assumes nothing.
 use Prim.Native.Nat.{_-_}
 use native.Mathlib.Omega.{arith}
 use borrow.Author.Tests.{not-true, not-false}

@@ -1,4 +1,4 @@
--- `index_rule::within::each_within` meets its contract: the fronts ahead decide. Assumes nothing.
+-- `fronts::each_within` meets its contract: the fronts ahead decide. Assumes nothing.
 use Prim.Native.Nat.{_-_}
 use native.Mathlib.Omega.{arith}
 use mathlib.Core.Bool.{true, false}

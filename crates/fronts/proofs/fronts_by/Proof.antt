@@ -1,4 +1,4 @@
--- `index_rule::fronts_by` meets its contract: the fronts found, and then those of the fronts ahead, are all. Assumes nothing.
+-- `fronts::fronts_by` meets its contract: the fronts found, and then those of the fronts ahead, are all. Assumes nothing.
 use Prim.Native.Nat.{_+_, _*_, _-_}
 use native.Mathlib.Omega.{arith}
 use mathlib.Core.Path.{_≡_, sym, ap, _∙_}

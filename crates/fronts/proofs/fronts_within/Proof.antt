@@ -1,4 +1,4 @@
--- `index_rule::within::fronts_within` meets its contract: by a search for each byte, or by marks. Assumes nothing.
+-- `fronts::fronts_within` meets its contract: by a search for each byte, or by marks. Assumes nothing.
 use native.Mathlib.Omega.{arith}
 use borrow.Author.Needs.{needs}
 use denote.Ref.{now}

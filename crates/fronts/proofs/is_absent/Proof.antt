@@ -1,4 +1,4 @@
--- `index_rule::masks::is_absent` meets its contract. Assumes nothing.
+-- `fronts::is_absent` meets its contract. Assumes nothing.
 use mathlib.Core.Path.{refl}
 use borrow.Author.Needs.{needs}
 use borrow.Author.Tests.{eq-eqb, ne-eqb}

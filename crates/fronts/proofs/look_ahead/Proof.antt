@@ -1,4 +1,4 @@
--- `index_rule::ahead::look_ahead` meets its contract: it reads ahead only where the fronts stand from the start on. Assumes nothing.
+-- `fronts::look_ahead` meets its contract: it reads ahead only where the fronts stand from the start on. Assumes nothing.
 use Prim.Native.Nat.{ℕ, _*_}
 use native.Mathlib.Omega.{arith}
 use mathlib.Core.Path.{_≡_, refl, ap, subst}

@@ -1,4 +1,4 @@
--- `index_rule::within::mark_bytes` meets its contract: a byte with a child is marked or ahead. Assumes nothing.
+-- `fronts::mark_bytes` meets its contract: a byte with a child is marked or ahead. Assumes nothing.
 use Prim.Native.Nat.{_-_}
 use native.Mathlib.Omega.{arith}
 use mathlib.Core.Path.{_≡_, refl, sym, ap, _∙_}

@@ -1,4 +1,4 @@
--- `index_rule::put_front` meets its contract. Assumes nothing.
+-- `fronts::put_front` meets its contract. Assumes nothing.
 use native.Mathlib.Omega.{arith}
 use lib.ListN.{length-set}
 use borrow.Author.Needs.{needs}

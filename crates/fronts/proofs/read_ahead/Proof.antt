@@ -1,4 +1,4 @@
--- `index_rule::ahead::read_ahead` meets its contract: what is left to read is the same at each front. Assumes nothing.
+-- `fronts::read_ahead` meets its contract: what is left to read is the same at each front. Assumes nothing.
 use Prim.Native.Nat.{_+_, _*_, _-_, _/_, _≤_}
 use mathlib.Core.Path.{_≡_, sym, ap, _∙_}
 use native.Mathlib.Omega.{arith}

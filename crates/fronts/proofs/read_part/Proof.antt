@@ -1,4 +1,4 @@
--- `index_rule::ahead::read_part` meets its contract: what is left to read is the same at each word. Assumes nothing.
+-- `fronts::read_part` meets its contract: what is left to read is the same at each word. Assumes nothing.
 use Prim.Native.Nat.{ℕ, _+_, _*_, _≤_}
 use native.Mathlib.Omega.{arith}
 use mathlib.Core.Path.{_≡_, ap, _∙_}

@@ -1,4 +1,4 @@
--- `index_rule::root_fronts` meets its contract: the fronts put, and then the siblings ahead, are all siblings. Assumes nothing.
+-- `fronts::root_fronts` meets its contract: the fronts put, and then the siblings ahead, are all siblings. Assumes nothing.
 use Prim.Native.Nat.{_*_, _-_}
 use native.Mathlib.Omega.{arith}
 use mathlib.Core.Path.{_≡_, sym, ap, _∙_}

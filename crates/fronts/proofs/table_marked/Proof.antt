@@ -1,4 +1,4 @@
--- `index_rule::within::table_marked` meets its contract: the entries ahead decide. Assumes nothing.
+-- `fronts::table_marked` meets its contract: the entries ahead decide. Assumes nothing.
 use Prim.Native.Nat.{_-_}
 use native.Mathlib.Omega.{arith}
 use mathlib.Core.Path.{sym, ap, _∙_}

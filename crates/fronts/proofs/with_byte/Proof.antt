@@ -1,4 +1,4 @@
--- `index_rule::masks::with_byte` meets its contract. Assumes nothing.
+-- `fronts::with_byte` meets its contract. Assumes nothing.
 use mathlib.Core.Path.{refl}
 use borrow.Author.Needs.{needs}
 use Rattle.fronts.proofs.with_byte.Statement.{statement}

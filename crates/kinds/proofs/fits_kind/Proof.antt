@@ -1,4 +1,4 @@
--- `image::kinds::fits_kind` meets its contract. Assumes nothing.
+-- `kinds::fits_kind` meets its contract. Assumes nothing.
 use native.Mathlib.Omega.{arith}
 use borrow.Author.Needs.{needs}
 use Rattle.kinds.proofs.KindRule.{fits-high, fits-low}

@@ -1,4 +1,4 @@
--- `image::kinds::kind_of` meets its contract. Assumes nothing.
+-- `kinds::kind_of` meets its contract. Assumes nothing.
 use Prim.Native.Nat.{_-_, _≤_, ℕ}
 use native.Mathlib.Omega.{arith}
 use mathlib.Core.Logic.{inl, inr, ⊎-elim}

@@ -1,4 +1,4 @@
--- `index_memory::charged` meets its contract: a walk of its MIR, by hand. The tally is taken out, lent to `tally::record`, and put back.
+-- `memory_header::charged` meets its contract: a walk of its MIR, by hand. The tally is taken out, lent to `tally::record`, and put back.
 -- All that the proof knows of the three functions that it calls is their contracts. Assumes nothing.
 use mathlib.Core.Path.{refl}
 use Prim.Native.Nat.{ℕ, _+_, _<_, _^_}
@@ -143,6 +143,6 @@ charged-spec 𝓤 H 𝓜 𝓖 𝓡 =
     entered 𝓤 H (tripleOf 𝓤 H (𝓖 .A) f.signature (f.spec 𝓤 H (𝓖 .A) (𝓜 .mem) (𝓡 .run)))
     (tables 𝓤 H 𝓜 𝓡 code.env .C) (tables 𝓤 H 𝓜 𝓡 code.env .Λ) #index-memory·charged code.function (code.unfolded 𝓤 H 𝓜 𝓡)
     (f-meets 𝓤 H (𝓖 .A) (givenOf 𝓤 H 𝓜 𝓖) (𝓜 .mem) (𝓡 .run) (tablesOf 𝓤 H 𝓜 (tables 𝓤 H 𝓜 𝓡 code.env))
-    (cited 𝓤 H (In 𝓤 H (𝓖 .A) (𝓜 .mem) (𝓡 .run)) 𝓜 𝓡 code.env #index-memory·tally-in in-def.routine code.calls-index-memory·tally-in (in-thm.met 𝓤 H 𝓜 𝓖 𝓡))
+    (cited 𝓤 H (In 𝓤 H (𝓖 .A) (𝓜 .mem) (𝓡 .run)) 𝓜 𝓡 code.env #index-memory·tally-in in-def.routine code.calls-memory-header·tally-in (in-thm.met 𝓤 H 𝓜 𝓖 𝓡))
     (cited 𝓤 H (lent.Callee 𝓤 H (𝓖 .A) (𝓜 .mem) (𝓡 .run)) 𝓜 𝓡 code.env #tally·record lent-def.routine code.calls-tally·record (lent-thm.met 𝓤 H 𝓜 𝓖 𝓡))
-    (cited 𝓤 H (With 𝓤 H (𝓖 .A) (𝓜 .mem) (𝓡 .run)) 𝓜 𝓡 code.env #index-memory·with-tally with-def.routine code.calls-index-memory·with-tally (with-thm.met 𝓤 H 𝓜 𝓖 𝓡)))
+    (cited 𝓤 H (With 𝓤 H (𝓖 .A) (𝓜 .mem) (𝓡 .run)) 𝓜 𝓡 code.env #index-memory·with-tally with-def.routine code.calls-memory-header·with-tally (with-thm.met 𝓤 H 𝓜 𝓖 𝓡)))

@@ -1,4 +1,4 @@
--- `index_memory::header_in` meets its contract: at each answer the tests that led there say whether the header is sound. Assumes nothing.
+-- `memory_header::header_in` meets its contract: at each answer the tests that led there say whether the header is sound. Assumes nothing.
 use native.Mathlib.Omega.{arith}
 use mathlib.Core.Path.{sym, _∙_}
 use borrow.Author.Tests.{not-true, not-false}

@@ -1,4 +1,4 @@
--- `index_memory::header_within` meets its contract: at each answer the tests that led there say whether the header is sound. Assumes nothing.
+-- `memory_header::header_within` meets its contract: at each answer the tests that led there say whether the header is sound. Assumes nothing.
 use native.Mathlib.Omega.{arith}
 use borrow.Author.Needs.{needs}
 use denote.Ref.{now}

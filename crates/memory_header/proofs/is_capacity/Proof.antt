@@ -1,4 +1,4 @@
--- `index_memory::is_capacity` meets its contract: behind 0, the limit decides. Assumes nothing.
+-- `memory_header::is_capacity` meets its contract: behind 0, the limit decides. Assumes nothing.
 use borrow.Author.Tests.{eq-eqb}
 use Rattle.memory_header.proofs.HeaderFacts.{capacity-test}
 use Rattle.memory_header.proofs.is_capacity.Statement.{statement}

@@ -1,4 +1,4 @@
--- `index_memory::needed` meets its contract: the sums are small. Assumes nothing.
+-- `memory_header::needed` meets its contract: the sums are small. Assumes nothing.
 use mathlib.Core.Path.{refl}
 use borrow.Author.Needs.{needs}
 use Rattle.memory_header.proofs.needed.Statement.{statement}

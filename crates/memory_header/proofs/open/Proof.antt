@@ -1,4 +1,4 @@
--- `index_memory::open` meets its contract: at each answer the tests that led there say whether the memory holds the capacity. Assumes nothing.
+-- `memory_header::open` meets its contract: at each answer the tests that led there say whether the memory holds the capacity. Assumes nothing.
 use native.Mathlib.Omega.{arith}
 use mathlib.Core.Path.{sym, _∙_}
 use borrow.Author.Tests.{not-true, not-false}

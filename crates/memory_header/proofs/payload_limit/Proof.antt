@@ -1,4 +1,4 @@
--- `index_memory::payload_limit` meets its contract: the phase decides. Assumes nothing.
+-- `memory_header::payload_limit` meets its contract: the phase decides. Assumes nothing.
 use borrow.Author.Tests.{eq-eqb, ne-eqb}
 use borrow.Author.Needs.{needs}
 use Rattle.memory_header.proofs.payload_limit.Statement.{statement}

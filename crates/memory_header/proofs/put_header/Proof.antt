@@ -1,4 +1,4 @@
--- `index_memory::put_header` meets its contract: the eight numbers, written one after the other, are the bytes of the header. Assumes nothing.
+-- `memory_header::put_header` meets its contract: the eight numbers, written one after the other, are the bytes of the header. Assumes nothing.
 use borrow.Author.Needs.{needs}
 use denote.Ref.{now}
 use Rattle.memory_header.specs.Answers.{header-of}

@@ -1,4 +1,4 @@
--- `index_memory::with_tally` meets its contract: field by field. Assumes nothing.
+-- `memory_header::with_tally` meets its contract: field by field. Assumes nothing.
 use mathlib.Core.Path.{refl}
 use Rattle.memory_header.proofs.with_tally.Statement.{statement}
 use Rattle.memory_header.proofs.with_tally.Tie as tie

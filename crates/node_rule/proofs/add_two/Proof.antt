@@ -1,4 +1,4 @@
--- `index_rule::add_two` meets its contract: one list, and then the other. Assumes nothing.
+-- `node_rule::add_two` meets its contract: one list, and then the other. Assumes nothing.
 use native.Mathlib.Omega.{arith}
 use borrow.Author.Needs.{needs}
 use mathlib.Core.Path.{refl, _∙_}

@@ -1,4 +1,4 @@
--- `index_rule::child_lists` meets its contract: the lists gone over, and then those of the entries ahead, are those of all children. Assumes nothing.
+-- `node_rule::child_lists` meets its contract: the lists gone over, and then those of the entries ahead, are those of all children. Assumes nothing.
 use Prim.Native.Nat.{_-_}
 use native.Mathlib.Omega.{arith}
 use mathlib.Core.Path.{_≡_, sym, ap, _∙_}

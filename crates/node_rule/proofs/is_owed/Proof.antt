@@ -1,4 +1,4 @@
--- `index_rule::is_owed` meets its contract, by the counts. Assumes nothing.
+-- `node_rule::is_owed` meets its contract, by the counts. Assumes nothing.
 use native.Mathlib.Omega.{arith}
 use Rattle.node_rule.proofs.Owed.{owed-root, owed-child, owed-prefix, owed-chunk}
 use Rattle.node_rule.proofs.is_owed.Statement.{statement}

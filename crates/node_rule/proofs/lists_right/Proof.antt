@@ -1,4 +1,4 @@
--- `index_rule::lists_right` meets its contract: the four tests, one after another. Assumes nothing.
+-- `node_rule::lists_right` meets its contract: the four tests, one after another. Assumes nothing.
 use borrow.Author.Needs.{needs}
 use borrow.Author.Tests.{not-true, not-false}
 use denote.Ref.{now}

@@ -1,4 +1,4 @@
--- `index_rule::suffixes_right` meets its contract: the union of the children's lists. Assumes nothing.
+-- `node_rule::suffixes_right` meets its contract: the union of the children's lists. Assumes nothing.
 use borrow.Author.Needs.{needs}
 use denote.Ref.{now}
 use Rattle.node_rule.proofs.Nodes.{suffixes-say}

@@ -1,4 +1,4 @@
--- `forms::closed` meets its contract: what stands there, test by test. Assumes nothing.
+-- `numerals::closed` meets its contract: what stands there, test by test. Assumes nothing.
 use native.Mathlib.Omega.{arith}
 use denote.Ref.{now}
 use borrow.Author.Needs.{needs}

@@ -1,4 +1,4 @@
--- `forms::count_bytes` meets its contract: the opening parenthesis, and what stands behind it. Assumes nothing.
+-- `numerals::count_bytes` meets its contract: the opening parenthesis, and what stands behind it. Assumes nothing.
 use mathlib.Core.Path.{ap, _∙_}
 use denote.Ref.{now}
 use borrow.Author.Needs.{needs}

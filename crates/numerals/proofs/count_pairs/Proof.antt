@@ -1,4 +1,4 @@
--- `forms::count_pairs` meets its contract: the pairs passed, and what is still to be counted, are always the same. Assumes nothing.
+-- `numerals::count_pairs` meets its contract: the pairs passed, and what is still to be counted, are always the same. Assumes nothing.
 use native.Mathlib.Omega.{arith}
 use Prim.Native.Nat.{_+_, _-_, _≤_}
 use mathlib.Core.Path.{_≡_, refl, sym, ap, _∙_}

@@ -1,4 +1,4 @@
--- `forms::decode` meets its contract: what is still to be written, written, is always the same. Assumes nothing.
+-- `numerals::decode` meets its contract: what is still to be written, written, is always the same. Assumes nothing.
 use native.Mathlib.Omega.{arith}
 use Prim.Native.Nat.{_+_, _-_, _*_, _≤_}
 use mathlib.Core.Path.{_≡_, refl, _∙_}

@@ -1,4 +1,4 @@
--- `forms::digit` meets its contract: the two bounds of a digit. Assumes nothing.
+-- `numerals::digit` meets its contract: the two bounds of a digit. Assumes nothing.
 use mathlib.Core.Path.{sym}
 use Rattle.numerals.proofs.Steps.{digit-low, digit-high}
 use Rattle.numerals.proofs.digit.Statement.{statement}

@@ -1,4 +1,4 @@
--- `forms::digit_value` meets its contract: 0 to 9, a to f, or neither. Assumes nothing.
+-- `numerals::digit_value` meets its contract: 0 to 9, a to f, or neither. Assumes nothing.
 use native.Mathlib.Omega.{arith}
 use mathlib.Core.Path.{sym, _∙_}
 use mathlib.Core.Bool.{true}

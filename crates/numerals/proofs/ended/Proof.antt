@@ -1,4 +1,4 @@
--- `forms::ended` meets its contract: a space, another byte, or the line's end. Assumes nothing.
+-- `numerals::ended` meets its contract: a space, another byte, or the line's end. Assumes nothing.
 use denote.Ref.{now}
 use borrow.Author.Needs.{needs}
 use Rattle.numerals.proofs.Steps.{ends-out, ends-not, ends-so}

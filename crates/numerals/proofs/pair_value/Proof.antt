@@ -1,4 +1,4 @@
--- `forms::pair_value` meets its contract: both bytes are digits, or one is none. Assumes nothing.
+-- `numerals::pair_value` meets its contract: both bytes are digits, or one is none. Assumes nothing.
 use borrow.Author.Needs.{needs}
 use Rattle.numerals.proofs.Steps.{pair-first, pair-second, pair-both}
 use Rattle.numerals.proofs.pair_value.Statement.{statement}

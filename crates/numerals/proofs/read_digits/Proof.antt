@@ -1,4 +1,4 @@
--- `forms::read_digits` meets its contract: the digits passed make x, and what stands behind them decides. Assumes nothing.
+-- `numerals::read_digits` meets its contract: the digits passed make x, and what stands behind them decides. Assumes nothing.
 use native.Mathlib.Omega.{arith}
 use Prim.Native.Nat.{_+_, _-_, _*_, _≤_}
 use mathlib.Core.Path.{_≡_, refl, sym, _∙_}

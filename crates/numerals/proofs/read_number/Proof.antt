@@ -1,4 +1,4 @@
--- `forms::read_number` meets its contract: a zero, another digit, or no number. Assumes nothing.
+-- `numerals::read_number` meets its contract: a zero, another digit, or no number. Assumes nothing.
 use native.Mathlib.Omega.{arith}
 use mathlib.Core.Path.{sym, _∙_}
 use denote.Ref.{now}

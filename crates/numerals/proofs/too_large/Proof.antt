@@ -1,4 +1,4 @@
--- `forms::too_large` meets its contract: 1844674407370955161 is a tenth of the last number, which ends in 5. Assumes nothing.
+-- `numerals::too_large` meets its contract: 1844674407370955161 is a tenth of the last number, which ends in 5. Assumes nothing.
 use native.Mathlib.Omega.{arith}
 use Prim.Native.Nat.{ℕ, _+_, _*_}
 use mathlib.Core.Path.{_≡_, sym}

@@ -1,4 +1,4 @@
--- `index_memory::append` meets its contract: the pieces are written, and the header that counts them is made. Assumes nothing.
+-- `recording::append` meets its contract: the pieces are written, and the header that counts them is made. Assumes nothing.
 use borrow.Author.Needs.{needs}
 use Rattle.recording.specs.Record.{logged}
 use Rattle.recording.proofs.append.Statement.{statement}

@@ -1,4 +1,4 @@
--- `index_memory::block_nodes` meets its contract: the sum is small. Assumes nothing.
+-- `recording::block_nodes` meets its contract: the sum is small. Assumes nothing.
 use Prim.Native.Nat.{_%_}
 use native.Mathlib.Omega.{arith}
 use borrow.Author.Needs.{needs}

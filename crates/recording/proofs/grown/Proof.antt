@@ -1,4 +1,4 @@
--- `index_memory::grown` meets its contract: the charges of a block are added to the tally, and its pieces to the payload. Assumes nothing.
+-- `recording::grown` meets its contract: the charges of a block are added to the tally, and its pieces to the payload. Assumes nothing.
 use borrow.Author.Needs.{needs}
 use Rattle.recording.proofs.Recording.{grown-by}
 use Rattle.recording.proofs.grown.Statement.{statement}

@@ -1,4 +1,4 @@
--- `index_memory::judge` meets its contract: at each answer the tests that led there say which check decides. Assumes nothing.
+-- `recording::judge` meets its contract: at each answer the tests that led there say which check decides. Assumes nothing.
 use native.Mathlib.Omega.{arith}
 use borrow.Author.Needs.{needs}
 use Rattle.location.specs.Plain.{plain}

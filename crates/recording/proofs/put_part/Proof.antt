@@ -1,4 +1,4 @@
--- `index_memory::put_part` meets its contract: a piece of 16 bytes, or of what is left. Assumes nothing.
+-- `recording::put_part` meets its contract: a piece of 16 bytes, or of what is left. Assumes nothing.
 use borrow.Author.Needs.{needs}
 use denote.Ref.{now}
 use Rattle.location.specs.Plain.{plain}

@@ -1,4 +1,4 @@
--- `index_memory::put_piece` meets its contract: the four parts, written one after the other, are the bytes of the piece. Assumes nothing.
+-- `recording::put_piece` meets its contract: the four parts, written one after the other, are the bytes of the piece. Assumes nothing.
 use borrow.Author.Needs.{needs}
 use denote.Ref.{now}
 use Rattle.definitions.specs.Blocks.{Piece}

@@ -1,4 +1,4 @@
--- `index_memory::put_pieces` meets its contract: what is left to be written, written, is always the same. Assumes nothing.
+-- `recording::put_pieces` meets its contract: what is left to be written, written, is always the same. Assumes nothing.
 use native.Mathlib.Omega.{arith}
 use denote.Ref.{now}
 use Rattle.definitions.specs.Blocks.{Block}

@@ -1,4 +1,4 @@
--- `index_memory::record_open` meets its contract: at each answer the tests that led there say what recording does. Assumes nothing.
+-- `recording::record_open` meets its contract: at each answer the tests that led there say what recording does. Assumes nothing.
 use native.Mathlib.Omega.{arith}
 use borrow.Author.Needs.{needs}
 use Rattle.memory_header.specs.Answers.{header-of}

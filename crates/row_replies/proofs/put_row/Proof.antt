@@ -1,4 +1,4 @@
--- `answering::put_row` meets its contract. Assumes nothing.
+-- `row_replies::put_row` meets its contract. Assumes nothing.
 use mathlib.Core.Path.{ap}
 use Rattle.definitions.specs.Location.{Location}
 use Rattle.definitions.specs.Program.{place}

@@ -1,4 +1,4 @@
--- `answering::put_rows` meets its contract: the rows before index i are written. Assumes nothing.
+-- `row_replies::put_rows` meets its contract: the rows before index i are written. Assumes nothing.
 use Prim.Native.Nat.{_+_, _-_, _*_, _≤_}
 use native.Mathlib.Omega.{arith}
 use mathlib.Core.Path.{_≡_}

@@ -1,4 +1,4 @@
--- `index_rule::runs::bare_table` meets its contract. Assumes nothing.
+-- `single_runs::bare_table` meets its contract. Assumes nothing.
 use native.Mathlib.Omega.{arith}
 use borrow.Author.Tests.{not-false}
 use Rattle.single_runs.proofs.RunLaws.{bare-none, bare-room, bare-some, laid-room}

@@ -1,4 +1,4 @@
--- `index_rule::runs::both_down` meets its contract. Assumes nothing.
+-- `single_runs::both_down` meets its contract. Assumes nothing.
 use native.Mathlib.Omega.{arith}
 use mathlib.Core.Path.{_∙_, sym}
 use denote.Ref.{now}

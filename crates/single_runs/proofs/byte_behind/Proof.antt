@@ -1,4 +1,4 @@
--- `index_rule::runs::byte_behind` meets its contract. Assumes nothing.
+-- `single_runs::byte_behind` meets its contract. Assumes nothing.
 use native.Mathlib.Omega.{arith}
 use mathlib.Core.Path.{_∙_, ap, sym}
 use Rattle.image_walk.specs.Answers.{entry-of-answer}

@@ -1,4 +1,4 @@
--- `index_rule::singles::goes_on` meets its contract. Assumes nothing.
+-- `single_runs::goes_on` meets its contract. Assumes nothing.
 use native.Mathlib.Omega.{arith}
 use mathlib.Core.Path.{sym, _∙_}
 use borrow.Author.Tests.{not-false}

@@ -1,4 +1,4 @@
--- `index_rule::singles::has_single` meets its contract. Assumes nothing.
+-- `single_runs::has_single` meets its contract. Assumes nothing.
 use native.Mathlib.Omega.{arith}
 use mathlib.Core.Path.{refl}
 use denote.Ref.{now}

@@ -1,4 +1,4 @@
--- `index_rule::runs::is_bare` meets its contract. Assumes nothing.
+-- `single_runs::is_bare` meets its contract. Assumes nothing.
 use native.Mathlib.Omega.{arith}
 use lib.ListN.{getD}
 use denote.Ref.{now}

@@ -1,4 +1,4 @@
--- `index_rule::is_leaf` meets its contract. Assumes nothing.
+-- `single_runs::is_leaf` meets its contract. Assumes nothing.
 use mathlib.Core.Path.{refl}
 use borrow.Author.Tests.{eq-eqb, ne-eqb}
 use Rattle.single_runs.proofs.is_leaf.Statement.{statement}

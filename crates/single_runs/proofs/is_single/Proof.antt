@@ -1,4 +1,4 @@
--- `index_rule::singles::is_single` meets its contract. Assumes nothing.
+-- `single_runs::is_single` meets its contract. Assumes nothing.
 use native.Mathlib.Omega.{arith}
 use borrow.Author.Tests.{not-false}
 use Rattle.single_runs.proofs.RunLaws.{bare-room, by-test, laid-room, not-so}

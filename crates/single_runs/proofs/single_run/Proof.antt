@@ -1,4 +1,4 @@
--- `index_rule::singles::single_run` meets its contract. Assumes nothing.
+-- `single_runs::single_run` meets its contract. Assumes nothing.
 use Prim.Native.Nat.{_-_}
 use native.Mathlib.Omega.{arith}
 use borrow.Author.Needs.{needs}

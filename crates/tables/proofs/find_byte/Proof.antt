@@ -1,4 +1,4 @@
--- `image::sparse::find_byte` meets its contract. Assumes nothing.
+-- `tables::find_byte` meets its contract. Assumes nothing.
 use Prim.Native.Nat.{_-_, _≤_, ℕ}
 use native.Mathlib.Omega.{arith}
 use mathlib.Core.Path.{_∙_, _≡_, ap}

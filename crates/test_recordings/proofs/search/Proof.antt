@@ -1,5 +1,5 @@
--- `test_recordings::search` meets its contract: a walk of its MIR, by hand. A local array of rows is lent as a slice to `string_index::search`, comes back, and one row is read.
--- All that the proof knows of `string_index::search` is that it meets its contract.
+-- `test_recordings::search` meets its contract: a walk of its MIR, by hand. A local array of rows is lent as a slice to `test_recordings::search`, comes back, and one row is read.
+-- All that the proof knows of `test_recordings::search` is that it meets its contract.
 -- Assumes nothing.
 use mathlib.Core.Path.{_≡_, refl, sym, ap, subst}
 use Prim.Native.Nat.{ℕ, _<_, _^_, _*_}
