@@ -32,7 +32,8 @@ use Rattle.forms.specs.ReadLine.{read-line}
 use Rattle.forms.specs.Answers.{Is}
 use Rattle.forms.proofs.Lines.{read-line-is}
 use Rattle.lines.specs.Cut.{lines-of}
-use Rattle.row_replies.specs.Program.{after-form, line-replies, replies-bytes, program}
+use Rattle.answering.specs.Program.{after-form, line-replies, program}
+use Rattle.replies.specs.Replies.{replies-bytes}
 use Rattle.form_answers.specs.Memory.{unless-number, found-replies, form-answer, memory-after-form, line-answer, memory-after-line, lines-answer}
 use Rattle.answering.specs.Parts.{part, output, all-of}
 use Rattle.answering.specs.Promises.{MemoryAnswers, PartsProgram}

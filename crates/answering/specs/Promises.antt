@@ -7,7 +7,7 @@ use Rattle.definitions.specs.Calls.{needed}
 use Rattle.definitions.specs.Program.{program-capacity}
 use Rattle.lines.specs.Cut.{lines-of}
 use Rattle.memory_header.specs.Opening.{open-memory}
-use Rattle.row_replies.specs.Program.{program}
+use Rattle.answering.specs.Program.{program}
 use Rattle.form_answers.specs.Memory.{lines-answer}
 use Rattle.answering.specs.Parts.{part, output, all-of}
 

@@ -1,3 +1,5 @@
+-- `Follow` and `Following`: the memory follows the recording; `SavedTrie`, `ReadFinished`: what finish leaves is read back;
+-- `Demand` and `Theorem`: demand 3. Assumes nothing.
 pub mod Follow
 pub mod Demand
 pub mod SavedTrie

@@ -1,2 +1,3 @@
+-- `AnswerLaws` has laws of the answers, `ThinNodes` of runs. Assumes nothing.
 pub mod AnswerLaws
 pub mod ThinNodes

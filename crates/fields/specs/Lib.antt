@@ -1,2 +1,3 @@
+-- `Answers` has what the code's answers mean, `Thin` runs of nodes that are stepped over at once. Assumes nothing.
 pub mod Answers
 pub mod Thin

@@ -17,7 +17,7 @@ use Rattle.string_index.proofs.Finding.{found-fit}
 use Rattle.finding.proofs.FindCall.{Finds}
 use Rattle.replies.specs.Written.{Written, reply-bytes}
 use Rattle.replies.proofs.Writing.{written-same}
-use Rattle.row_replies.specs.Program.{replies-bytes}
+use Rattle.replies.specs.Replies.{replies-bytes}
 use Rattle.form_answers.specs.Memory.{unless-number, form-answer}
 use Rattle.form_answers.specs.Answered.{AnsweredBy}
 use Rattle.form_answers.proofs.Replying.{answered-refused}

@@ -5,7 +5,7 @@ use mathlib.Core.List.{List}
 use mathlib.Core.Option.{Option}
 use Rattle.definitions.specs.Program.{Form}
 use Rattle.forms.specs.ReadLine.{read-line}
-use Rattle.row_replies.specs.Program.{replies-bytes}
+use Rattle.replies.specs.Replies.{replies-bytes}
 use Rattle.form_answers.specs.Memory.{form-answer, memory-after-form, line-answer, memory-after-line}
 use Rattle.form_answers.specs.Answered.{AnsweredBy}
 

@@ -13,7 +13,7 @@ use Rattle.memory_header.specs.Answers.{outcome-as}
 use Rattle.memory_header.specs.declared.Outcome.the-variants as F
 use Rattle.replies.specs.Written.{Written, reply-bytes}
 use Rattle.replies.proofs.Writing.{written-same}
-use Rattle.row_replies.specs.Program.{replies-bytes}
+use Rattle.replies.specs.Replies.{replies-bytes}
 use Rattle.form_answers.specs.Memory.{unless-number}
 use Rattle.form_answers.specs.Answered.{AnsweredBy}
 use Rattle.row_replies.proofs.PlaceReplies.{decimal-short, word-short}

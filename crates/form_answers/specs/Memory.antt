@@ -10,7 +10,7 @@ use Rattle.recording.specs.Record.{record-memory}
 use Rattle.finding.specs.Find.{Rows-found, find-memory}
 use Rattle.string_index.specs.Finish.{finish-memory}
 use Rattle.forms.specs.ReadLine.{read-line}
-use Rattle.row_replies.specs.Program.{replies-bytes}
+use Rattle.replies.specs.Replies.{replies-bytes}
 
 -- 256 places take 24 bytes of scratch each
 abbrev pub scratch-size : ℕ

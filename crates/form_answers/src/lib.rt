@@ -11,7 +11,7 @@ ghost use Rattle.definitions.specs.Program.{block, finish, find, found, program
 ghost use Rattle.location.specs.Plain.{plain};
 ghost use Rattle.memory_header.specs.Opening.{open-memory};
 ghost use Rattle.memory_header.specs.Answers.{outcome-as};
-ghost use Rattle.row_replies.specs.Program.{replies-bytes};
+ghost use Rattle.replies.specs.Replies.{replies-bytes};
 ghost use Rattle.form_answers.specs.Memory.{form-answer, memory-after-form, line-answer, memory-after-line};
 ghost use Rattle.form_answers.specs.Answered.{AnsweredBy};
 

@@ -1,9 +1,9 @@
 // The layout of a saved image, read in its own order: the first faulty field decides.
 use fields::Children;
+use fields::Counts;
 use fields::Due;
 use fields::Layout;
 use fields::Past;
-use fields::Counts;
 ghost use mathlib.Core.Path.{_≡_};
 ghost use Prim.Native.Nat.{_+_, _*_, _≤_, _<_};
 ghost use lib.ListN.{length};

@@ -1,3 +1,6 @@
+-- `Entries`, `Heads`, `Tables`, `Nodes` have a law for each field; `ReadBack` and what it cites say that what is written is read
+-- back, `Sound` and what it cites that what is read was so written; `Sizes` bounds an image; `Theorems` has the promises;
+-- `Recording` computes recording 13. Assumes nothing.
 pub mod Entries
 pub mod Heads
 pub mod Tables

@@ -1,3 +1,5 @@
+-- `Image` has the bytes of a trie, `Reading` how bytes are read in layout order, `Held` the trie that an image holds, `Savable`
+-- which tries can be saved, `Turns` and `Entries` what tables are asked, `Promises` what a reader may conclude. Assumes nothing.
 pub mod Image
 pub mod Reading
 pub mod Held

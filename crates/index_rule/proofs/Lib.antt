@@ -1,9 +1,3 @@
--- from a node in place to its parts, and along the entries of its table
--- one node
--- fronts
--- all nodes
--- the whole image
+-- `Whole` goes from the root to all nodes, `Theorems` has the promises. Assumes nothing.
 pub mod Whole
 pub mod Theorems
-
--- reading ahead

@@ -1,1 +1,2 @@
+-- `KindRule` has the rule of the table. Assumes nothing.
 pub mod KindRule

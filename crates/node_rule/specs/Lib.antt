@@ -1,2 +1,3 @@
+-- `Parts` is a node in place, `OneNode` what the functions say of one. Assumes nothing.
 pub mod Parts
 pub mod OneNode

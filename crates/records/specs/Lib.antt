@@ -1,1 +1,2 @@
+-- `Records` has records in bytes: their order, sorting, dropping repeats, searching. Assumes nothing.
 pub mod Records

@@ -1,2 +1,3 @@
 -- `Written` has what the contracts cite. Assumes nothing.
 pub mod Written
+pub mod Replies

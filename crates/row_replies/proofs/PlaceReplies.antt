@@ -10,7 +10,7 @@ use Rattle.definitions.specs.Program.{text, decimal, Reply, place, end, place-e
 use Rattle.definitions.proofs.Decimal.{dec-decimal, length-dec}
 use Rattle.image_format.proofs.BytesRead.{count-locs}
 use Rattle.replies.specs.Written.{Written, reply-bytes}
-use Rattle.row_replies.specs.Program.{replies-bytes}
+use Rattle.replies.specs.Replies.{replies-bytes}
 
 pub decimal-short : (x : ℕ) → length (decimal x) ≤ 20
 decimal-short x = omega (arith, ap length (dec-decimal x), length-dec x)

@@ -4,7 +4,7 @@ ghost use lib.ListN.{length};
 ghost use Rattle.definitions.specs.Location.{locations-in, location-at};
 ghost use Rattle.definitions.specs.Program.{place, found};
 ghost use Rattle.replies.specs.Written.{Written, reply-bytes};
-ghost use Rattle.row_replies.specs.Program.{replies-bytes};
+ghost use Rattle.replies.specs.Replies.{replies-bytes};
 
 // The place of the row in the 24 bytes of scratch from index p on.
 fn put_row(out: &mut [u8], at: usize, scratch: &[u8], p: usize) -> usize

@@ -1,6 +1,6 @@
 // Saving the image of a finished index, and loading an image in place of what a memory holds.
-use fields::Layout;
 use fields::Counts;
+use fields::Layout;
 use memory_header::HEADER_SIZE;
 use memory_header::Header;
 use memory_header::Outcome;

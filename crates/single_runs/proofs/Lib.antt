@@ -1,2 +1,3 @@
+-- Laws of runs without and with a suffix. Assumes nothing.
 pub mod RunLaws
 pub mod SingleLaws

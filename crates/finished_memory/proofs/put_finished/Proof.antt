@@ -31,9 +31,6 @@ put-header-requires c κs =
     let p = c .before .before .before .before .before .before .before .before .pre in
     omega (arith, c .before .before .before .clear .kept .0, p .held)
 
-same-length : tie.Need-same-length
-same-length c = search needs
-
 returns : tie.Need-returns
 returns c =
     let c₆ = c .before .before .before .before .before .before in
@@ -46,4 +43,4 @@ returns c =
 pub put-finished-spec : {M : Type 1} → statement M
 put-finished-spec =
     tie.close
-    (tie.spec needed-requires add-clear clear-requires put-header-requires same-length returns)
+    (tie.spec needed-requires add-clear clear-requires put-header-requires (λ c. search needs) returns)

@@ -82,9 +82,6 @@ put-image-requires c κs =
 sub-closed : tie.Need-sub-closed
 sub-closed c = omega (arith, c .before .before .before .put-image .ensures .at)
 
-closed-requires : tie.Need-closed-requires
-closed-requires c κs = search needs
-
 put-finished-requires : tie.Need-put-finished-requires
 put-finished-requires c κs =
     let known = c .before .before .before .before .before .before .before .before .before .before .before .before .before in
@@ -98,9 +95,6 @@ put-finished-requires c κs =
     let v = c .before .before .before .before .before .put-image in
     let k = c .before .closed in
     closable m room (a .h .payload) b o (r .last .0) (r .result) (r .ensures) (v .last .0) (v .result) (v .ensures) (a .h) (k .result) refl _ (k .ensures)
-
-same-length : tie.Need-same-length
-same-length c = search needs
 
 returns : tie.Need-returns
 returns c =
@@ -128,7 +122,7 @@ finish-open-spec =
     sort-tails-requires
     put-image-requires
     sub-closed
-    closed-requires
+    (λ c κs. search needs)
     put-finished-requires
-    same-length
+    (λ c. search needs)
     returns)

@@ -16,9 +16,6 @@ sort-requires c κs =
     let r = c .before .before .before .expand in
     (omega arith, omega (arith, c .before .before .before .before .before .before .pre .room, r .ensures .0, r .kept .0))
 
-same-length : tie.Need-same-length
-same-length c = search needs
-
 returns : tie.Need-returns
 returns c =
     let c₆ = c .before .before .before .before .before .before in
@@ -30,4 +27,4 @@ returns c =
 pub sort-tails-spec : {M : Type 1} → statement M
 sort-tails-spec =
     tie.close
-    (tie.spec expand-requires sort-requires same-length returns)
+    (tie.spec expand-requires sort-requires (λ c. search needs) returns)

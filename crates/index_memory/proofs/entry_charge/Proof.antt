@@ -5,14 +5,8 @@ use Rattle.index_memory.proofs.Charges.{entry-max}
 use Rattle.index_memory.proofs.entry_charge.Statement.{statement}
 use Rattle.index_memory.proofs.entry_charge.Tie as tie
 
-returns : tie.Need-returns
-returns c = search needs
-
-mul-result : tie.Need-mul-result
-mul-result c = search needs
-
 returns-2 : tie.Need-returns-2
 returns-2 c = omega (arith, entry-max (c .before .args .m))
 
 pub entry-charge-spec : {M : Type 1} → statement M
-entry-charge-spec = tie.close (tie.spec returns mul-result returns-2)
+entry-charge-spec = tie.close (tie.spec (λ c. search needs) (λ c. search needs) returns-2)

@@ -5,14 +5,8 @@ use Rattle.index_memory.proofs.Charges.{square-bound}
 use Rattle.index_memory.proofs.piece_nodes.Statement.{statement}
 use Rattle.index_memory.proofs.piece_nodes.Tie as tie
 
-add-result : tie.Need-add-result
-add-result c = search needs
-
 mul-result : tie.Need-mul-result
 mul-result c = record { fits = omega (arith, square-bound (c .args .m) (c .pre)) }
 
-returns : tie.Need-returns
-returns c = search needs
-
 pub piece-nodes-spec : {M : Type 1} → statement M
-piece-nodes-spec = tie.close (tie.spec add-result mul-result returns)
+piece-nodes-spec = tie.close (tie.spec (λ c. search needs) mul-result (λ c. search needs))

@@ -5,26 +5,11 @@ use Rattle.index_memory.proofs.LogWalk.{too-long, no-life, end-decides}
 use Rattle.index_memory.proofs.piece_sound.Statement.{statement}
 use Rattle.index_memory.proofs.piece_sound.Tie as tie
 
-get64-requires : tie.Need-get64-requires
-get64-requires c κs = search needs
-
 returns : tie.Need-returns
 returns c =
     let a = c .before .before .before .args in
     let n = c .before .get64 in
     too-long (now (a .mem)) (a .at) (n .result) (n .ensures) (c .if1 .taken)
-
-add-get64 : tie.Need-add-get64
-add-get64 c = search needs
-
-get64-requires-2 : tie.Need-get64-requires-2
-get64-requires-2 c κs = search needs
-
-add-get64-2 : tie.Need-add-get64-2
-add-get64-2 c = search needs
-
-get64-requires-3 : tie.Need-get64-requires-3
-get64-requires-3 c κs = search needs
 
 returns-2 : tie.Need-returns-2
 returns-2 c =
@@ -37,15 +22,6 @@ returns-2 c =
     let x = c₂ .get642 in
     let y = c .before .get643 in
     no-life (now (a .mem)) (a .at) (n .result) (n .ensures) (c₃ .if1 .left) (x .result) (y .result) (x .ensures) (y .ensures) (c .if2 .taken)
-
-add-get64-3 : tie.Need-add-get64-3
-add-get64-3 c = search needs
-
-get64-requires-4 : tie.Need-get64-requires-4
-get64-requires-4 c κs = search needs
-
-sub-result : tie.Need-sub-result
-sub-result c = search needs
 
 returns-3 : tie.Need-returns-3
 returns-3 c =
@@ -65,14 +41,14 @@ pub piece-sound-spec : {M : Type 1} → statement M
 piece-sound-spec =
     tie.close
     (tie.spec
-    get64-requires
+    (λ c κs. search needs)
     returns
-    add-get64
-    get64-requires-2
-    add-get64-2
-    get64-requires-3
+    (λ c. search needs)
+    (λ c κs. search needs)
+    (λ c. search needs)
+    (λ c κs. search needs)
     returns-2
-    add-get64-3
-    get64-requires-4
-    sub-result
+    (λ c. search needs)
+    (λ c κs. search needs)
+    (λ c. search needs)
     returns-3)

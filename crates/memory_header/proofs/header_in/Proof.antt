@@ -13,24 +13,12 @@ returns c =
     let m = now (c .before .before .args .mem) in
     heading-none m (λ f. omega arith)
 
-get64-requires : tie.Need-get64-requires
-get64-requires c κs = search needs
-
-is-capacity-requires : tie.Need-is-capacity-requires
-is-capacity-requires c κs = search needs
-
 returns-2 : tie.Need-returns-2
 returns-2 c =
     let c₂ = c .before .before in
     let c₅ = c₂ .before .before .before in
     let m = now (c₅ .args .mem) in
     nodes-out m (c₂ .get64 .result) (c .before .is-capacity .result) (c₂ .get64 .ensures) (c .before .is-capacity .ensures) (not-true _ (c .if2 .taken))
-
-get64-requires-2 : tie.Need-get64-requires-2
-get64-requires-2 c κs = search needs
-
-is-capacity-requires-2 : tie.Need-is-capacity-requires-2
-is-capacity-requires-2 c κs = search needs
 
 returns-3 : tie.Need-returns-3
 returns-3 c =
@@ -54,16 +42,10 @@ returns-4 c =
     let m = now (c .before .before .before .before .before .before .before .before .before .before .args .mem) in
     heading-none m (λ f. omega arith)
 
-get64-requires-3 : tie.Need-get64-requires-3
-get64-requires-3 c κs = search needs
-
 returns-5 : tie.Need-returns-5
 returns-5 c =
     let m = now (c .before .before .before .before .before .before .before .before .before .before .before .before .args .mem) in
     heading-none m (λ f. omega arith)
-
-get64-requires-4 : tie.Need-get64-requires-4
-get64-requires-4 c κs = search needs
 
 returns-6 : tie.Need-returns-6
 returns-6 c =
@@ -96,25 +78,22 @@ header-within-requires c κs =
       second-zero = omega (arith, c .before .get644 .ensures, c .if6 .left);
     }
 
-returns-7 : tie.Need-returns-7
-returns-7 c = search needs
-
 pub header-in-spec : {M : Type 1} → statement M
 header-in-spec =
     tie.close
     (tie.spec
     returns
-    get64-requires
-    is-capacity-requires
+    (λ c κs. search needs)
+    (λ c κs. search needs)
     returns-2
-    get64-requires-2
-    is-capacity-requires-2
+    (λ c κs. search needs)
+    (λ c κs. search needs)
     returns-3
     needed-requires
     returns-4
-    get64-requires-3
+    (λ c κs. search needs)
     returns-5
-    get64-requires-4
+    (λ c κs. search needs)
     returns-6
     header-within-requires
-    returns-7)
+    (λ c. search needs))

@@ -6,35 +6,20 @@ use Rattle.memory_header.proofs.HeaderFacts.{payload-over, all-within, 
 use Rattle.memory_header.proofs.header_within.Statement.{statement}
 use Rattle.memory_header.proofs.header_within.Tie as tie
 
-get64-requires : tie.Need-get64-requires
-get64-requires c κs = search needs
-
 returns : tie.Need-returns
 returns c =
     let m = now (c .before .before .before .args .mem) in
     heading-none m (λ f. omega arith)
-
-get64-requires-2 : tie.Need-get64-requires-2
-get64-requires-2 c κs = search needs
 
 returns-2 : tie.Need-returns-2
 returns-2 c =
     let m = now (c .before .before .before .before .before .args .mem) in
     heading-none m (λ f. omega arith)
 
-get64-requires-3 : tie.Need-get64-requires-3
-get64-requires-3 c κs = search needs
-
 returns-3 : tie.Need-returns-3
 returns-3 c =
     let m = now (c .before .before .before .before .before .before .before .args .mem) in
     heading-none m (λ f. omega arith)
-
-get64-requires-4 : tie.Need-get64-requires-4
-get64-requires-4 c κs = search needs
-
-payload-limit-requires : tie.Need-payload-limit-requires
-payload-limit-requires c κs = search needs
 
 returns-4 : tie.Need-returns-4
 returns-4 c =
@@ -61,13 +46,13 @@ pub header-within-spec : {M : Type 1} → statement M
 header-within-spec =
     tie.close
     (tie.spec
-    get64-requires
+    (λ c κs. search needs)
     returns
-    get64-requires-2
+    (λ c κs. search needs)
     returns-2
-    get64-requires-3
+    (λ c κs. search needs)
     returns-3
-    get64-requires-4
-    payload-limit-requires
+    (λ c κs. search needs)
+    (λ c κs. search needs)
     returns-4
     returns-5)

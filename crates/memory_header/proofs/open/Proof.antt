@@ -11,17 +11,11 @@ use Rattle.memory_header.proofs.HeaderFacts.{in-range, not-in-range}
 use Rattle.memory_header.proofs.open.Statement.{statement}
 use Rattle.memory_header.proofs.open.Tie as tie
 
-is-capacity-requires : tie.Need-is-capacity-requires
-is-capacity-requires c κs = search needs
-
 returns : tie.Need-returns
 returns c =
     let c₃ = c .before .before .before in
     open-refused (now (c₃ .args .mem)) (record { nodes = c₃ .args .nodes; entries = c₃ .args .entries })
     (λ f. not-in-range (c₃ .args .nodes) (sym (c .before .is-capacity .ensures) ∙ not-true _ (c .if1 .taken)) (f .some-nodes) (f .few-nodes))
-
-is-capacity-requires-2 : tie.Need-is-capacity-requires-2
-is-capacity-requires-2 c κs = search needs
 
 returns-2 : tie.Need-returns-2
 returns-2 c =
@@ -43,12 +37,6 @@ returns-3 c =
     let c₇ = c .before .before .before .before .before .before .before in
     open-refused (now (c₇ .args .mem)) (record { nodes = c₇ .args .nodes; entries = c₇ .args .entries })
     (λ f. omega (arith, f .held, c .before .needed .ensures, c .if3 .taken))
-
-put-header-requires : tie.Need-put-header-requires
-put-header-requires c κs = search needs
-
-same-length : tie.Need-same-length
-same-length c = search needs
 
 returns-4 : tie.Need-returns-4
 returns-4 c =
@@ -72,12 +60,12 @@ pub open-spec : {M : Type 1} → statement M
 open-spec =
     tie.close
     (tie.spec
-    is-capacity-requires
+    (λ c κs. search needs)
     returns
-    is-capacity-requires-2
+    (λ c κs. search needs)
     returns-2
     needed-requires
     returns-3
-    put-header-requires
-    same-length
+    (λ c κs. search needs)
+    (λ c. search needs)
     returns-4)

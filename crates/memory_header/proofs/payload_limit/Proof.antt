@@ -7,17 +7,8 @@ use Rattle.memory_header.proofs.payload_limit.Tie as tie
 returns : tie.Need-returns
 returns c = rw (eq-eqb (c .before .args .phase) 0 (c .if1 .taken))
 
-mul-result : tie.Need-mul-result
-mul-result c = search needs
-
-mul-result-2 : tie.Need-mul-result-2
-mul-result-2 c = search needs
-
-add-result : tie.Need-add-result
-add-result c = search needs
-
 returns-2 : tie.Need-returns-2
 returns-2 c = rw (ne-eqb (c .before .args .phase) 0 (c .if1 .left))
 
 pub payload-limit-spec : {M : Type 1} → statement M
-payload-limit-spec = tie.close (tie.spec returns mul-result mul-result-2 add-result returns-2)
+payload-limit-spec = tie.close (tie.spec returns (λ c. search needs) (λ c. search needs) (λ c. search needs) returns-2)

@@ -6,33 +6,6 @@ use Rattle.memory_header.proofs.HeaderBytes.{put-in-turn}
 use Rattle.memory_header.proofs.put_header.Statement.{statement}
 use Rattle.memory_header.proofs.put_header.Tie as tie
 
-put64-requires : tie.Need-put64-requires
-put64-requires c κs = search needs
-
-put64-requires-2 : tie.Need-put64-requires-2
-put64-requires-2 c κs = search needs
-
-put64-requires-3 : tie.Need-put64-requires-3
-put64-requires-3 c κs = search needs
-
-put64-requires-4 : tie.Need-put64-requires-4
-put64-requires-4 c κs = search needs
-
-put64-requires-5 : tie.Need-put64-requires-5
-put64-requires-5 c κs = search needs
-
-put64-requires-6 : tie.Need-put64-requires-6
-put64-requires-6 c κs = search needs
-
-put64-requires-7 : tie.Need-put64-requires-7
-put64-requires-7 c κs = search needs
-
-put64-requires-8 : tie.Need-put64-requires-8
-put64-requires-8 c κs = search needs
-
-same-length : tie.Need-same-length
-same-length c = search needs
-
 returns : tie.Need-returns
 returns c =
     let c₂ = c .before .before in
@@ -61,13 +34,13 @@ pub put-header-spec : {M : Type 1} → statement M
 put-header-spec =
     tie.close
     (tie.spec
-    put64-requires
-    put64-requires-2
-    put64-requires-3
-    put64-requires-4
-    put64-requires-5
-    put64-requires-6
-    put64-requires-7
-    put64-requires-8
-    same-length
+    (λ c κs. search needs)
+    (λ c κs. search needs)
+    (λ c κs. search needs)
+    (λ c κs. search needs)
+    (λ c κs. search needs)
+    (λ c κs. search needs)
+    (λ c κs. search needs)
+    (λ c κs. search needs)
+    (λ c. search needs)
     returns)

@@ -6,20 +6,11 @@ use Rattle.index_memory.proofs.Charges.{node-bound}
 use Rattle.recording.proofs.block_nodes.Statement.{statement}
 use Rattle.recording.proofs.block_nodes.Tie as tie
 
-mul-result : tie.Need-mul-result
-mul-result c = search needs
-
-piece-nodes-requires : tie.Need-piece-nodes-requires
-piece-nodes-requires c κs = search needs
-
 add-result : tie.Need-add-result
 add-result c =
     let n = c .before .args .n in
     let b = node-bound (n % 16) (omega arith) in
     omega (arith, c .piece-nodes .ensures, c .before .pre)
 
-returns : tie.Need-returns
-returns c = search needs
-
 pub block-nodes-spec : {M : Type 1} → statement M
-block-nodes-spec = tie.close (tie.spec mul-result piece-nodes-requires add-result returns)
+block-nodes-spec = tie.close (tie.spec (λ c. search needs) (λ c κs. search needs) add-result (λ c. search needs))

@@ -4,21 +4,6 @@ use Rattle.recording.proofs.Recording.{grown-by}
 use Rattle.recording.proofs.grown.Statement.{statement}
 use Rattle.recording.proofs.grown.Tie as tie
 
-block-nodes-requires : tie.Need-block-nodes-requires
-block-nodes-requires c κs = search needs
-
-entry-charge-requires : tie.Need-entry-charge-requires
-entry-charge-requires c κs = search needs
-
-piece-count-requires : tie.Need-piece-count-requires
-piece-count-requires c κs = search needs
-
-add-charged : tie.Need-add-charged
-add-charged c = search needs
-
-charged-requires : tie.Need-charged-requires
-charged-requires c κs = search needs
-
 returns : tie.Need-returns
 returns c =
     let c₂ = c .before .before in
@@ -33,9 +18,9 @@ pub grown-spec : {M : Type 1} → statement M
 grown-spec =
     tie.close
     (tie.spec
-    block-nodes-requires
-    entry-charge-requires
-    piece-count-requires
-    add-charged
-    charged-requires
+    (λ c κs. search needs)
+    (λ c κs. search needs)
+    (λ c κs. search needs)
+    (λ c. search needs)
+    (λ c κs. search needs)
     returns)

@@ -16,24 +16,12 @@ returns-2 c =
     let c₃ = c₂ .before in
     refused-5 (header-of (c₃ .args .h) .capacity) _ _ (c₃ .args .n) (plain (c₃ .args .l)) (c₂ .if1 .left) (c .if2 .taken)
 
-sub-if3 : tie.Need-sub-if3
-sub-if3 c = search needs
-
 returns-3 : tie.Need-returns-3
 returns-3 c =
     let c₂ = c .before .before in
     let c₄ = c₂ .before .before in
     let c₅ = c₄ .before in
     refused-6 (header-of (c₅ .args .h) .capacity) _ _ (c₅ .args .n) (plain (c₅ .args .l)) (c₄ .if1 .left) (c₂ .if2 .left) (omega arith)
-
-block-nodes-requires : tie.Need-block-nodes-requires
-block-nodes-requires c κs = search needs
-
-entry-charge-requires : tie.Need-entry-charge-requires
-entry-charge-requires c κs = search needs
-
-sub-if4 : tie.Need-sub-if4
-sub-if4 c = search needs
 
 returns-4 : tie.Need-returns-4
 returns-4 c =
@@ -43,9 +31,6 @@ returns-4 c =
     let c₉ = c₈ .before in
     refused-7 (header-of (c₉ .args .h) .capacity) _ _ (c₉ .args .n) (plain (c₉ .args .l)) (c₈ .if1 .left) (c₆ .if2 .left) (omega arith)
     (omega (arith, c₉ .pre, c₃ .block-nodes .ensures))
-
-sub-if5 : tie.Need-sub-if5
-sub-if5 c = search needs
 
 returns-5 : tie.Need-returns-5
 returns-5 c =
@@ -75,12 +60,12 @@ judge-spec =
     (tie.spec
     returns
     returns-2
-    sub-if3
+    (λ c. search needs)
     returns-3
-    block-nodes-requires
-    entry-charge-requires
-    sub-if4
+    (λ c κs. search needs)
+    (λ c κs. search needs)
+    (λ c. search needs)
     returns-4
-    sub-if5
+    (λ c. search needs)
     returns-5
     returns-6)

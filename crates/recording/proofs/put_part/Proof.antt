@@ -6,27 +6,6 @@ use Rattle.recording.proofs.Recording.{part-written}
 use Rattle.recording.proofs.put_part.Statement.{statement}
 use Rattle.recording.proofs.put_part.Tie as tie
 
-part-end-requires : tie.Need-part-end-requires
-part-end-requires c κs = search needs
-
-sub-piece : tie.Need-sub-piece
-sub-piece c = search needs
-
-part-piece-start : tie.Need-part-piece-start
-part-piece-start c = search needs
-
-part-piece-end : tie.Need-part-piece-end
-part-piece-end c = search needs
-
-moved-requires : tie.Need-moved-requires
-moved-requires c κs = search needs
-
-put-piece-requires : tie.Need-put-piece-requires
-put-piece-requires c κs = search needs
-
-same-length : tie.Need-same-length
-same-length c = search needs
-
 returns : tie.Need-returns
 returns c =
     let a = c .before .before .before .before .before .before .before .before .before .args in
@@ -40,11 +19,11 @@ pub put-part-spec : {M : Type 1} → statement M
 put-part-spec =
     tie.close
     (tie.spec
-    part-end-requires
-    sub-piece
-    part-piece-start
-    part-piece-end
-    moved-requires
-    put-piece-requires
-    same-length
+    (λ c κs. search needs)
+    (λ c. search needs)
+    (λ c. search needs)
+    (λ c. search needs)
+    (λ c κs. search needs)
+    (λ c κs. search needs)
+    (λ c. search needs)
     returns)

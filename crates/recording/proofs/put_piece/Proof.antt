@@ -7,36 +7,6 @@ use Rattle.recording.proofs.Recording.{put-in-turn}
 use Rattle.recording.proofs.put_piece.Statement.{statement}
 use Rattle.recording.proofs.put_piece.Tie as tie
 
-put64-requires : tie.Need-put64-requires
-put64-requires c κs = search needs
-
-add-copy : tie.Need-add-copy
-add-copy c = search needs
-
-copy-requires : tie.Need-copy-requires
-copy-requires c κs = search needs
-
-add-clear : tie.Need-add-clear
-add-clear c = search needs
-
-add-clear-2 : tie.Need-add-clear-2
-add-clear-2 c = search needs
-
-add-clear-3 : tie.Need-add-clear-3
-add-clear-3 c = search needs
-
-clear-requires : tie.Need-clear-requires
-clear-requires c κs = search needs
-
-add-put-location : tie.Need-add-put-location
-add-put-location c = search needs
-
-put-location-requires : tie.Need-put-location-requires
-put-location-requires c κs = search needs
-
-same-length : tie.Need-same-length
-same-length c = search needs
-
 returns : tie.Need-returns
 returns c =
     let c₂ = c .before .before in
@@ -57,14 +27,14 @@ pub put-piece-spec : {M : Type 1} → statement M
 put-piece-spec =
     tie.close
     (tie.spec
-    put64-requires
-    add-copy
-    copy-requires
-    add-clear
-    add-clear-2
-    add-clear-3
-    clear-requires
-    add-put-location
-    put-location-requires
-    same-length
+    (λ c κs. search needs)
+    (λ c. search needs)
+    (λ c κs. search needs)
+    (λ c. search needs)
+    (λ c. search needs)
+    (λ c. search needs)
+    (λ c κs. search needs)
+    (λ c. search needs)
+    (λ c κs. search needs)
+    (λ c. search needs)
     returns)

@@ -6,16 +6,10 @@ use Rattle.recording.proofs.Outcome.{kind-unknown, kind-other, header-r
 use Rattle.recording.proofs.record_open.Statement.{statement}
 use Rattle.recording.proofs.record_open.Tie as tie
 
-cast-if1 : tie.Need-cast-if1
-cast-if1 c = search needs
-
 returns : tie.Need-returns
 returns c =
     let p = c .before .before .before .pre in
     kind-unknown _ _ (p .0) (p .1) _ _ (c .if1 .taken)
-
-cast-if2 : tie.Need-cast-if2
-cast-if2 c = search needs
 
 returns-2 : tie.Need-returns-2
 returns-2 c =
@@ -48,9 +42,6 @@ put-header-requires c κs =
     let p = c₃ .before .before .before .before .before .before .before .before .pre in
     omega (arith, header-room _ _ (p .0) (p .1), c₃ .append .kept .0)
 
-same-length : tie.Need-same-length
-same-length c = search needs
-
 returns-4 : tie.Need-returns-4
 returns-4 c =
     let c₂ = c .before .before in
@@ -69,13 +60,13 @@ pub record-open-spec : {M : Type 1} → statement M
 record-open-spec =
     tie.close
     (tie.spec
-    cast-if1
+    (λ c. search needs)
     returns
-    cast-if2
+    (λ c. search needs)
     returns-2
     judge-requires
     returns-3
     append-requires
     put-header-requires
-    same-length
+    (λ c. search needs)
     returns-4)

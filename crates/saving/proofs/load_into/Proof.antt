@@ -10,15 +10,6 @@ use Rattle.saving.proofs.Theorems.{image-refusal, fault-some}
 use Rattle.saving.proofs.load_into.Statement.{statement}
 use Rattle.saving.proofs.load_into.Tie as tie
 
-check-requires : tie.Need-check-requires
-check-requires c κs = search needs
-
-enum-known-n : tie.Need-enum-known-n
-enum-known-n c = search needs
-
-enum-known-t : tie.Need-enum-known-t
-enum-known-t c = search needs
-
 load-right-requires : tie.Need-load-right-requires
 load-right-requires c κs =
     let c₂ = c .before .before in
@@ -37,9 +28,6 @@ returns c =
     let e = fault-over (header-of (a .h) .capacity) (now (a .mem)) (now (a .s)) n k ∙ load-as (now (a .mem)) (now (a .s)) _ _ (start .pre) x in
     (refused-as n (fault-some k) ∙ ap (λ (d : Done). outcome-as (d .refusal)) e, ap (λ (d : Done). d .memory) e)
 
-same-length : tie.Need-same-length
-same-length c = search needs
-
 returns-2 : tie.Need-returns-2
 returns-2 c = c .before .before .load-right .ensures
 
@@ -47,10 +35,10 @@ pub load-into-spec : {M : Type 1} → statement M
 load-into-spec =
     tie.close
     (tie.spec
-    check-requires
-    enum-known-n
-    enum-known-t
+    (λ c κs. search needs)
+    (λ c. search needs)
+    (λ c. search needs)
     load-right-requires
     returns
-    same-length
+    (λ c. search needs)
     returns-2)

@@ -38,9 +38,6 @@ copy-requires c κs =
       room (header-of (a .h) .capacity) (now (a .mem)) (now (a .s)) (a .t .nodes) (a .t .entries) (room-of (now (a .mem)) _ (start .pre .0)) (λ j. omega (arith, c₇ .shared-slice-known .given j)) (omega arith) (start .pre .1) (c₄ .if1 .left) (c₁ .if2 .left),
     )
 
-closed-requires : tie.Need-closed-requires
-closed-requires c κs = search needs
-
 put-finished-requires : tie.Need-put-finished-requires
 put-finished-requires c κs =
     let k = c .before .closed in
@@ -52,9 +49,6 @@ put-finished-requires c κs =
     let a = start .args in
     closable (header-of (a .h) .capacity) (now (a .mem)) (now (a .s)) (a .t .nodes) (a .t .entries) (room-of (now (a .mem)) _ (start .pre .0)) (λ j. omega (arith, c₁₂ .shared-slice-known .given j)) (omega (arith, start .good .1 .1 .1 .0)) (start .pre .1) (c₉ .if1 .left) (c₆ .if2 .left)
     (header-of (k .result)) (ap header-of (k .ensures)) _ (ap length (c₄ .copy .ensures) ∙ simp length-sets)
-
-same-length : tie.Need-same-length
-same-length c = search needs
 
 returns-3 : tie.Need-returns-3
 returns-3 c =
@@ -76,4 +70,4 @@ returns-3 c =
 pub load-right-spec : {M : Type 1} → statement M
 load-right-spec =
     tie.close
-    (tie.spec returns returns-2 copy-requires closed-requires put-finished-requires same-length returns-3)
+    (tie.spec returns returns-2 copy-requires (λ c κs. search needs) put-finished-requires (λ c. search needs) returns-3)

@@ -10,18 +10,6 @@ use Rattle.saving.proofs.Laws.{cut-is, too-short, saved}
 use Rattle.saving.proofs.save_finished.Statement.{statement}
 use Rattle.saving.proofs.save_finished.Tie as tie
 
-add-s : tie.Need-add-s
-add-s c = search needs
-
-sub-s : tie.Need-sub-s
-sub-s c = search needs
-
-part-s-start : tie.Need-part-s-start
-part-s-start c = search needs
-
-part-s-end : tie.Need-part-s-end
-part-s-end c = search needs
-
 returns : tie.Need-returns
 returns c =
     let c₄ = c .before .before .before .before in
@@ -29,12 +17,6 @@ returns c =
     let a = start .args in
     let e = too-short (now (a .mem)) _ (now (a .out)) _ _ (start .pre .1) (cut-is (now (a .mem)) (header-of (a .h)) (λ j. omega (arith, c₄ .shared-slice-known .given j)) (omega arith) (start .pre .0)) (c .if1 .taken) in
     (ap (λ (f : Saving). saved-as (f .refusal) (f .size)) e, ap (λ (f : Saving). f .buffer) e)
-
-copy-requires : tie.Need-copy-requires
-copy-requires c κs = search needs
-
-same-length : tie.Need-same-length
-same-length c = search needs
 
 returns-2 : tie.Need-returns-2
 returns-2 c =
@@ -49,4 +31,4 @@ returns-2 c =
 pub save-finished-spec : {M : Type 1} → statement M
 save-finished-spec =
     tie.close
-    (tie.spec add-s sub-s part-s-start part-s-end returns copy-requires same-length returns-2)
+    (tie.spec (λ c. search needs) (λ c. search needs) (λ c. search needs) (λ c. search needs) returns (λ c κs. search needs) (λ c. search needs) returns-2)

@@ -9,27 +9,12 @@ use Rattle.string_index.proofs.FinishCall.{finish-as}
 use Rattle.string_index.proofs.finish.Statement.{statement}
 use Rattle.string_index.proofs.finish.Tie as tie
 
-inspect-requires : tie.Need-inspect-requires
-inspect-requires c κs = search needs
-
-enum-told : tie.Need-enum-told
-enum-told c = search needs
-
-enum-known-h : tie.Need-enum-known-h
-enum-known-h c = search needs
-
 finish-open-requires : tie.Need-finish-open-requires
 finish-open-requires c κs =
     let c₂ = c .before .before in
     let c₄ = c₂ .before .before in
     let w = subst (Inspects (now (c₄ .before .before .before .args .mem))) (c₂ .h .given .1) (c₄ .inspect .ensures) in
     (w .told, w .holds)
-
-enum-told-2 : tie.Need-enum-told-2
-enum-told-2 c = search needs
-
-same-length : tie.Need-same-length
-same-length c = search needs
 
 returns : tie.Need-returns
 returns c =
@@ -39,9 +24,6 @@ returns c =
     let e = finish-as m _ (w .holds) in
     (ap (λ (d : Done). outcome-as (d .refusal)) e, ap (λ (d : Done). d .memory) e)
 
-same-length-2 : tie.Need-same-length-2
-same-length-2 c = search needs
-
 returns-2 : tie.Need-returns-2
 returns-2 c =
     let c₅ = c .before .before .before .before .before in
@@ -50,9 +32,6 @@ returns-2 c =
     let w = subst (Inspects m) (c₅ .h .given .1) (c₇ .inspect .ensures) in
     let e = finish-as m _ (w .holds) in
     (ap (λ (d : Done). outcome-as (d .refusal)) e, c .before .before .finish-open .ensures ∙ ap (λ (d : Done). d .memory) e)
-
-same-length-3 : tie.Need-same-length-3
-same-length-3 c = search needs
 
 returns-3 : tie.Need-returns-3
 returns-3 c =
@@ -66,14 +45,14 @@ pub finish-spec : {M : Type 1} → statement M
 finish-spec =
     tie.close
     (tie.spec
-    inspect-requires
-    enum-told
-    enum-known-h
+    (λ c κs. search needs)
+    (λ c. search needs)
+    (λ c. search needs)
     finish-open-requires
-    enum-told-2
-    same-length
+    (λ c. search needs)
+    (λ c. search needs)
     returns
-    same-length-2
+    (λ c. search needs)
     returns-2
-    same-length-3
+    (λ c. search needs)
     returns-3)

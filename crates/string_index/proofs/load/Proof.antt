@@ -10,15 +10,6 @@ use Rattle.saving.proofs.Laws.{load-broken}
 use Rattle.string_index.proofs.load.Statement.{statement}
 use Rattle.string_index.proofs.load.Tie as tie
 
-inspect-requires : tie.Need-inspect-requires
-inspect-requires c κs = search needs
-
-enum-told : tie.Need-enum-told
-enum-told c = search needs
-
-enum-known-h : tie.Need-enum-known-h
-enum-known-h c = search needs
-
 load-into-requires : tie.Need-load-into-requires
 load-into-requires c κs =
     let c₂ = c .before .before in
@@ -26,9 +17,6 @@ load-into-requires c κs =
     let a = c₄ .before .before .before .before .args in
     let w = subst (Inspects (now (a .mem))) (c₂ .h .given .1) (c₄ .inspect .ensures) in
     ap capacity-of (w .holds)
-
-enum-known-h-2 : tie.Need-enum-known-h-2
-enum-known-h-2 c = search needs
 
 load-into-requires-2 : tie.Need-load-into-requires-2
 load-into-requires-2 c κs =
@@ -38,9 +26,6 @@ load-into-requires-2 c κs =
     let w = subst (Inspects (now (a .mem))) (c₂ .h2 .given .1) (c₄ .inspect .ensures) in
     ap capacity-of (w .holds)
 
-same-length : tie.Need-same-length
-same-length c = search needs
-
 returns : tie.Need-returns
 returns c =
     let c₂ = c .before .before in
@@ -49,16 +34,10 @@ returns c =
     let e = load-broken (now (a .mem)) (now (a .image)) (w .holds) in
     (ap (λ (d : Done). outcome-as (d .refusal)) e, ap (λ (d : Done). d .memory) e)
 
-same-length-2 : tie.Need-same-length-2
-same-length-2 c = search needs
-
 returns-2 : tie.Need-returns-2
 returns-2 c =
     let r = c .before .before .load-into in
     (r .ensures .0, r .ensures .1)
-
-same-length-3 : tie.Need-same-length-3
-same-length-3 c = search needs
 
 returns-3 : tie.Need-returns-3
 returns-3 c =
@@ -69,15 +48,15 @@ pub load-spec : {M : Type 1} → statement M
 load-spec =
     tie.close
     (tie.spec
-    inspect-requires
-    enum-told
-    enum-known-h
+    (λ c κs. search needs)
+    (λ c. search needs)
+    (λ c. search needs)
     load-into-requires
-    enum-known-h-2
+    (λ c. search needs)
     load-into-requires-2
-    same-length
+    (λ c. search needs)
     returns
-    same-length-2
+    (λ c. search needs)
     returns-2
-    same-length-3
+    (λ c. search needs)
     returns-3)

@@ -10,27 +10,12 @@ use Rattle.inspecting.specs.Held.{Inspects}
 use Rattle.string_index.proofs.record.Statement.{statement}
 use Rattle.string_index.proofs.record.Tie as tie
 
-inspect-requires : tie.Need-inspect-requires
-inspect-requires c κs = search needs
-
-enum-told : tie.Need-enum-told
-enum-told c = search needs
-
-enum-known-h : tie.Need-enum-known-h
-enum-known-h c = search needs
-
 record-open-requires : tie.Need-record-open-requires
 record-open-requires c κs =
     let c₂ = c .before .before in
     let c₄ = c₂ .before .before in
     let w = subst (Inspects (now (c₄ .before .before .before .before .args .mem))) (c₂ .h .given .1) (c₄ .inspect .ensures) in
     (w .told, w .holds)
-
-enum-told-2 : tie.Need-enum-told-2
-enum-told-2 c = search needs
-
-same-length : tie.Need-same-length
-same-length c = search needs
 
 returns : tie.Need-returns
 returns c =
@@ -40,16 +25,10 @@ returns c =
     let e = record-as (now (a .mem)) (a .kind) (record { bytes = now (a .«data»); at = plain (a .l) }) _ (w .holds) in
     (ap (λ (d : Done). recorded-as (d .refusal)) e, ap (λ (d : Done). d .memory) e)
 
-same-length-2 : tie.Need-same-length-2
-same-length-2 c = search needs
-
 returns-2 : tie.Need-returns-2
 returns-2 c =
     let r = c .before .before .record-open in
     (r .ensures .0, r .ensures .1)
-
-same-length-3 : tie.Need-same-length-3
-same-length-3 c = search needs
 
 returns-3 : tie.Need-returns-3
 returns-3 c =
@@ -63,14 +42,14 @@ pub record-spec : {M : Type 1} → statement M
 record-spec =
     tie.close
     (tie.spec
-    inspect-requires
-    enum-told
-    enum-known-h
+    (λ c κs. search needs)
+    (λ c. search needs)
+    (λ c. search needs)
     record-open-requires
-    enum-told-2
-    same-length
+    (λ c. search needs)
+    (λ c. search needs)
     returns
-    same-length-2
+    (λ c. search needs)
     returns-2
-    same-length-3
+    (λ c. search needs)
     returns-3)

@@ -9,18 +9,6 @@ use Rattle.saving.proofs.Laws.{save-as}
 use Rattle.string_index.proofs.save.Statement.{statement}
 use Rattle.string_index.proofs.save.Tie as tie
 
-inspect-requires : tie.Need-inspect-requires
-inspect-requires c κs = search needs
-
-enum-told : tie.Need-enum-told
-enum-told c = search needs
-
-enum-told-2 : tie.Need-enum-told-2
-enum-told-2 c = search needs
-
-enum-known-h : tie.Need-enum-known-h
-enum-known-h c = search needs
-
 save-finished-requires : tie.Need-save-finished-requires
 save-finished-requires c κs =
     let c₂ = c .before .before in
@@ -45,9 +33,6 @@ returns-2 c =
     let e = save-as (now (a .mem)) (now (a .out)) _ (w .holds) in
     (ap (λ (f : Saving). saved-as (f .refusal) (f .size)) e, ap (λ (f : Saving). f .buffer) e)
 
-same-length : tie.Need-same-length
-same-length c = search needs
-
 returns-3 : tie.Need-returns-3
 returns-3 c =
     let r = c .before .before .save-finished in
@@ -57,12 +42,12 @@ pub save-spec : {M : Type 1} → statement M
 save-spec =
     tie.close
     (tie.spec
-    inspect-requires
-    enum-told
-    enum-told-2
-    enum-known-h
+    (λ c κs. search needs)
+    (λ c. search needs)
+    (λ c. search needs)
+    (λ c. search needs)
     save-finished-requires
     returns
     returns-2
-    same-length
+    (λ c. search needs)
     returns-3)

@@ -6,7 +6,7 @@ use Rattle.definitions.specs.Calls.{Recorded, fresh}
 use Rattle.definitions.specs.Program.{Form, Reply, form-replies, next}
 use Rattle.forms.specs.ReadLine.{read-line}
 use Rattle.lines.specs.Cut.{lines-of}
-use Rattle.replies.specs.Written.{reply-bytes}
+use Rattle.replies.specs.Replies.{replies-bytes}
 
 -- what it leaves behind; a line that is no form changes nothing
 abbrev pub after-form : Recorded → Option Form → Recorded
@@ -17,11 +17,6 @@ after-form s (some f) = next s f
 unfoldable pub line-replies : Recorded → List (List ℕ) → List Reply
 line-replies s [] = []
 line-replies s (l ∷ ls) = form-replies s (read-line l) ++ line-replies (after-form s (read-line l)) ls
-
--- replies as bytes, each with its newline
-abbrev pub replies-bytes : List Reply → List ℕ
-replies-bytes [] = []
-replies-bytes (p ∷ ps) = reply-bytes p ++ replies-bytes ps
 
 -- what the program writes for an input
 abbrev pub program : List ℕ → List ℕ
