@@ -1,3 +1,3 @@
--- `Written` has what the contracts cite. Assumes nothing.
+-- `Written` has what the contracts cite, `Replies` the bytes of several replies. Assumes nothing.
 pub mod Written
 pub mod Replies
