@@ -32,9 +32,6 @@ grouped : (A B C D H : List ℕ)
 unfolding behind-word
 grouped A B C D H = simp append-assoc
 
-find-grouped : (H : List ℕ) → text "(find (" ++ H ++ text "))" ≡ text "(find " ++ (40 ∷ (H ++ 41 ∷ 41 ∷ []))
-find-grouped H = refl
-
 module _ (k a c d : ℕ) (bs : List ℕ) where
   the-block : Form
   the-block = block k (record { bytes = bs; at = record { address = a; created = c; destroyed = d } })

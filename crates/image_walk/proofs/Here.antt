@@ -91,7 +91,7 @@ here-slots {s} {d} {at} h = slots-here s at (here-bounds h)
 
 -- ── the child for a byte ──
 
-matches-child : (s : List ℕ) (d : ℕ) (es : List Entry) (f : Forest) (b : ℕ) → Matches s d es f → Found s d (node-for es b) (child f b)
+pub matches-child : (s : List ℕ) (d : ℕ) (es : List Entry) (f : Forest) (b : ℕ) → Matches s d es f → Found s d (node-for es b) (child f b)
 unfolding node-for
 matches-child s d [] leaf b m = tt
 matches-child s d [] (more c x below later) b m = absurd m

@@ -109,8 +109,3 @@ lines-cut s at h =
     cut-text t (omega (arith, length-drop at s))
     ∙ ap (λ (m : ℕ). take m t ∷ lines-of (drop (suc n) t)) (sym p)
     ∙ ap (λ (l : List ℕ). take (at + n - at) t ∷ lines-of l) (drop-drop (suc n) at s ∙ ap (λ (m : ℕ). drop m s) q)
-
--- an input that has been read has no lines left
-pub lines-done : (s : List ℕ) (at : ℕ) → length s ≤ at → lines-of (drop at s) ≡ []
-unfolding lines-of
-lines-done s at h = rw (drop-of-length-le s h)

@@ -9,7 +9,7 @@ use lib.ListN.{length, getD, take, drop, length-take, length-drop, length-append
 use lib.Seq.{sets, length-sets, getD-take, getD-drop, ext-getD}
 use Rattle.words.specs.Words.{le64, setLe64, bytes64}
 use Rattle.words.proofs.Laws.{length-setLe64, le64-setLe64}
-use Rattle.words.proofs.Parts.{sets-append, length-bytes64, setLe64-sets, le64-sets-other, getD-sets-out}
+use Rattle.words.proofs.Parts.{getD-part, sets-append, length-bytes64, setLe64-sets, le64-sets-other, getD-sets-out}
 
 -- the bytes of numbers that stand one after the other
 unfoldable pub numbers : List ℕ → List ℕ
@@ -43,9 +43,6 @@ number-written (v ∷ vs) xs at (suc k) l s h =
     (number-written vs (setLe64 xs at v) (at + 8) k (omega arith) s (omega (arith, length-setLe64 xs at v)))
 
 -- ---- parts
-
-getD-part : (n : ℕ) (xs : List ℕ) (at k : ℕ) → k < n → getD (take n (drop at xs)) k 0 ≡ getD xs (at + k) 0
-getD-part n xs at k l = getD-take n (drop at xs) k 0 l ∙ getD-drop at xs k 0
 
 -- two lists that agree on a part have the same one
 pub part-ext : (n p : ℕ) (xs ys : List ℕ) → length xs ≡ length ys → ((k : ℕ) → p ≤ k → k < p + n → getD xs k 0 ≡ getD ys k 0)

@@ -12,6 +12,7 @@ use Rattle.image_walk.specs.Tables.{put, slot-in, slots-from, entries-at, node-
 use Rattle.image_walk.specs.Here.{NodeHere, Matches, Found}
 use Rattle.image_walk.proofs.Entries.{slots-are}
 use Rattle.node_rule.specs.Parts.{Ahead, TableOf}
+use Rattle.image_walk.proofs.Here.{matches-child}
 
 -- ── the next entry ──
 
@@ -54,18 +55,6 @@ module _ (s : List ℕ) (d table children j : ℕ) (f : Forest) where
   slots-end l m = let e : children - j ≡ 0 = omega arith in none-in s (d - 1) f (rw e at m)
 
 -- ── the child for a byte ──
-
-matches-child : (s : List ℕ) (d : ℕ) (es : List Entry) (f : Forest) (b : ℕ) → Matches s d es f → Found s d (node-for es b) (child f b)
-unfolding node-for
-matches-child s d [] leaf b m = tt
-matches-child s d [] (more c x below later) b m = absurd m
-matches-child s d (e ∷ es) leaf b m = absurd m
-matches-child s d (e ∷ es) (more c x below later) b m = rw (m .0) (go (eqb c b) (matches-child s d es later b (m .2)))
-  where
-    go : (o : Bool) → Found s d (node-for es b) (child later b) →
-        Found s d (cond o (some (e .node)) (node-for es b)) (cond o (some (record { lists = x; children = below })) (child later b))
-    go true ih = m .1
-    go false ih = ih
 
 -- what the table has for a byte is the child by that byte
 pub table-child : (s : List ℕ) (d table children : ℕ) (f : Forest) → TableOf s d table children f → (b : ℕ) → Found s (d - 1) (node-for (entries-at s table children) b) (child f b)

@@ -30,15 +30,6 @@ holding-none s p e t f h =
 pub holding-start : (s : List ℕ) (base : ℕ) → base * 24 ≤ length s → Holding s (record { base = base; count = base; tight = false; full = false }) []
 holding-start s base h = holding-none s (record { base = base; count = base; tight = false; full = false }) refl (λ g. clash (sym g)) refl h
 
--- only the members count
-pub holding-same : {s : List ℕ} {p : Places} {xs ys : List Location} → Holding s p xs → Within xs ys → Within ys xs → Holding s p ys
-holding-same {s} {p} {xs} {ys} h f g = record {
-  valid = h .valid;
-  only = λ e x k. f x (h .only e x k);
-  all = λ e x k. h .all e x (g x k);
-  over = λ e. omega (arith, h .over e, fewer xs ys f);
-}
-
 -- a list was added
 pub holding-taken : {s s′ : List ℕ} {p r : Places} {ls xs : List Location} → Holding s p xs → Taken s s′ p ls r → Holding s′ r (ls ++ xs)
 holding-taken {s} {s′} {p} {r} {ls} {xs} h t = record {
@@ -60,10 +51,6 @@ holding-taken {s} {s′} {p} {r} {ls} {xs} h t = record {
     go : (o : Bool) → p .full ≡ o → r .full ≡ true → room s′ - r .base < length (normal (ls ++ xs))
     go true f e = omega (arith, room-same, h .over f, fewer xs (ls ++ xs) (λ x k. append-right ls k))
     go false f e = omega (arith, room-same, t .refused f e, fewer (ls ++ held s p) (ls ++ xs) (to f))
-
--- a place was added
-pub holding-placed : {s s′ : List ℕ} {p r : Places} {l : Location} {xs : List Location} → Holding s p xs → Placed s s′ p l r → Holding s′ r (l ∷ xs)
-holding-placed {l = l} {xs = xs} h t = holding-taken {ls = l ∷ []} {xs = xs} h t
 
 module _ {s : List ℕ} {p : Places} {xs : List Location} (h : Holding s p xs) where
   same-set : p .full ≡ false → normal (held s p) ≡ normal xs

@@ -52,7 +52,7 @@ take-sets ys xs at h =
     ap (drop at) (sets-eq ys xs at h ∙ append-assoc (take at xs) ys rest) ∙ drop-at (take at xs) (ys ++ rest) at (simp length-take (omega arith)) in
     ap (take (length ys)) e ∙ take-append-seam ys rest
 
-getD-part : (n : ℕ) (xs : List ℕ) (at k : ℕ) → k < n → getD (take n (drop at xs)) k 0 ≡ getD xs (at + k) 0
+pub getD-part : (n : ℕ) (xs : List ℕ) (at k : ℕ) → k < n → getD (take n (drop at xs)) k 0 ≡ getD xs (at + k) 0
 getD-part n xs at k l = getD-take n (drop at xs) k 0 l ∙ getD-drop at xs k 0
 
 -- two lists that differ only where zs is written
@@ -165,17 +165,9 @@ pub length-bytes64 : (v : ℕ) → length (bytes64 v) ≡ 8
 unfolding bytes64
 length-bytes64 v = length-bytesN 8 v
 
-pub bytes64-lt : (v k : ℕ) → getD (bytes64 v) k 0 < 256
-unfolding bytes64
-bytes64-lt v k = bytesN-lt 8 v k
-
 pub setLe64-sets : (xs : List ℕ) (at v : ℕ) → setLe64 xs at v ≡ sets xs at (bytes64 v)
 unfolding setLe64 bytes64
 setLe64-sets xs at v = setN-sets 8 xs at v
-
-pub le64-bytes64 : (xs : List ℕ) (at v : ℕ) → take 8 (drop at xs) ≡ bytes64 v → v < 2 ^ 64 → le64 xs at ≡ v
-unfolding le64 bytes64 top
-le64-bytes64 xs at v e l = leN-bytesN 8 xs at v e l
 
 pub bytes64-le64 : (xs : List ℕ) (at : ℕ) → ((k : ℕ) → getD xs k 0 < 256) → at + 8 ≤ length xs → take 8 (drop at xs) ≡ bytes64 (le64 xs at)
 unfolding le64 bytes64
