@@ -12,6 +12,7 @@ use Rattle.trie.specs.Trie.{Trie, nodes, entries}
 use Rattle.trie.specs.Build.{trie-of}
 use Rattle.image_format.specs.Image.{image}
 use Rattle.tally.specs.Tallied.{finished}
+use Rattle.tally.specs.declared.Tally.{Tally}
 use Rattle.memory_header.specs.Layout.{Header}
 use Rattle.memory_header.specs.Answers.{header-of, with-tally}
 use Rattle.index_memory.specs.Log.{log-in}
