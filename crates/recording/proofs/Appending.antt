@@ -100,7 +100,7 @@ header-over m h h′ h″ new s l =
     (λ k o. shared ys (with-header m h) m at k long (omega arith) (getD-sets-out (header-bytes h) m 0 k (subst (λ (n : ℕ). Outside n 0 k) (length-header h″ ∙ sym (length-header h)) o)))
 
 -- pieces behind pieces
-logged-twice : (m : List ℕ) (c : Capacity) (ps new more : List Piece) → AllSmall new
+pub logged-twice : (m : List ℕ) (c : Capacity) (ps new more : List Piece) → AllSmall new
     → logged (logged m (open-header c ps) new) (open-header c (ps ++ new)) more ≡ logged m (open-header c ps) (new ++ more)
 unfolding logged
 logged-twice m c ps new more s =

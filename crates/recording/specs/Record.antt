@@ -25,15 +25,15 @@ logged m h new = sets m (header-size + logged-size * h .payload) (log-bytes new)
 unfoldable pub appended : List ℕ → Capacity → List Piece → List Piece → List ℕ
 appended m c ps new = with-header (logged m (open-header c ps) new) (open-header c (ps ++ new))
 
--- ── a Memory block by the header's value ──
+-- ── a Memory block, by the header's value ──
 
--- the number of its refusal, 0 where it is taken: a block of n bytes behind the pieces that the header counts
-abbrev pub judged : Header → ℕ → Location → ℕ
-judged h n l = refusal-of (first-cause (memory-checks (h .capacity) (h .nodes + block-nodes n) (h .entries + entry-charge n) n l))
-
--- the header that counts it too
+-- the header that counts a block of n bytes behind the pieces that it counts
 abbrev pub grown : Header → ℕ → Header
 grown h n = record { capacity = h .capacity; phase = h .phase; nodes = h .nodes + block-nodes n; entries = h .entries + entry-charge n; payload = h .payload + piece-count n }
+
+-- the number of the refusal of a block of n bytes at l, 0 where it is taken
+abbrev pub judged : Header → ℕ → Location → ℕ
+judged h n l = refusal-of (first-cause (memory-checks (h .capacity) (grown h n .nodes) (grown h n .entries) n l))
 
 -- a block that fits: the memory has room for its pieces behind the log, and the sums are small
 pub record Fitting (m : List ℕ) (h : Header) (b : Block) : Type 0 where
