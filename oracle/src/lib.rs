@@ -14,4 +14,4 @@ pub mod random;
 pub mod recording;
 pub mod sink;
 #[cfg(feature = "parts")]
-pub mod timed_parts;
+pub mod bench_parts;

@@ -1,12 +1,12 @@
 //! Times the calls against the published index on the same blocks, and the test of an image against reading it once.
 //!
-//!     rt staticlib helmapricot && rt staticlib timed_parts
+//!     rt staticlib helmapricot && rt staticlib bench_parts
 //!     cd oracle && RUSTFLAGS="-L ../target/staticlib" cargo run --release --offline --features parts --bin bench
 use dataflow::prelude::SpaceKind;
 use oracle::index::string_index::StringIndex;
 use oracle::index::{Index, SpacetimeBlock};
 use oracle::linked;
-use oracle::timed_parts;
+use oracle::bench_parts;
 use oracle::sink::Sink;
 use std::hint::black_box;
 use std::time::Instant;
@@ -98,10 +98,10 @@ fn image_of(mem: &[u8]) -> &[u8] {
 
 fn test_of_image(name: &str, image: &[u8]) {
     let mut other = vec![1u8; 256 << 20];
-    assert_eq!(timed_parts::check(image), 0);
+    assert_eq!(bench_parts::check(image), 0);
     let read = cold(&mut other, || image.chunks_exact(8).fold(0u64, |s, c| s ^ u64::from_le_bytes(c.try_into().unwrap())));
-    let layout = cold(&mut other, || timed_parts::layout(image));
-    let check = cold(&mut other, || timed_parts::check(image));
+    let layout = cold(&mut other, || bench_parts::layout(image));
+    let check = cold(&mut other, || bench_parts::check(image));
     println!("{name}: image of {} bytes: read once {read:.2} ms, layout {layout:.2} ms ({:.1} times), layout and rule {check:.2} ms ({:.1} times)", image.len(), layout / read, check / read);
 }
 
@@ -153,7 +153,7 @@ fn main() {
         // the test of the image is made once for many searches, and taken off
         let times = match len { 1 => 400, 64 => 40_000, 256 => 4_000, _ => 400_000 };
         let many: Vec<u8> = (0..times).flat_map(|_| next().iter().copied()).collect();
-        let mut searches = |queries: &[u8]| middle(5, || { assert!(timed_parts::search_image(image, queries, len, &mut scratch, rows.len()).is_ok()); });
+        let mut searches = |queries: &[u8]| middle(5, || { assert!(bench_parts::search_image(image, queries, len, &mut scratch, rows.len()).is_ok()); });
         let proper = (searches(&many) - searches(&many[..len])) / (times - 1) as f64;
         let rust = middle(5, || { for q in many.chunks_exact(len) { black_box(index.search(q)); } }) / times as f64;
         let ours: u64 = queries.iter().map(|q| linked::search(&mem, q, &mut scratch, &mut rows)).map(|(n, c)| { assert_eq!(n, 0); c }).sum();

@@ -1,9 +1,9 @@
 -- `helmapricot_layout` gives the number of what it exports. Assumes nothing.
 use mathlib.Core.Path.{_∙_, ap}
-use Rattle.timed_parts.specs.Parts.{refusal-of}
+use Rattle.bench_parts.specs.Parts.{refusal-of}
 use borrow.Author.Needs.{needs}
-use Rattle.timed_parts.proofs.helmapricot_layout.Statement.{statement}
-use Rattle.timed_parts.proofs.helmapricot_layout.Tie as tie
+use Rattle.bench_parts.proofs.helmapricot_layout.Statement.{statement}
+use Rattle.bench_parts.proofs.helmapricot_layout.Tie as tie
 
 read-image-requires : tie.Need-read-image-requires
 read-image-requires c κs = search needs

@@ -1,10 +1,10 @@
 use Prim.Native.Nat.{ℕ}
 use mathlib.Core.Path.{refl}
 use borrow.Author.Tests.{eq-eqb, ne-eqb, lt-ltb, le-ltb}
-use Rattle.timed_parts.proofs.query_size.Statement.{statement}
-use Rattle.timed_parts.proofs.query_size.Tie as tie
-use Rattle.timed_parts.proofs.query_size.Reads as reads
-use Rattle.timed_parts.proofs.query_size.Lts as lts
+use Rattle.bench_parts.proofs.query_size.Statement.{statement}
+use Rattle.bench_parts.proofs.query_size.Tie as tie
+use Rattle.bench_parts.proofs.query_size.Reads as reads
+use Rattle.bench_parts.proofs.query_size.Lts as lts
 
 -- src/lib.rt:46:9
 returns : tie.Need-returns

@@ -1,5 +1,5 @@
 //! Parts of the port that are timed alone: the test of an image, and the search without it.
-#[link(name = "timed_parts", kind = "static")]
+#[link(name = "bench_parts", kind = "static")]
 extern "C" {
     fn helmapricot_check(image: *const u8, len: usize) -> u64;
     fn helmapricot_layout(image: *const u8, len: usize) -> u64;

@@ -23,7 +23,7 @@ use Rattle.index_rule.proofs.Theorems.{check-image-is}
 use Rattle.row_buffer.specs.declared.Finding.{Finding}
 use Rattle.row_buffer.specs.Answer.{Rows-found, finding-of, rows-answer, refused}
 use Rattle.searching.specs.Search.{search-answer}
-use Rattle.timed_parts.specs.Parts.{query-size, last-query, last-of, query-search, found-in, counted, counted-in, ScratchIn}
+use Rattle.bench_parts.specs.Parts.{query-size, last-query, last-of, query-search, found-in, counted, counted-in, ScratchIn}
 
 -- the part that the code cuts out is the last query
 pub tail-is : (qs : List ℕ) (at size : ℕ) → at ≡ length qs - size → take (length qs - at) (drop at qs) ≡ last-query qs size

@@ -6,14 +6,14 @@ use borrow.Author.Needs.{needs}
 use Rattle.fields.specs.Answers.{layout-of}
 use Rattle.image_format.specs.Reading.{Layout, right}
 use Rattle.index_rule.proofs.Theorems.{check-image-is}
-use Rattle.timed_parts.specs.Parts.{last-of, found-in, counted-in}
-use Rattle.timed_parts.proofs.Queries.{right-image, said-refused, said-right}
-use Rattle.timed_parts.proofs.helmapricot_search_image.Statement.{statement}
-use Rattle.timed_parts.proofs.helmapricot_search_image.Tie as tie
-use Rattle.timed_parts.proofs.helmapricot_search_image.Reads as reads
-use Rattle.timed_parts.proofs.helmapricot_search_image.Lts as lts
+use Rattle.bench_parts.specs.Parts.{last-of, found-in, counted-in}
+use Rattle.bench_parts.proofs.Queries.{right-image, said-refused, said-right}
+use Rattle.bench_parts.proofs.helmapricot_search_image.Statement.{statement}
+use Rattle.bench_parts.proofs.helmapricot_search_image.Tie as tie
+use Rattle.bench_parts.proofs.helmapricot_search_image.Reads as reads
+use Rattle.bench_parts.proofs.helmapricot_search_image.Lts as lts
 use Rattle.index_rule.proofs.check.Reads as check-reads
-use Rattle.timed_parts.proofs.search_right.Reads as search-right-reads
+use Rattle.bench_parts.proofs.search_right.Reads as search-right-reads
 
 -- src/lib.rt:113:11
 check-requires : tie.Need-check-requires

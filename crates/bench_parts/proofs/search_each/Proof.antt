@@ -3,11 +3,11 @@ use mathlib.Core.Path.{_≡_, refl}
 use native.Mathlib.Omega.{arith}
 use lib.ListN.{length, length-take, length-drop}
 use borrow.Author.Needs.{needs}
-use Rattle.timed_parts.proofs.Queries.{tail-is, answers-last}
-use Rattle.timed_parts.proofs.search_each.Statement.{statement}
-use Rattle.timed_parts.proofs.search_each.Tie as tie
-use Rattle.timed_parts.proofs.search_each.Reads as reads
-use Rattle.timed_parts.proofs.search_each.Lts as lts
+use Rattle.bench_parts.proofs.Queries.{tail-is, answers-last}
+use Rattle.bench_parts.proofs.search_each.Statement.{statement}
+use Rattle.bench_parts.proofs.search_each.Tie as tie
+use Rattle.bench_parts.proofs.search_each.Reads as reads
+use Rattle.bench_parts.proofs.search_each.Lts as lts
 use Rattle.searching.proofs.search_image.Reads as search-image-reads
 
 abbrev Inv-loop : tie.InvT-loop

@@ -12,7 +12,7 @@ ghost use Rattle.index_rule.specs.Check.{check-image};
 ghost use Rattle.definitions.specs.Causes.{ScratchAfter};
 ghost use Rattle.row_buffer.specs.Answer.{finding-of};
 ghost use Rattle.searching.specs.Search.{search-answer};
-ghost use Rattle.timed_parts.specs.Parts.{refusal-of, query-size, last-query, last-of, query-search, counted, image-search, image-counted, ScratchIn};
+ghost use Rattle.bench_parts.specs.Parts.{refusal-of, query-size, last-query, last-of, query-search, counted, image-search, image-counted, ScratchIn};
 
 fn number(l: Layout) -> u64
     ensures { λ r. ⌜ r ≡ refusal-of (layout-of l) ⌝ }

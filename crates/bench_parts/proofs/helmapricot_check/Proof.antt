@@ -1,9 +1,9 @@
 -- `helmapricot_check` gives the number of what it exports. Assumes nothing.
 use mathlib.Core.Path.{_∙_, ap}
-use Rattle.timed_parts.specs.Parts.{refusal-of}
+use Rattle.bench_parts.specs.Parts.{refusal-of}
 use borrow.Author.Needs.{needs}
-use Rattle.timed_parts.proofs.helmapricot_check.Statement.{statement}
-use Rattle.timed_parts.proofs.helmapricot_check.Tie as tie
+use Rattle.bench_parts.proofs.helmapricot_check.Statement.{statement}
+use Rattle.bench_parts.proofs.helmapricot_check.Tie as tie
 
 check-requires : tie.Need-check-requires
 check-requires c κs = search needs

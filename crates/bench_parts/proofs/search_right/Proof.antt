@@ -5,13 +5,13 @@ use denote.Ref.{now}
 use Prim.Native.Nat.{ℕ, _≤_, min}
 use borrow.Author.Needs.{needs}
 use Rattle.image_format.specs.Held.{trie-in}
-use Rattle.timed_parts.proofs.Queries.{size-within, says-too-long, says-refused, says-found}
-use Rattle.timed_parts.proofs.search_right.Statement.{statement}
-use Rattle.timed_parts.proofs.search_right.Tie as tie
-use Rattle.timed_parts.proofs.search_right.Reads as reads
-use Rattle.timed_parts.proofs.search_right.Lts as lts
-use Rattle.timed_parts.proofs.query_size.Reads as query-size-reads
-use Rattle.timed_parts.proofs.search_each.Reads as search-each-reads
+use Rattle.bench_parts.proofs.Queries.{size-within, says-too-long, says-refused, says-found}
+use Rattle.bench_parts.proofs.search_right.Statement.{statement}
+use Rattle.bench_parts.proofs.search_right.Tie as tie
+use Rattle.bench_parts.proofs.search_right.Reads as reads
+use Rattle.bench_parts.proofs.search_right.Lts as lts
+use Rattle.bench_parts.proofs.query_size.Reads as query-size-reads
+use Rattle.bench_parts.proofs.search_each.Reads as search-each-reads
 
 -- src/lib.rt:87:9
 query-size-requires : tie.Need-query-size-requires
