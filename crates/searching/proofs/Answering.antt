@@ -22,8 +22,8 @@ use Rattle.row_buffer.specs.declared.Finding.{Finding}
 use Rattle.row_buffer.specs.Answer.{refused, finding-of, rows-answer}
 use Rattle.row_buffer.proofs.Answering.{Answers, none-answers}
 use Rattle.image_format.specs.Reading.{RightImage}
-use Rattle.searching.specs.Found.{root-of, rooted}
-use Rattle.searching.specs.Layout.{Sound, TableFound}
+use Rattle.node_joining.specs.Found.{root-of, rooted}
+use Rattle.node_joining.specs.Layout.{Sound, TableFound}
 use Rattle.searching.specs.Search.{search-answer}
 
 -- ── nothing to find ──

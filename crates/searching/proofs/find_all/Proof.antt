@@ -3,8 +3,8 @@ use native.Mathlib.Omega.{arith}
 use lib.ListN.{length-set}
 use lib.Seq.{getD-set-same}
 use borrow.Author.Needs.{needs}
-use Rattle.searching.specs.Found.{rooted}
-use Rattle.searching.proofs.Laying.{laid-one, found-one, found-tabled, found-after}
+use Rattle.node_joining.specs.Found.{rooted}
+use Rattle.end_places.proofs.Laying.{laid-one, found-one, found-tabled, found-after}
 use Rattle.searching.proofs.find_all.Statement.{statement}
 use Rattle.searching.proofs.find_all.Tie as tie
 

@@ -1,6 +1,6 @@
 -- `searching::find_exactly` meets its contract: as many places are kept for the last byte as it has. Assumes nothing.
 use borrow.Author.Needs.{needs}
-use Rattle.searching.proofs.Laying.{ending-counted, found-not, found-exactly}
+use Rattle.end_places.proofs.Laying.{ending-counted, found-not, found-exactly}
 use Rattle.searching.proofs.find_exactly.Statement.{statement}
 use Rattle.searching.proofs.find_exactly.Tie as tie
 

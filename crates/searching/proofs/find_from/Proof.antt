@@ -5,9 +5,9 @@ use mathlib.Core.Path.{_≡_, refl}
 use lib.ListN.{length, getD, length-set}
 use borrow.Author.Needs.{needs}
 use Rattle.definitions.specs.Places.{sizes}
-use Rattle.searching.specs.Found.{rooted, table-from}
-use Rattle.searching.specs.Layout.{LaidOut, last-size}
-use Rattle.searching.proofs.Laying.{laid-at, laid-last, kept-last, all-over, all-kept, all-laid}
+use Rattle.node_joining.specs.Found.{rooted, table-from}
+use Rattle.node_joining.specs.Layout.{LaidOut, last-size}
+use Rattle.end_places.proofs.Laying.{laid-at, laid-last, kept-last, all-over, all-kept, all-laid}
 use Rattle.searching.proofs.find_from.Statement.{statement}
 use Rattle.searching.proofs.find_from.Tie as tie
 

@@ -2,7 +2,7 @@
 use mathlib.Core.Path.{sym}
 use borrow.Author.Needs.{needs}
 use Rattle.records.proofs.Order.{clash}
-use Rattle.searching.proofs.Laying.{ending-most, found-loosely}
+use Rattle.end_places.proofs.Laying.{ending-most, found-loosely}
 use Rattle.searching.proofs.find_loosely.Statement.{statement}
 use Rattle.searching.proofs.find_loosely.Tie as tie
 

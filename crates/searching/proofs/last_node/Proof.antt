@@ -4,8 +4,8 @@ use mathlib.Core.Path.{sym, ap, _∙_}
 use lib.ListN.{length}
 use borrow.Author.Needs.{needs}
 use Rattle.image_walk.specs.Answers.{child-of-answer}
-use Rattle.searching.specs.Found.{last-of}
-use Rattle.searching.proofs.Progress.{sound-laid, found-laid, walked-ending, nothing-ending, walked-at, walk-all}
+use Rattle.node_joining.specs.Found.{last-of}
+use Rattle.end_places.proofs.Progress.{sound-laid, found-laid, walked-ending, nothing-ending, walked-at, walk-all}
 use Rattle.searching.proofs.last_node.Statement.{statement}
 use Rattle.searching.proofs.last_node.Tie as tie
 

@@ -19,9 +19,9 @@ use Rattle.place_buffer.specs.Holding.{Holding, Settled}
 use Rattle.place_buffer.proofs.Sets.{length-normal}
 use Rattle.place_buffer.proofs.Scratch.{length-locations}
 use Rattle.place_buffer.proofs.Holding.{holding-start, holding-taken, holding-over, holding-tidy, taken-elsewhere, tidied-elsewhere}
-use Rattle.searching.specs.Found.{rooted, last-of, ending-lists, along-from, table-from}
-use Rattle.searching.specs.Layout.{lists-of, Ending, starting, Part, LaidOut, EndFound, last-size, AllFound, Tabled, TableFound}
-use Rattle.searching.proofs.Stages.{table-step, table-end, table-last, table-less}
+use Rattle.node_joining.specs.Found.{rooted, last-of, ending-lists, along-from, table-from}
+use Rattle.node_joining.specs.Layout.{lists-of, Ending, starting, Part, LaidOut, EndFound, last-size, AllFound, Tabled, TableFound}
+use Rattle.node_joining.proofs.Stages.{table-step, table-end, table-last, table-less}
 use Rattle.image_walk.specs.declared.Node.{Node as Parts}
 
 lt-or-same : (i j : ℕ) → i ≤ j → (i < j) ⊎ (j ≡ i)

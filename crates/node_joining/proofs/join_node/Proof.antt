@@ -1,9 +1,9 @@
--- `searching::join_node` meets its contract: one or two lists of the node are joined, one after the other. Assumes nothing.
+-- `node_joining::join_node` meets its contract: one or two lists of the node are joined, one after the other. Assumes nothing.
 use borrow.Author.Needs.{needs}
-use Rattle.searching.specs.Layout.{lists-of}
-use Rattle.searching.proofs.Nodes.{joined-inside, joined-front, joined-later}
-use Rattle.searching.proofs.join_node.Statement.{statement}
-use Rattle.searching.proofs.join_node.Tie as tie
+use Rattle.node_joining.specs.Layout.{lists-of}
+use Rattle.node_joining.proofs.Nodes.{joined-inside, joined-front, joined-later}
+use Rattle.node_joining.proofs.join_node.Statement.{statement}
+use Rattle.node_joining.proofs.join_node.Tie as tie
 
 filter-results-requires : tie.Need-filter-results-requires
 filter-results-requires c κs = search needs

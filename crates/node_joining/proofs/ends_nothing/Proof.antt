@@ -1,10 +1,10 @@
--- `searching::ends_nothing` meets its contract: it looks at the counts. Assumes nothing.
+-- `node_joining::ends_nothing` meets its contract: it looks at the counts. Assumes nothing.
 use native.Mathlib.Omega.{arith}
 use mathlib.Core.Path.{sym, _∙_}
 use borrow.Author.Tests.{eqb-true}
 use Rattle.records.proofs.Order.{clash}
-use Rattle.searching.proofs.ends_nothing.Statement.{statement}
-use Rattle.searching.proofs.ends_nothing.Tie as tie
+use Rattle.node_joining.proofs.ends_nothing.Statement.{statement}
+use Rattle.node_joining.proofs.ends_nothing.Tie as tie
 
 returns : tie.Need-returns
 returns c = λ e. clash (sym e)

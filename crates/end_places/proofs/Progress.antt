@@ -24,9 +24,9 @@ use Rattle.collecting.proofs.Callers.{root-walk}
 use Rattle.place_buffer.specs.declared.Places.{Places}
 use Rattle.place_buffer.specs.Buffer.{Valid, Taken}
 use Rattle.place_buffer.proofs.Adding.{taken-none, taken-more}
-use Rattle.searching.specs.Found.{rooted, ended-lists, beyond-of, along-from, rest-along}
-use Rattle.searching.specs.Layout.{Sound, lists-of, Ending, Reached}
-use Rattle.searching.proofs.Stages.{beyond-some, rest-none, rest-next, rest-end, rest-start}
+use Rattle.node_joining.specs.Found.{rooted, ended-lists, beyond-of, along-from, rest-along}
+use Rattle.node_joining.specs.Layout.{Sound, lists-of, Ending, Reached}
+use Rattle.node_joining.proofs.Stages.{beyond-some, rest-none, rest-next, rest-end, rest-start}
 
 -- ── the node at the end of a path ──
 

@@ -1,8 +1,8 @@
--- `searching::find_end` meets its contract: the places found are tidied, unless they have no room. Assumes nothing.
+-- `end_places::find_end` meets its contract: the places found are tidied, unless they have no room. Assumes nothing.
 use borrow.Author.Needs.{needs}
-use Rattle.searching.proofs.Laying.{end-over, end-laid}
-use Rattle.searching.proofs.find_end.Statement.{statement}
-use Rattle.searching.proofs.find_end.Tie as tie
+use Rattle.end_places.proofs.Laying.{end-over, end-laid}
+use Rattle.end_places.proofs.find_end.Statement.{statement}
+use Rattle.end_places.proofs.find_end.Tie as tie
 
 find-places-requires : tie.Need-find-places-requires
 find-places-requires c κs = search needs

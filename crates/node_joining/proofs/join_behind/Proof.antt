@@ -1,14 +1,14 @@
--- `searching::join_behind` meets its contract: the places behind a node are the lists of the last byte, or stand in scratch. Assumes nothing.
+-- `node_joining::join_behind` meets its contract: the places behind a node are the lists of the last byte, or stand in scratch. Assumes nothing.
 use Prim.Native.Nat.{_+_, _-_, _<_}
 use native.Mathlib.Omega.{arith}
 use lib.ListN.{length}
 use lib.Dec.{eqb}
 use borrow.Author.Needs.{needs}
-use Rattle.searching.specs.Found.{ended-lists}
-use Rattle.searching.specs.Layout.{lists-of}
-use Rattle.searching.proofs.Nodes.{joined-none, joined-with, behind-last, behind-order, behind-below, behind-places}
-use Rattle.searching.proofs.join_behind.Statement.{statement}
-use Rattle.searching.proofs.join_behind.Tie as tie
+use Rattle.node_joining.specs.Found.{ended-lists}
+use Rattle.node_joining.specs.Layout.{lists-of}
+use Rattle.node_joining.proofs.Nodes.{joined-none, joined-with, behind-last, behind-order, behind-below, behind-places}
+use Rattle.node_joining.proofs.join_behind.Statement.{statement}
+use Rattle.node_joining.proofs.join_behind.Tie as tie
 
 ends-nothing-requires : tie.Need-ends-nothing-requires
 ends-nothing-requires c κs = search needs

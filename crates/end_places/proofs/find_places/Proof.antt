@@ -1,4 +1,4 @@
--- `searching::find_places` meets its contract: path by path, what ends there is joined with the places behind it; the last path is the query. Assumes nothing.
+-- `end_places::find_places` meets its contract: path by path, what ends there is joined with the places behind it; the last path is the query. Assumes nothing.
 use Prim.Native.Nat.{ℕ, _+_, _-_, _≤_, _<_}
 use native.Mathlib.Omega.{arith}
 use mathlib.Core.Path.{_≡_, refl, sym, ap, _∙_}
@@ -8,11 +8,11 @@ use borrow.Author.Needs.{needs}
 use Rattle.image_walk.specs.Answers.{child-of-answer}
 use Rattle.collecting.proofs.Callers.{standing-found}
 use Rattle.place_buffer.proofs.Holding.{holding-start}
-use Rattle.searching.specs.Found.{rooted}
-use Rattle.searching.proofs.Progress.{Walked, walked-root, walked-path, walked-at, walked-table, walked-next, walked-ending, sound-laid, found-at, found-laid, Progress, progress-start, progress-at, progress-none, progress-next, progress-end, behind-path}
-use Rattle.searching.proofs.Laying.{laid-taken}
-use Rattle.searching.proofs.find_places.Statement.{statement}
-use Rattle.searching.proofs.find_places.Tie as tie
+use Rattle.node_joining.specs.Found.{rooted}
+use Rattle.end_places.proofs.Progress.{Walked, walked-root, walked-path, walked-at, walked-table, walked-next, walked-ending, sound-laid, found-at, found-laid, Progress, progress-start, progress-at, progress-none, progress-next, progress-end, behind-path}
+use Rattle.end_places.proofs.Laying.{laid-taken}
+use Rattle.end_places.proofs.find_places.Statement.{statement}
+use Rattle.end_places.proofs.find_places.Tie as tie
 
 abbrev Inv-loop : tie.InvT-loop
 Inv-loop img q i last ends scratch₀ base r₀ n₀ j₀ scratch r n j = (i ≤ j) × (j < length q) × Walked img (take (j - i) (drop i q)) n × Progress (eqb i 0) (rooted img) (drop i q) (j + 1 - i) scratch₀ scratch r₀ r

@@ -17,9 +17,9 @@ use Rattle.place_buffer.proofs.Adding.{taken-none, taken-same, taken-more}
 use Rattle.place_buffer.proofs.Holding.{taken-elsewhere}
 use Rattle.joining.proofs.Each.{each-append, each-within, each-places, places-each}
 use Rattle.collecting.specs.Collected.{Collected, Ended}
-use Rattle.searching.specs.Found.{rooted, last-of, ended-lists, ending-lists}
-use Rattle.searching.specs.Layout.{lists-of, EndsNothing, Ending, Reached, LaidOut}
-use Rattle.searching.proofs.Stages.{table-behind, table-last}
+use Rattle.node_joining.specs.Found.{rooted, last-of, ended-lists, ending-lists}
+use Rattle.node_joining.specs.Layout.{lists-of, EndsNothing, Ending, Reached, LaidOut}
+use Rattle.node_joining.proofs.Stages.{table-behind, table-last}
 
 -- ── what ends at a node ──
 

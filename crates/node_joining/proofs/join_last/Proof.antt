@@ -1,10 +1,10 @@
--- `searching::join_last` meets its contract: the two lists of the last node are joined with, one after the other. Assumes nothing.
+-- `node_joining::join_last` meets its contract: the two lists of the last node are joined with, one after the other. Assumes nothing.
 use borrow.Author.Needs.{needs}
-use Rattle.searching.specs.Found.{ended-lists}
-use Rattle.searching.specs.Layout.{lists-of}
-use Rattle.searching.proofs.Nodes.{joined-both}
-use Rattle.searching.proofs.join_last.Statement.{statement}
-use Rattle.searching.proofs.join_last.Tie as tie
+use Rattle.node_joining.specs.Found.{ended-lists}
+use Rattle.node_joining.specs.Layout.{lists-of}
+use Rattle.node_joining.proofs.Nodes.{joined-both}
+use Rattle.node_joining.proofs.join_last.Statement.{statement}
+use Rattle.node_joining.proofs.join_last.Tie as tie
 
 join-list-requires : tie.Need-join-list-requires
 join-list-requires c κs = search needs

@@ -1,9 +1,9 @@
--- `searching::join_list` meets its contract: one or two lists of the node are joined, one after the other. Assumes nothing.
+-- `node_joining::join_list` meets its contract: one or two lists of the node are joined, one after the other. Assumes nothing.
 use borrow.Author.Needs.{needs}
-use Rattle.searching.specs.Layout.{lists-of}
-use Rattle.searching.proofs.Nodes.{joined-inside, joined-front}
-use Rattle.searching.proofs.join_list.Statement.{statement}
-use Rattle.searching.proofs.join_list.Tie as tie
+use Rattle.node_joining.specs.Layout.{lists-of}
+use Rattle.node_joining.proofs.Nodes.{joined-inside, joined-front}
+use Rattle.node_joining.proofs.join_list.Statement.{statement}
+use Rattle.node_joining.proofs.join_list.Tie as tie
 
 filter-lists-requires : tie.Need-filter-lists-requires
 filter-lists-requires c κs = search needs

@@ -15,7 +15,7 @@ use Rattle.definitions.specs.Places.{first-of, rest-of, sizes}
 use Rattle.trie.specs.Trie.{Node, child-of, node-at, lists-at}
 use Rattle.trie.specs.Find.{joins-each, along, collect-or-none, ends-found}
 use Rattle.trie.proofs.Walk.{walk-append}
-use Rattle.searching.specs.Found.{ended-by, beyond-of, beyond-by, along-from, rest-along, table-from}
+use Rattle.node_joining.specs.Found.{ended-by, beyond-of, beyond-by, along-from, rest-along, table-from}
 
 -- nothing is joined with no places
 joins-nothing : (k : ℕ) (ls : List Location) → joins-each k ls [] ≡ []

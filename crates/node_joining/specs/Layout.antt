@@ -13,7 +13,7 @@ use Rattle.image_walk.specs.declared.Node.{Node as Parts}
 use Rattle.image_walk.specs.Here.{NodeHere}
 use Rattle.place_buffer.specs.declared.Places.{Places}
 use Rattle.place_buffer.specs.Buffer.{room, Taken}
-use Rattle.searching.specs.Found.{rooted, beyond-of, table-from}
+use Rattle.node_joining.specs.Found.{rooted, beyond-of, table-from}
 
 -- the trie of an image has a root, which stands at its start and meets the rule
 pub record Sound (img : List ℕ) : Type 0 where

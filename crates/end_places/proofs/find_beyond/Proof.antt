@@ -1,8 +1,8 @@
--- `searching::find_beyond` meets its contract, which is that of either call. Assumes nothing.
+-- `end_places::find_beyond` meets its contract, which is that of either call. Assumes nothing.
 use borrow.Author.Needs.{needs}
-use Rattle.searching.proofs.Nodes.{reached-front, reached-inside}
-use Rattle.searching.proofs.find_beyond.Statement.{statement}
-use Rattle.searching.proofs.find_beyond.Tie as tie
+use Rattle.node_joining.proofs.Nodes.{reached-front, reached-inside}
+use Rattle.end_places.proofs.find_beyond.Statement.{statement}
+use Rattle.end_places.proofs.find_beyond.Tie as tie
 
 collect-all-substrings-requires : tie.Need-collect-all-substrings-requires
 collect-all-substrings-requires c κs = search needs
