@@ -3,7 +3,7 @@ use Prim.Native.Nat.{ℕ, zero, suc, _+_, _*_, _≤_, _<_}
 use native.Mathlib.Omega.{arith}
 use mathlib.Core.Path.{_≡_, refl, sym, ap, subst, _∙_}
 use mathlib.Core.Logic.{_⊎_, inl, inr}
-use mathlib.Core.List.{List}
+use mathlib.Core.List.{List, []}
 use lib.ListN.{length, getD}
 use lib.Seq.{sets, length-sets}
 use Rattle.words.specs.Words.{setLe64, bytes64}
@@ -23,6 +23,8 @@ use Rattle.image_format.specs.Image.{list-bytes}
 use Rattle.image_format.proofs.BytesRead.{locs-read}
 use Rattle.tails.specs.Tails.{Tail}
 use Rattle.tails.specs.Groups.{locations-of}
+use Rattle.tail_records.specs.Tail.{tails-in}
+use Rattle.tail_records.proofs.Memory.{tails-none}
 use Rattle.list_writer.specs.Written.{Copied, Closed, ListWritten}
 use Rattle.list_writer.specs.declared.End.{End}
 use Rattle.list_writer.proofs.Copying.{length-locations-of}
@@ -131,3 +133,11 @@ written {s} {s₁} {s₂} {n} {k} {ls} e r w c q =
 -- the copies lie before the work area
 pub copied-within : {s s₁ : List ℕ} {at n work : ℕ} (ts : List Tail) → Copied s s₁ at n (locations-of ts) → at + 8 + 24 * length ts ≤ work → at + 8 + 24 * n ≤ work
 copied-within ts w h = omega (arith, w .count, length-locations-of ts)
+
+-- no tails, and a single one
+module _ {s s₁ : List ℕ} {e r : End} (f : List Tail → List Tail) (t : List ℕ) (work lo : ℕ) {n : ℕ} where
+  pub written-none : f [] ≡ [] → n ≡ 0 → ListWritten s s₁ [] e r → ListWritten s s₁ (locations-of (f (tails-in t work lo (lo + n)))) e r
+  written-none z h w = rw (tails-none t work lo (lo + n) (omega arith), z) w
+
+  pub written-single : n ≡ 1 → ListWritten s s₁ (locations-of (f (tails-in t work lo (lo + 1)))) e r → ListWritten s s₁ (locations-of (f (tails-in t work lo (lo + n)))) e r
+  written-single h w = rw h w

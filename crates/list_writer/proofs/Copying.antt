@@ -228,22 +228,22 @@ module _ (s : List ℕ) (work lo hi at : ℕ) (le : lo ≤ hi) (held : work + 56
             nil : Copied s s₁ at n (locations-of (wholes (tails-in s work lo i))) → Copied s s₁ at n (locations-of (wholes (tails-in s work lo i)) ++ [])
             nil c = rw append-nil c
 
--- a single tail
+-- ── a single tail ──
 module _ (s : List ℕ) (work i at : ℕ) (held : work + 56 * (i + 1) ≤ length s) (b : Bytes s) (room : at + 8 + 24 * length (wholes (tails-in s work i (i + 1))) ≤ work) where
   first : OnCopy wholes s s work i (i + 1) at 0 i
   first = whole-start s work i (i + 1) at (omega arith) held b
 
-  pub whole-alone-asks : at + 8 + 24 * (0 + cond (tail-in s work i .entry .whole) 1 0) ≤ work
-  whole-alone-asks = whole-asks s work i (i + 1) at (omega arith) held room first (omega arith)
+  pub single-whole-asks : at + 8 + 24 * (0 + cond (tail-in s work i .entry .whole) 1 0) ≤ work
+  single-whole-asks = whole-asks s work i (i + 1) at (omega arith) held room first (omega arith)
 
-  pub whole-alone : (s₁ : List ℕ) (n : ℕ) → Bytes s₁ → n ≡ 0 + cond (tail-in s work i .entry .whole) 1 0
+  pub single-whole : (s₁ : List ℕ) (n : ℕ) → Bytes s₁ → n ≡ 0 + cond (tail-in s work i .entry .whole) 1 0
       → s₁ ≡ cond (tail-in s work i .entry .whole) (sets s (at + 8 + 24 * 0) (location-bytes (tail-in s work i .entry .at))) s → Copied s s₁ at n (locations-of (wholes (tails-in s work i (i + 1))))
-  whole-alone s₁ n b₁ en es =
+  single-whole s₁ n b₁ en es =
       copy-done s work i (i + 1) at (omega arith) held (whole-turn s work i (i + 1) at (omega arith) held room first (omega arith) s₁ n b₁ en es) (omega arith)
 
-pub tail-alone : (s : List ℕ) (work i at : ℕ) → work + 56 * (i + 1) ≤ length s → Bytes s → at + 32 ≤ work → (s₁ : List ℕ) → Bytes s₁
+pub single-tail : (s : List ℕ) (work i at : ℕ) → work + 56 * (i + 1) ≤ length s → Bytes s → at + 32 ≤ work → (s₁ : List ℕ) → Bytes s₁
     → s₁ ≡ sets s (at + 8) (location-bytes (tail-in s work i .entry .at)) → Copied s s₁ at 1 (locations-of (tails-in s work i (i + 1)))
-tail-alone s work i at held b room s₁ b₁ es =
+single-tail s work i at held b room s₁ b₁ es =
     let one : length (tails-in s work i (i + 1)) ≡ 1 = tails-length s work i (i + 1) ∙ omega arith in
     let p : at + 8 ≡ at + 8 + 24 * 0 = omega arith in
     let turned = copy-turn s work i (i + 1) at (omega arith) held (omega arith) (copy-start s work i (i + 1) at (omega arith) held b) (omega arith) s₁ b₁

@@ -127,7 +127,7 @@ pub fn put_suffix_list(mem: &mut [u8], work: usize, lo: usize, hi: usize, e: End
 }
 
 // Writes an empty list.
-pub fn put_none(mem: &mut [u8], e: End) -> End
+fn put_none(mem: &mut [u8], e: End) -> End
     requires { ⌜ (e .at + 8 ≤ length (now mem)) × (e .entries ≤ e .at) ⌝ }
     ensures { λ r. ⌜ ListWritten (now (mem .entry)) (now (mem .exit)) [] e r ⌝ }
 {
@@ -136,8 +136,8 @@ pub fn put_none(mem: &mut [u8], e: End) -> End
     behind_list(e, 0)
 }
 
-// Writes the list of the location of tail i alone, which is empty where it is no whole piece.
-pub fn put_whole_list(mem: &mut [u8], work: usize, i: usize, e: End) -> End
+// Writes the list of the location of the single tail i, which is empty where it is no whole piece.
+fn put_single_suffix_list(mem: &mut [u8], work: usize, i: usize, e: End) -> End
     requires { ⌜ (work + 56 * (i + 1) ≤ length (now mem)) × (e .at + 8 + 24 * length (wholes (tails-in (now mem) work i (i + 1))) ≤ work) × (e .entries ≤ e .at) ⌝ }
     ensures { λ r. ⌜ ListWritten (now (mem .entry)) (now (mem .exit)) (locations-of (wholes (tails-in (now (mem .entry)) work i (i + 1)))) e r ⌝ }
 {
@@ -147,8 +147,8 @@ pub fn put_whole_list(mem: &mut [u8], work: usize, i: usize, e: End) -> End
     behind_list(e, kept)
 }
 
-// Writes the list of the location of tail i alone.
-pub fn put_tail_list(mem: &mut [u8], work: usize, i: usize, e: End) -> End
+// Writes the list of the location of the single tail i.
+fn put_single_list(mem: &mut [u8], work: usize, i: usize, e: End) -> End
     requires { ⌜ (work + 56 * (i + 1) ≤ length (now mem)) × (e .at + 32 ≤ work) × (e .entries ≤ e .at) ⌝ }
     ensures { λ r. ⌜ ListWritten (now (mem .entry)) (now (mem .exit)) (locations-of (tails-in (now (mem .entry)) work i (i + 1))) e r ⌝ }
 {
@@ -156,4 +156,26 @@ pub fn put_tail_list(mem: &mut [u8], work: usize, i: usize, e: End) -> End
     put_tail_location(mem, work, i, at + 8);
     let kept = close_list(mem, at, 1);
     behind_list(e, kept)
+}
+
+// Writes the list of the locations of the n tails from lo on, where n is 0 or 1, as in most nodes.
+pub fn put_short_run_list(mem: &mut [u8], work: usize, lo: usize, n: usize, e: End) -> End
+    requires { ⌜ (n ≤ 1) × (work + 56 * (lo + n) ≤ length (now mem)) × (e .at + 8 + 24 * length (tails-in (now mem) work lo (lo + n)) ≤ work) × (e .entries ≤ e .at) ⌝ }
+    ensures { λ r. ⌜ ListWritten (now (mem .entry)) (now (mem .exit)) (locations-of (tails-in (now (mem .entry)) work lo (lo + n))) e r ⌝ }
+{
+    if n == 0 {
+        return put_none(mem, e);
+    }
+    put_single_list(mem, work, lo, e)
+}
+
+// Writes the list of the locations of the whole pieces among the n tails from lo on, where n is 0 or 1.
+pub fn put_short_suffix_list(mem: &mut [u8], work: usize, lo: usize, n: usize, e: End) -> End
+    requires { ⌜ (n ≤ 1) × (work + 56 * (lo + n) ≤ length (now mem)) × (e .at + 8 + 24 * length (wholes (tails-in (now mem) work lo (lo + n))) ≤ work) × (e .entries ≤ e .at) ⌝ }
+    ensures { λ r. ⌜ ListWritten (now (mem .entry)) (now (mem .exit)) (locations-of (wholes (tails-in (now (mem .entry)) work lo (lo + n)))) e r ⌝ }
+{
+    if n == 0 {
+        return put_none(mem, e);
+    }
+    put_single_suffix_list(mem, work, lo, e)
 }

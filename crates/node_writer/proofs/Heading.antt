@@ -131,6 +131,16 @@ module _ {s : List ℕ} {work lo hi d : ℕ} {e : End} (q : HeadAsked s work lo 
       suffixes = normal (locations-of (wholes (rest i)));
     }
 
+    pub head-written : {s₂ buf buf₂ : List ℕ} {n : ℕ} {e₂ : End} → Front s s₂ work lo hi d n e e₂ → Found s work mid hi d buf buf₂ n → HeadWritten s s₂ work lo hi d e buf buf₂ (record { below = mid; groups = n; end = e₂ })
+    head-written {s₂} f found = record {
+      from = omega (arith, cut .from, cut₂ .from);
+      upto = cut₂ .upto;
+      rest = rest;
+      front = f;
+      grouped = grouped-memory s₂ (found .grouped) (λ k a b. f .behind k (omega arith));
+      kept = found .kept;
+    }
+
     module _ (n kind : ℕ) (is-kind : kind ≡ kind-of n) {e₁ : End} (behind-kind : (e₁ .at ≡ e .at + 1) × (e₁ .nodes ≡ e .nodes + 1) × (e₁ .entries ≡ e .entries)) where
       kept : (k : ℕ) → ¬ (k ≡ e .at) → getD (set s (e .at) kind) k 0 ≡ getD s k 0
       kept k h = getD-set-other s (e .at) k kind 0 h
@@ -165,7 +175,7 @@ module _ {s : List ℕ} {work lo hi d : ℕ} {e : End} (q : HeadAsked s work lo 
         kind-stands : getD s₂ (e .at) 0 ≡ kind-of n
         kind-stands = w .before (e .at) (omega (arith, behind-kind .0)) ∙ getD-set-same s (e .at) kind 0 (omega (arith, q .room, q .memory)) ∙ is-kind
 
-        pub front-written : Front s s₂ work lo hi d (kind-of n) e e₂
+        pub front-written : Front s s₂ work lo hi d n e e₂
         unfolding Holds
         front-written =
             let few = w .few in
@@ -184,23 +194,4 @@ module _ {s : List ℕ} {work lo hi d : ℕ} {e : End} (q : HeadAsked s work lo 
               long = w .long ∙ length-set s (e .at) kind;
               before = λ k h. w .before k (omega (arith, behind-kind .0)) ∙ kept k (omega arith);
               behind = unchanged;
-            }
-
-        pub head-written : {buf buf₂ : List ℕ} → Found s work mid hi d buf buf₂ n → HeadWritten s s₂ work lo hi d e buf buf₂ (record { below = mid; groups = n; end = e₂ })
-        head-written found =
-            let f = front-written in
-            record {
-              from = omega (arith, cut .from, cut₂ .from);
-              upto = cut₂ .upto;
-              rest = rest;
-              bytes = f .bytes;
-              at = f .at;
-              few = f .few;
-              nodes = f .nodes;
-              entries = f .entries;
-              long = f .long;
-              before = f .before;
-              behind = f .behind;
-              grouped = grouped-memory s₂ (found .grouped) (λ k a b. unchanged k (omega arith));
-              kept = found .kept;
             }

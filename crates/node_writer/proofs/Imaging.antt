@@ -65,22 +65,25 @@ module _ {s : List ℕ} {work n : ℕ} (q : ImageAsked s work n) where
 
     pub image-asked : (buf : List ℕ) → 8721 ≤ length buf → NodeAsked s work 0 n 0 image-start buf 16
     image-asked buf b = record {
+      span = record {
+        held = q .held;
+        memory = q .memory;
+        run = q .run;
+        depth = refl;
+        from = omega arith;
+        counted-nodes = omega arith;
+        counted = omega arith;
+        room = omega (arith, q .room, root-nodes);
+      };
       order = omega arith;
-      held = q .held;
-      memory = q .memory;
-      run = q .run;
       apart = q .apart;
-      depth = refl;
       buffer = b;
-      from = omega arith;
-      counted-nodes = omega arith;
-      counted = omega arith;
-      room = omega (arith, q .room, root-nodes);
     }
 
     pub image-written : {s′ buf buf′ : List ℕ} {r : End} → NodeWritten s s′ work 0 n 0 image-start buf buf′ 16 r → ImageWritten s s′ work n r
     unfolding image
-    image-written {s′} w =
+    image-written {s′} v =
+        let w = v .span in
         let long = node-long 0 (node-of s work 0 n 0 16 .lists) (children-of (node-of s work 0 n 0 16 .children)) (all-sized (node-of s work 0 n 0 16 .children)) in
         let here : Holds s′ 64 (node-bytes 0 (node-of s work 0 n 0 16 .lists) (children-of (node-of s work 0 n 0 16 .children))) = w .bytes in
         record {

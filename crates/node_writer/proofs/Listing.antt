@@ -2,7 +2,7 @@
 use Prim.Native.Nat.{ℕ, _+_, _*_, _≤_}
 use native.Mathlib.Omega.{arith}
 use mathlib.Core.Path.{_≡_, ap, subst, _∙_}
-use mathlib.Core.List.{List, [], _++_}
+use mathlib.Core.List.{List, _++_}
 use lib.ListN.{length, getD}
 use Rattle.words.specs.Holding.{Holds}
 use Rattle.words.proofs.Holding.{holds-at, holds-append, holds-ext}
@@ -13,7 +13,7 @@ use Rattle.tails.specs.Groups.{locations-of, wholes}
 use Rattle.image_format.specs.Image.{list-bytes, lists-bytes, lists-size}
 use Rattle.image_format.proofs.Holding.{list-length}
 use Rattle.tail_records.specs.Tail.{tails-in}
-use Rattle.tail_records.proofs.Memory.{tails-none, tails-ext}
+use Rattle.tail_records.proofs.Memory.{tails-ext}
 use Rattle.list_writer.specs.declared.End.{End}
 use Rattle.list_writer.specs.Written.{ListWritten}
 use Rattle.list_writer.proofs.Copying.{length-locations-of}
@@ -32,20 +32,6 @@ module _ {s s′ : List ℕ} (ts : List Tail) {e r : End} (w : ListWritten s s�
 
   pub list-counted : e .entries ≤ e .at → r .entries ≤ r .at
   list-counted c = omega (arith, w .at, w .entries)
-
--- an empty list is that of no tails
-pub no-tails : {s s₁ : List ℕ} {e r : End} (t : List ℕ) (work i : ℕ) → ListWritten s s₁ [] e r → ListWritten s s₁ (locations-of (tails-in t work i i)) e r
-no-tails t work i w = rw (tails-none t work i i (omega arith)) w
-
-pub no-wholes : {s s₁ : List ℕ} {e r : End} (t : List ℕ) (work i : ℕ) → ListWritten s s₁ [] e r → ListWritten s s₁ (locations-of (wholes (tails-in t work i i))) e r
-no-wholes t work i w = rw (tails-none t work i i (omega arith)) w
-
--- the same tails, from or up to an index that is another name for theirs
-pub tails-from : {s s₁ : List ℕ} {e r : End} (t : List ℕ) (work : ℕ) {a b : ℕ} (hi : ℕ) → b ≡ a → ListWritten s s₁ (locations-of (tails-in t work a hi)) e r → ListWritten s s₁ (locations-of (tails-in t work b hi)) e r
-tails-from t work hi p w = rw p w
-
-pub tails-upto : {s s₁ : List ℕ} {e r : End} (t : List ℕ) (work lo : ℕ) {a b : ℕ} → b ≡ a → ListWritten s s₁ (locations-of (tails-in t work lo a)) e r → ListWritten s s₁ (locations-of (tails-in t work lo b)) e r
-tails-upto t work lo p w = rw p w
 
 -- what is asked of the second list and of the third
 pub record ListAsked (len work hi count : ℕ) (e : End) : Type 0 where

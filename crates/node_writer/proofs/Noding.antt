@@ -31,7 +31,7 @@ use Rattle.node_writer.specs.declared.Head.{Head}
 use Rattle.node_writer.specs.Kids.{kids}
 use Rattle.node_writer.specs.Turns.{groups-in}
 use Rattle.node_writer.specs.Heads.{HeadAsked, HeadWritten}
-use Rattle.node_writer.specs.Nodes.{child-node, children-in, TableAsked, TableWritten, node-of, NodeAsked, NodeWritten}
+use Rattle.node_writer.specs.Nodes.{child-node, children-in, TableAsked, TableWritten, node-of, SpanAsked, NodeAsked, NodeWritten}
 use Rattle.node_writer.proofs.Orders.{forest-kids, length-kids}
 use Rattle.node_writer.proofs.Places.{kept-length, kept-total}
 use Rattle.node_writer.proofs.Heading.{below-longer}
@@ -62,21 +62,21 @@ node-kids (suc left) d ts r e =
 
 -- ── what the head asks ──
 
-module _ {s : List ℕ} {work lo hi d : ℕ} {e : End} {buf : List ℕ} {left : ℕ} (q : NodeAsked s work lo hi d e buf left) where
-  pub head-asked : HeadAsked s work lo hi d e
-  head-asked = record {
-    order = q .order;
-    held = q .held;
-    memory = q .memory;
-    run = q .run;
-    depth = omega (arith, q .depth);
-    room = omega (arith, q .room);
-    counted-nodes = q .counted-nodes;
-    counted = q .counted;
-  }
+pub span-head : {s : List ℕ} {work lo hi d : ℕ} {e : End} {left : ℕ} → SpanAsked s work lo hi d e left → lo ≤ hi → HeadAsked s work lo hi d e
+span-head q order = record {
+  order = order;
+  held = q .held;
+  memory = q .memory;
+  run = q .run;
+  depth = omega (arith, q .depth);
+  room = omega (arith, q .room);
+  counted-nodes = q .counted-nodes;
+  counted = q .counted;
+}
 
+module _ {s : List ℕ} {work lo hi d : ℕ} {e : End} {buf : List ℕ} {left : ℕ} (q : NodeAsked s work lo hi d e buf left) where
   kids-are : children-of (node-of s work lo hi d left .children) ≡ kids (child-node left d) (kept-groups (groups d (below d (tails-in s work lo hi))))
-  kids-are = node-kids left d (tails-in s work lo hi) (q .run) (q .depth)
+  kids-are = node-kids left d (tails-in s work lo hi) (q .span .run) (q .span .depth)
 
   nodes-are : forest-nodes (node-of s work lo hi d left .children) ≡ nodes-in (kids (child-node left d) (kept-groups (groups d (below d (tails-in s work lo hi)))))
   nodes-are = sym (count-nodes (node-of s work lo hi d left .children)) ∙ ap nodes-in kids-are
@@ -93,21 +93,21 @@ module _ {s : List ℕ} {work lo hi d : ℕ} {e : End} {buf : List ℕ} {left : 
 
   module _ {s₁ buf₁ : List ℕ} {h : Head} (w : HeadWritten s s₁ work lo hi d e buf buf₁ h) where
     rest : tails-in s₁ work (h .below) hi ≡ below d (tails-in s work lo hi)
-    rest = tails-ext s s₁ work (h .below) hi (λ k a b. w .behind k (omega arith)) ∙ w .rest
+    rest = tails-ext s s₁ work (h .below) hi (λ k a b. w .front .behind k (omega arith)) ∙ w .rest
 
     groups-are : groups-in s₁ work (h .below) hi d ≡ groups d (below d (tails-in s work lo hi))
     groups-are = ap (groups d) rest
 
     small : (g : Group) → Mem g (groups d (below d (tails-in s work lo hi))) → g .byte < 256
     small g m =
-        let x = byte-goes d (tails-in s work lo hi) (q .run) (mem-bytes (groups d (below d (tails-in s work lo hi))) m) in
+        let x = byte-goes d (tails-in s work lo hi) (q .span .run) (mem-bytes (groups d (below d (tails-in s work lo hi))) m) in
         let k = keep-mem (goes d (g .byte)) (tails-in s work lo hi) (x .1) in
         let b = goes-is d (g .byte) (x .0) (k .passes) .1 in
-        omega (arith, b, sound-bytes (x .0 .entry .path) (q .run .sound (x .0) (k .listed)) d)
+        omega (arith, b, sound-bytes (x .0 .entry .path) (q .span .run .sound (x .0) (k .listed)) d)
 
     apart₁ : Apart (tails-in s₁ work (h .below) hi)
     apart₁ =
-        subst Apart (sym (tails-ext s s₁ work (h .below) hi (λ k a b. w .behind k (omega arith))))
+        subst Apart (sym (tails-ext s s₁ work (h .below) hi (λ k a b. w .front .behind k (omega arith))))
         (apart-part s work lo hi (h .below) hi (q .apart) (w .from) (w .upto) (omega arith))
 
     pub table-asked : length buf₁ ≡ length buf → TableAsked s₁ work (h .below) hi d (h .groups) (h .end) buf₁ left
@@ -115,20 +115,20 @@ module _ {s : List ℕ} {work lo hi d : ℕ} {e : End} {buf : List ℕ} {left : 
     table-asked long = record {
       order = w .upto;
       grouped = w .grouped;
-      held = held-ext s s₁ work (h .below) hi (λ k a b. w .behind k (omega arith)) (held-part (h .below) hi (q .held) (w .from) (omega arith));
-      memory = omega (arith, w .long, q .memory);
+      held = held-ext s s₁ work (h .below) hi (λ k a b. w .front .behind k (omega arith)) (held-part (h .below) hi (q .span .held) (w .from) (omega arith));
+      memory = omega (arith, w .front .long, q .span .memory);
       buffer = omega (arith, q .buffer);
       different = groups-different d (tails-in s₁ work (h .below) hi) apart₁;
-      rising = subst (λ (gs : List Group). Rising (bytes-of gs)) (sym groups-are) (groups-rising d (tails-in s work lo hi) (q .run));
+      rising = subst (λ (gs : List Group). Rising (bytes-of gs)) (sym groups-are) (groups-rising d (tails-in s work lo hi) (q .span .run));
       small = subst (λ (gs : List Group). (g : Group) → Mem g gs → g .byte < 256) (sym groups-are) small;
-      runs = subst (λ (gs : List Group). (g : Group) → Mem g gs → Run (suc d) (g .tails)) (sym groups-are) (group-run d (tails-in s work lo hi) (q .run));
+      runs = subst (λ (gs : List Group). (g : Group) → Mem g gs → Run (suc d) (g .tails)) (sym groups-are) (group-run d (tails-in s work lo hi) (q .span .run));
       apart = apart₁;
-      depth = q .depth;
-      from = omega (arith, w .at, q .from);
-      counted-nodes = omega (arith, w .at, w .nodes, q .counted-nodes);
-      counted = omega (arith, w .at, w .entries, q .counted);
+      depth = q .span .depth;
+      from = omega (arith, w .front .at, q .span .from);
+      counted-nodes = omega (arith, w .front .at, w .front .nodes, q .span .counted-nodes);
+      counted = omega (arith, w .front .at, w .front .entries, q .span .counted);
       room = subst (λ (gs : List Group). h .end .at + 39 + 64 * nodes-in (kids (child-node left d) gs) + 24 * group-weights (suc d) gs ≤ work) (sym groups-are)
-          (omega (arith, q .room, nodes-are, nodes-kept, w .few, w .at));
+          (omega (arith, q .span .room, nodes-are, nodes-kept, w .front .few, w .front .at));
     }
 
     -- ── the whole ──
@@ -142,9 +142,9 @@ module _ {s : List ℕ} {work lo hi d : ℕ} {e : End} {buf : List ℕ} {left : 
         let count : length KS ≡ h .groups =
         length-kids (child-node left d) (kept-groups (groups d (below d (tails-in s work lo hi)))) ∙ kept-length (groups d (below d (tails-in s work lo hi))) ∙ ap length (sym groups-are) ∙ sym (w .grouped .count) in
         let hl = head-length H in
-        let at₁ : h .end .at ≡ e .at + 1 + (24 + 24 * entries-of H) = w .at in
-        let front : Holds s₂ (e .at) (kind-of (h .groups) ∷ lists-bytes H) = holds-ext s₁ s₂ (e .at) (kind-of (h .groups) ∷ lists-bytes H) (λ k a b. t .before k (omega (arith, hl))) (w .bytes) in
-        let off : h .end .at - 64 ≡ e .at - 64 + 1 + (24 + 24 * entries-of H) = omega (arith, q .from) in
+        let at₁ : h .end .at ≡ e .at + 1 + (24 + 24 * entries-of H) = w .front .at in
+        let front : Holds s₂ (e .at) (kind-of (h .groups) ∷ lists-bytes H) = holds-ext s₁ s₂ (e .at) (kind-of (h .groups) ∷ lists-bytes H) (λ k a b. t .before k (omega (arith, hl))) (w .front .bytes) in
+        let off : h .end .at - 64 ≡ e .at - 64 + 1 + (24 + 24 * entries-of H) = omega (arith, q .span .from) in
         let table : Holds s₂ (e .at + 1 + (24 + 24 * entries-of H)) (table-bytes (kind-of (h .groups)) (e .at - 64 + 1 + (24 + 24 * entries-of H)) KS) =
         subst (λ (x : ℕ). Holds s₂ x (table-bytes (kind-of (h .groups)) (e .at - 64 + 1 + (24 + 24 * entries-of H)) KS)) at₁
         (subst (λ (x : ℕ). Holds s₂ (h .end .at) (table-bytes (kind-of (h .groups)) x KS)) off (subst (λ (ks : List Child). Holds s₂ (h .end .at) (table-bytes (kind-of (h .groups)) (h .end .at - 64) ks)) same (t .bytes))) in
@@ -158,15 +158,17 @@ module _ {s : List ℕ} {work lo hi d : ℕ} {e : End} {buf : List ℕ} {left : 
         let lean₂ : r .at ≤ h .end .at + 8 + 64 * nodes-in KS + 24 * group-weights (suc d) (groups d (below d (tails-in s work lo hi))) =
         subst (λ (gs : List Group). r .at ≤ h .end .at + 8 + 64 * nodes-in (kids (child-node left d) (kept-groups gs)) + 24 * group-weights (suc d) gs) groups-are (t .lean) in
         record {
-          bytes = rw (node-lists left d (tails-in s work lo hi), kids-are, count) whole;
-          at = rw (node-lists left d (tails-in s work lo hi), kids-are, count) sized;
-          nodes = omega (arith, nodes₂, w .nodes, nodes-are);
-          entries = omega (arith, entries₂, w .entries, entries-are, lists₂);
-          lean = omega (arith, lean₂, w .few, nodes-are, at₁);
-          counted-nodes = t .counted-nodes;
-          counted = t .counted;
-          long = t .long ∙ w .long;
-          before = λ k a. t .before k (omega (arith, at₁)) ∙ w .before k a;
-          behind = λ k a. t .behind k a ∙ w .behind k a;
+          span = record {
+            bytes = rw (node-lists left d (tails-in s work lo hi), kids-are, count) whole;
+            at = rw (node-lists left d (tails-in s work lo hi), kids-are, count) sized;
+            nodes = omega (arith, nodes₂, w .front .nodes, nodes-are);
+            entries = omega (arith, entries₂, w .front .entries, entries-are, lists₂);
+            lean = omega (arith, lean₂, w .front .few, nodes-are, at₁);
+            counted-nodes = t .counted-nodes;
+            counted = t .counted;
+            long = t .long ∙ w .front .long;
+            before = λ k a. t .before k (omega (arith, at₁)) ∙ w .front .before k a;
+            behind = λ k a. t .behind k a ∙ w .front .behind k a;
+          };
           kept = λ k a. t .kept k a ∙ w .kept k (inl a);
         }

@@ -49,11 +49,6 @@ unfolding as-child
 kids-sized f [] = tt
 kids-sized f (g ∷ gs) = ((λ at. node-long at (f (g .tails) .lists) (children-of (f (g .tails) .children)) (all-sized (f (g .tails) .children))), kids-sized f gs)
 
-pub kids-take : (f : List Tail → Node) (n : ℕ) (gs : List Group) → take n (kids f gs) ≡ kids f (take n gs)
-kids-take f zero gs = refl
-kids-take f (suc n) [] = refl
-kids-take f (suc n) (g ∷ gs) = ap (λ (ks : List Child). kid f g ∷ ks) (kids-take f n gs)
-
 pub getD-in : (gs : List Group) (i : ℕ) → i < length gs → Mem (getD gs i no-group) gs
 getD-in [] i h = absurd (not-suc-le-zero h)
 getD-in (g ∷ gs) zero h = here refl

@@ -38,11 +38,6 @@ holds-child s p o (x ∷ xs) k z h f c =
           (holds-at s (p + (1 + x .size)) (p + 1 + x .size) (children-bytes (o + (1 + x .size)) (xs ++ (k ∷ []))) q r),
     )
 
-pub size-snoc : (xs : List Child) (k : Child) → children-size (xs ++ (k ∷ [])) ≡ children-size xs + (1 + k .size)
-unfolding children-size
-size-snoc [] k = omega arith
-size-snoc (x ∷ xs) k = omega (arith, size-snoc xs k)
-
 -- the entry of a child, whose flag stands at an offset
 abbrev pub entry-bytes : Child → ℕ → List ℕ
 entry-bytes k o = k .byte ∷ bytes64 o

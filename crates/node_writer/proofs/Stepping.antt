@@ -13,10 +13,10 @@ use Rattle.words.specs.Words.{bytes64}
 use Rattle.words.specs.Holding.{Holds}
 use Rattle.words.proofs.Parts.{getD-sets-out, length-bytes64}
 use Rattle.definitions.proofs.Views.{Eq, eq}
-use Rattle.trie.specs.Trie.{Node, entries-of, forest-nodes, forest-entries}
+use Rattle.trie.specs.Trie.{Node, forest-nodes}
 use Rattle.tails.specs.Groups.{Group, group-node}
 use Rattle.kinds.specs.Kinds.{kind-of}
-use Rattle.image_format.specs.Image.{Child, children-of, children-size, nodes-in, entries-in, slots-size, node-bytes, node-size}
+use Rattle.image_format.specs.Image.{Child, children-size, nodes-in, entries-in, slots-size}
 use Rattle.tails.specs.Runs.{Run}
 use Rattle.tails.specs.Weights.{weights}
 use Rattle.tail_records.specs.Tail.{tails-in}
@@ -28,9 +28,10 @@ use Rattle.tail_records.proofs.Distinct.{apart-part}
 use Rattle.list_writer.specs.declared.End.{End}
 use Rattle.node_writer.specs.declared.Table.{Table}
 use Rattle.node_writer.specs.declared.Turn.{Turn}
+use Rattle.node_writer.specs.declared.Span.{Span}
 use Rattle.node_writer.specs.Kids.{kid, kids, sizes, no-child}
 use Rattle.node_writer.specs.Turns.{groups-in, group-in, group-bytes, GroupEntry, Turned}
-use Rattle.node_writer.specs.Nodes.{child-node, node-of, NodeAsked, NodeWritten}
+use Rattle.node_writer.specs.Nodes.{child-node, node-of, Stands, NodeAsked, NodeWritten}
 use Rattle.node_writer.proofs.Sized.{Sized}
 use Rattle.node_writer.proofs.Orders.{Climbs, getD-kids, kid-byte, length-kids}
 use Rattle.node_writer.proofs.Places.{kid-nodes, kid-entries, kid-size, kid-bytes, kids-sized, getD-in, rising-climbs, order-other, place-of, place-inside, place-apart, cost, costs, costs-more}
@@ -195,10 +196,20 @@ module _ {s₀ : List ℕ} {work lo hi d n : ℕ} {t : Table} {e : End} {buf₀ 
     -- ── a child ──
 
     module _ (i : r .group < n) where
+      -- where its tails begin and end, and the group
+      abbrev A : ℕ
+      A = getD buf (d * 513 + r .group) 0
+
+      abbrev B : ℕ
+      B = getD buf (d * 513 + r .group + 1) 0
+
+      abbrev G : Group
+      G = getD (in-order s₀ work lo hi d n) met no-group
+
       met-in : met < n
       met-in = next-group o w l i (tr .picked) .0
 
-      group-is : group-in s work lo hi d (r .group) ≡ getD (in-order s₀ work lo hi d n) met no-group
+      group-is : group-in s work lo hi d (r .group) ≡ G
       group-is = ap (λ (gs : List Group). getD gs (r .group) no-group) (now-groups o w) ∙ next-group o w l i (tr .picked) .1
 
       child-frame : Frame
@@ -208,103 +219,105 @@ module _ {s₀ : List ℕ} {work lo hi d n : ℕ} {t : Table} {e : End} {buf₀ 
           go true h = slot-frame 1 h (tr .dense i (o .kind ∙ h))
           go false h = entry-frame i h (tr .sparse i (λ x. h (sym (o .kind) ∙ x)))
 
-      child-tails : tails-in s₁ work (getD buf (d * 513 + r .group) 0) (getD buf (d * 513 + r .group + 1) 0) ≡ getD (in-order s₀ work lo hi d n) met no-group .tails
+      child-tails : tails-in s₁ work A B ≡ G .tails
       child-tails =
-          tails-ext s s₁ work (getD buf (d * 513 + r .group) 0) (getD buf (d * 513 + r .group + 1) 0) (λ k a b. child-frame .same k (inr (omega arith)))
+          tails-ext s s₁ work A B (λ k a b. child-frame .same k (inr (omega arith)))
           ∙ now-grouped o w .each (r .group) i .tails ∙ ap (λ (g : Group). g .tails) group-is
 
-      child-is : node-of s₁ work (getD buf (d * 513 + r .group) 0) (getD buf (d * 513 + r .group + 1) 0) (d + 1) (left - 1) ≡ child-node left d (getD (in-order s₀ work lo hi d n) met no-group .tails)
-      child-is = ap (λ (x : ℕ). group-node (left - 1) x (tails-in s₁ work (getD buf (d * 513 + r .group) 0) (getD buf (d * 513 + r .group + 1) 0))) (add-one d) ∙ ap (group-node (left - 1) (suc d)) child-tails
+      child-is : node-of s₁ work A B (d + 1) (left - 1) ≡ child-node left d (G .tails)
+      child-is = ap (λ (x : ℕ). group-node (left - 1) x (tails-in s₁ work A B)) (add-one d) ∙ ap (group-node (left - 1) (suc d)) child-tails
 
-      weights-are : weights (d + 1) (tails-in s₁ work (getD buf (d * 513 + r .group) 0) (getD buf (d * 513 + r .group + 1) 0)) ≡ weights (suc d) (getD (in-order s₀ work lo hi d n) met no-group .tails)
-      weights-are = ap (λ (x : ℕ). weights x (tails-in s₁ work (getD buf (d * 513 + r .group) 0) (getD buf (d * 513 + r .group + 1) 0))) (add-one d) ∙ ap (weights (suc d)) child-tails
+      weights-are : weights (d + 1) (tails-in s₁ work A B) ≡ weights (suc d) (G .tails)
+      weights-are = ap (λ (x : ℕ). weights x (tails-in s₁ work A B)) (add-one d) ∙ ap (weights (suc d)) child-tails
 
-      nodes-are : 1 + forest-nodes (node-of s₁ work (getD buf (d * 513 + r .group) 0) (getD buf (d * 513 + r .group + 1) 0) (d + 1) (left - 1) .children) ≡ kid (child-node left d) (getD (in-order s₀ work lo hi d n) met no-group) .nodes
-      nodes-are = ap (λ (x : Node). 1 + forest-nodes (x .children)) child-is ∙ sym (kid-nodes (child-node left d) (getD (in-order s₀ work lo hi d n) met no-group))
+      nodes-are : 1 + forest-nodes (node-of s₁ work A B (d + 1) (left - 1) .children) ≡ kid (child-node left d) G .nodes
+      nodes-are = ap (λ (x : Node). 1 + forest-nodes (x .children)) child-is ∙ sym (kid-nodes (child-node left d) G)
 
-      pub child-asked : NodeAsked s₁ work (getD buf (d * 513 + r .group) 0) (getD buf (d * 513 + r .group + 1) 0) (d + 1) (r .end) buf (left - 1)
-      child-asked =
+      below-asked : NodeAsked s₁ work A B (d + 1) (r .end) buf (left - 1)
+      below-asked =
           let x = now-grouped o w .each (r .group) i in
           let a = now-asked o w in
           record {
+            span = record {
+              held = held-ext s s₁ work A B (λ k y z. child-frame .same k (inr (omega arith))) (held-part A B (a .held) (x .from) (x .upto));
+              memory = omega (arith, x .upto, a .memory, child-frame .long);
+              run = rw (add-one d, child-tails) (subst (λ (g : Group). Run (suc d) (g .tails)) group-is (a .runs (group-in s work lo hi d (r .group)) (getD-in (groups-in s work lo hi d) (r .group) (omega (arith, now-grouped o w .count)))));
+              depth = omega (arith, o .asked .depth, levels o w l);
+              from = omega (arith, tr .end .0, w .at, start-from);
+              counted-nodes = omega (arith, tr .end .0, tr .end .1, w .counted-nodes);
+              counted = omega (arith, tr .end .0, tr .end .2, w .counted);
+              room = omega (arith, node-room o w l met-in, nodes-are, weights-are, tr .end .0);
+            };
             order = omega (arith, x .some);
-            held = held-ext s s₁ work (getD buf (d * 513 + r .group) 0) (getD buf (d * 513 + r .group + 1) 0) (λ k y z. child-frame .same k (inr (omega arith)))
-                (held-part (getD buf (d * 513 + r .group) 0) (getD buf (d * 513 + r .group + 1) 0) (a .held) (x .from) (x .upto));
-            memory = omega (arith, x .upto, a .memory, child-frame .long);
-            run = rw (add-one d, child-tails) (subst (λ (g : Group). Run (suc d) (g .tails)) group-is (a .runs (group-in s work lo hi d (r .group)) (getD-in (groups-in s work lo hi d) (r .group) (omega (arith, now-grouped o w .count)))));
-            apart = subst Apart (sym (tails-ext s s₁ work (getD buf (d * 513 + r .group) 0) (getD buf (d * 513 + r .group + 1) 0) (λ k y z. child-frame .same k (inr (omega arith)))))
-                (apart-part s work lo hi (getD buf (d * 513 + r .group) 0) (getD buf (d * 513 + r .group + 1) 0) (a .apart) (x .from) (omega (arith, x .some)) (x .upto));
-            depth = omega (arith, o .asked .depth, levels o w l);
+            apart = subst Apart (sym (tails-ext s s₁ work A B (λ k y z. child-frame .same k (inr (omega arith))))) (apart-part s work lo hi A B (a .apart) (x .from) (omega (arith, x .some)) (x .upto));
             buffer = omega (arith, w .buffer-long, o .asked .buffer);
-            from = omega (arith, tr .end .0, w .at, start-from);
-            counted-nodes = omega (arith, tr .end .0, tr .end .1, w .counted-nodes);
-            counted = omega (arith, tr .end .0, tr .end .2, w .counted);
-            room = omega (arith, node-room o w l met-in, nodes-are, weights-are, tr .end .0);
           }
 
       -- ── the child is written ──
 
-      module _ {s₂ buf₂ : List ℕ} {r₂ : End}
-          (nw : NodeWritten s₁ s₂ work (getD buf (d * 513 + r .group) 0) (getD buf (d * 513 + r .group + 1) 0) (d + 1) (r .end) buf buf₂ (left - 1) r₂) (long₂ : length buf₂ ≡ length buf) where
+      module _ (p : Span) (is : p ≡ record { work = work; lo = A; hi = B; depth = d + 1 }) (deep : left ≡ 16 - d) where
+        down : left - 1 ≡ 16 - (d + 1)
+        down = omega arith
+
+        pub child-asked : (16 - p .depth < left) × NodeAsked s₁ (p .work) (p .lo) (p .hi) (p .depth) (r .end) buf (16 - p .depth)
+        child-asked =
+            subst (λ (x : Span). (16 - x .depth < left) × NodeAsked s₁ (x .work) (x .lo) (x .hi) (x .depth) (r .end) buf (16 - x .depth)) (sym is)
+            (omega (arith, levels o w l), subst (NodeAsked s₁ work A B (d + 1) (r .end) buf) down below-asked)
+
+        pub child-written : {s₂ buf₂ : List ℕ} {r₂ : End} → NodeWritten s₁ s₂ (p .work) (p .lo) (p .hi) (p .depth) (r .end) buf buf₂ (16 - p .depth) r₂ → NodeWritten s₁ s₂ work A B (d + 1) (r .end) buf buf₂ (left - 1) r₂
+        child-written {s₂} {buf₂} {r₂} v =
+            subst (λ (x : ℕ). NodeWritten s₁ s₂ work A B (d + 1) (r .end) buf buf₂ x r₂) (sym down) (subst (λ (x : Span). NodeWritten s₁ s₂ (x .work) (x .lo) (x .hi) (x .depth) (r .end) buf buf₂ (16 - x .depth) r₂) is v)
+
+      module _ {s₂ buf₂ : List ℕ} {r₂ : End} (v : NodeWritten s₁ s₂ work A B (d + 1) (r .end) buf buf₂ (left - 1) r₂) (long₂ : length buf₂ ≡ length buf) where
         ks : List Child
         ks = kids-in s₀ work lo hi d n left
 
-        G : Group
-        G = getD (in-order s₀ work lo hi d n) met no-group
-
         K : Child
-        unfolding G
         K = kid (child-node left d) G
 
         in-order-in : met < length (in-order s₀ work lo hi d n)
         in-order-in = omega (arith, asked-count (o .asked), met-in)
 
         kid-here : getD ks met no-child ≡ K
-        unfolding ks G K
+        unfolding ks K
         kid-here = getD-kids (child-node left d) (in-order s₀ work lo hi d n) met in-order-in
 
         more : take (met + 1) ks ≡ take met ks ++ (K ∷ [])
         unfolding ks
         more = ap (λ (x : ℕ). take x ks) (add-one met) ∙ take-suc ks met no-child (omega (arith, kids-length, met-in)) ∙ ap (λ (k : Child). take met ks ++ (k ∷ [])) kid-here
 
-        size-is : node-size (node-of s₁ work (getD buf (d * 513 + r .group) 0) (getD buf (d * 513 + r .group + 1) 0) (d + 1) (left - 1) .lists) (children-of (node-of s₁ work (getD buf (d * 513 + r .group) 0) (getD buf (d * 513 + r .group + 1) 0) (d + 1) (left - 1) .children)) ≡ K .size
-        unfolding K G
-        size-is = ap (λ (x : Node). node-size (x .lists) (children-of (x .children))) child-is ∙ sym (kid-size (child-node left d) G)
+        nw : Stands s₁ s₂ (child-node left d (G .tails)) (weights (suc d) (G .tails)) work (r .end) r₂
+        nw = subst (λ (y : Node). Stands s₁ s₂ y (weights (suc d) (G .tails)) work (r .end) r₂) child-is (subst (λ (y : ℕ). Stands s₁ s₂ (node-of s₁ work A B (d + 1) (left - 1)) y work (r .end) r₂) weights-are (v .span))
 
         nodes-here : r₂ .nodes ≡ end .nodes + K .nodes
-        unfolding K G
-        nodes-here = omega (arith, nw .nodes, tr .end .1, nodes-are)
+        unfolding K
+        nodes-here = omega (arith, nw .nodes, tr .end .1, kid-nodes (child-node left d) G)
 
         entries-here : r₂ .entries ≡ end .entries + K .entries
-        unfolding K G
-        entries-here =
-            let x : entries-of (node-of s₁ work (getD buf (d * 513 + r .group) 0) (getD buf (d * 513 + r .group + 1) 0) (d + 1) (left - 1) .lists) + forest-entries (node-of s₁ work (getD buf (d * 513 + r .group) 0) (getD buf (d * 513 + r .group + 1) 0) (d + 1) (left - 1) .children) ≡ K .entries =
-            ap (λ (x : Node). entries-of (x .lists) + forest-entries (x .children)) child-is ∙ sym (kid-entries (child-node left d) G) in
-            omega (arith, nw .entries, tr .end .2, x)
+        unfolding K
+        entries-here = omega (arith, nw .entries, tr .end .2, kid-entries (child-node left d) G)
 
         at-here : r₂ .at ≡ end .at + 1 + K .size
-        at-here = omega (arith, nw .at, tr .end .0, size-is)
+        unfolding K
+        at-here = omega (arith, nw .at, tr .end .0, kid-size (child-node left d) G)
 
         lean-here : K .size + 31 ≤ cost (child-node left d) (suc d) G
-        unfolding K G
-        lean-here = omega (arith, nw .lean, at-here, tr .end .0, nodes-are, weights-are)
+        unfolding K
+        lean-here = omega (arith, nw .lean, at-here, tr .end .0, kid-nodes (child-node left d) G)
 
         costs-here : costs (child-node left d) (suc d) (take (met + 1) (in-order s₀ work lo hi d n)) ≡ costs (child-node left d) (suc d) (take met (in-order s₀ work lo hi d n)) + cost (child-node left d) (suc d) G
-        unfolding G
         costs-here = ap (λ (x : ℕ). costs (child-node left d) (suc d) (take x (in-order s₀ work lo hi d n))) (add-one met) ∙ costs-more (child-node left d) (suc d) (in-order s₀ work lo hi d n) met in-order-in
 
         -- the node's bytes where the flag stands at an offset
         node-stands : (p q : ℕ) → r .end .at ≡ p → r .end .at - 64 ≡ q → Holds s₂ p (getD ks met no-child .bytes q)
-        unfolding K G
+        unfolding K
         node-stands p q a b =
-            let x : Holds s₂ (r .end .at) (node-bytes (r .end .at - 64) (child-node left d (G .tails) .lists) (children-of (child-node left d (G .tails) .children))) =
-            subst (λ (y : Node). Holds s₂ (r .end .at) (node-bytes (r .end .at - 64) (y .lists) (children-of (y .children)))) child-is (nw .bytes) in
-            let y : Holds s₂ (r .end .at) (kid (child-node left d) G .bytes (r .end .at - 64)) = subst (λ (l : List ℕ). Holds s₂ (r .end .at) l) (sym (kid-bytes (child-node left d) G (r .end .at - 64))) x in
+            let y : Holds s₂ (r .end .at) (kid (child-node left d) G .bytes (r .end .at - 64)) = subst (λ (l : List ℕ). Holds s₂ (r .end .at) l) (sym (kid-bytes (child-node left d) G (r .end .at - 64))) (nw .bytes) in
             let z : Holds s₂ (r .end .at) (getD ks met no-child .bytes (r .end .at - 64)) = subst (λ (k : Child). Holds s₂ (r .end .at) (k .bytes (r .end .at - 64))) (sym kid-here) y in
             subst (λ (u : ℕ). Holds s₂ u (getD ks met no-child .bytes q)) a (subst (λ (v : ℕ). Holds s₂ (r .end .at) (getD ks met no-child .bytes v)) b z)
 
         sparse-next : (h : ¬ (kind-of n ≡ 1)) → Sparse (t .base) (t .start) (t .start - 64) (kids-in s₀ work lo hi d n left) (place-of (kind-of n) (groups-in s₀ work lo hi d)) s₂ (j + 1)
-        unfolding ks G K
+        unfolding ks K
         sparse-next h =
             let m : met ≡ j = w .sparse h .0 in
             let jn : j < n = omega (arith, o .sparse h .2) in
@@ -336,7 +349,7 @@ module _ {s₀ : List ℕ} {work lo hi d n : ℕ} {t : Table} {e : End} {buf₀ 
             s₁ s₂ (w .sparse h .1) jk (omega (arith, flag-room o w l, now-asked o w .memory)) flag (λ x y. nw .before x (omega (arith, tr .end .0))) node
 
         dense-next : (h : kind-of n ≡ 1) → Dense (t .base) (t .start) (t .start - 64) (kids-in s₀ work lo hi d n left) s₂ (j + 1) (met + 1)
-        unfolding ks G K
+        unfolding ks K
         dense-next h =
             let q : s₁ ≡ set (sets s (t .base + j * 8) (bytes64 (t .start - 64 + slots-size j 0 (kids-in s₀ work lo hi d n left)))) (end .at) 1 =
             tr .dense i (o .kind ∙ h) ∙ ap (λ (x : ℕ). set (sets s (t .base + j * 8) (bytes64 x)) (end .at) 1) (flag-offset h) in
@@ -362,7 +375,7 @@ module _ {s₀ : List ℕ} {work lo hi d n : ℕ} {t : Table} {e : End} {buf₀ 
               buffer-long = long₂ ∙ w .buffer-long;
               before = λ k a. nw .before k (omega (arith, tr .end .0, w .at, where-is o .start)) ∙ fr .same k (inl a) ∙ w .before k a;
               behind = λ k a. nw .behind k a ∙ fr .same k (inr a) ∙ w .behind k a;
-              buffer = λ k a. nw .kept k (omega arith) ∙ w .buffer k a;
+              buffer = λ k a. v .kept k (omega arith) ∙ w .buffer k a;
               at = omega (arith, at-here, w .at, sz);
               nodes = omega (arith, nodes-here, w .nodes, ns);
               entries = omega (arith, entries-here, w .entries, es);

@@ -32,12 +32,6 @@ kind-last n h a b = go (lt-or-le 8 n) (lt-or-le 96 n)
 
 -- ── what the buffer says ──
 
--- the bytes of a tail can be read
-pub record Readable (s : List ℕ) (work i d : ℕ) : Type 0 where
-  pub depth : d < 16
-  pub inside : work + 56 * i + 56 ≤ length s
-  pub valid : ValidRecord (record-in s work i)
-
 module _ {s : List ℕ} {work lo hi d n : ℕ} {buf : List ℕ} (w : Known s work lo hi d n buf) where
   count : n ≡ length (groups-in s work lo hi d)
   count = w .grouped .count
@@ -48,10 +42,11 @@ module _ {s : List ℕ} {work lo hi d n : ℕ} {buf : List ℕ} (w : Known s wor
   same-firsts : take n (drop (d * 513 + 257) buf) ≡ firsts (groups-in s work lo hi d)
   same-firsts = grouped-firsts {buf = buf} (w .grouped) (omega (arith, w .depth, w .buffer, few))
 
-  pub known-readable : (g : ℕ) → g < n → Readable s work (getD buf (d * 513 + g) 0) d
+  -- the bytes of its tails can be read
+  pub known-readable : (g : ℕ) → g < n → (d < 16) × (work + 56 * getD buf (d * 513 + g) 0 + 56 ≤ length s) × ValidRecord (record-in s work (getD buf (d * 513 + g) 0))
   known-readable g l =
       let x = w .grouped .each g l in
-      record { depth = w .depth; inside = omega (arith, x .some, x .upto, w .memory); valid = w .held .each (getD buf (d * 513 + g) 0) (x .from) (omega (arith, x .some, x .upto)) }
+      (w .depth, omega (arith, x .some, x .upto, w .memory), w .held .each (getD buf (d * 513 + g) 0) (x .from) (omega (arith, x .some, x .upto)))
 
   pub known-rank : (g r : ℕ) → g < n → r ≡ rank-of (getD buf (d * 513 + 257 + g) 0) (take n (drop (d * 513 + 257) buf))
       → r ≡ rank-of (group-in s work lo hi d g .first) (firsts (groups-in s work lo hi d))

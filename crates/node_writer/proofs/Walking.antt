@@ -234,7 +234,7 @@ module _ {s₀ : List ℕ} {work lo hi d n : ℕ} {t : Table} {e : End} {buf₀ 
     pub now-grouped : Grouped s work lo hi d buf n
     now-grouped = grouped-buffer buf (now-asked .grouped) (λ k a b. w .buffer k b)
 
-    pub turn-asked : j < t .turns → TurnAsked s work lo hi d t n buf j met
+    turn-asked : j < t .turns → TurnAsked s work lo hi d t n buf j met
     turn-asked l = record {
       known = record {
         grouped = now-grouped;
@@ -249,6 +249,10 @@ module _ {s₀ : List ℕ} {work lo hi d n : ℕ} {t : Table} {e : End} {buf₀ 
       dense = λ h. (o .dense h .2, omega (arith, o .dense h .0, o .dense h .1));
       sparse = λ h. (o .sparse h .2, omega (arith, o .sparse h .0, o .sparse h .1));
     }
+
+    -- what a turn asks
+    pub turn-called : j < t .turns → TurnAsked s work lo hi d t n buf j met × (t .start + j ≤ end .at) × (end .at + 1 ≤ length s) × (64 ≤ end .at)
+    turn-called l = (turn-asked l, omega (arith, w .at), omega (arith, flag-room l, now-asked .memory), omega (arith, w .at, where-is .base, where-is .start, o .asked .from))
 
     pub levels : j < t .turns → d < 16
     levels l = asked-deep (o .asked) (some l)

@@ -1,13 +1,14 @@
 -- A node up to its table: its kind and its lists. Assumes nothing.
 use Prim.Native.Nat.{ℕ, suc, _+_, _*_, _≤_, _<_}
 use mathlib.Core.Path.{_≡_}
+use mathlib.Core.Bool.{true, false}
 use mathlib.Core.Logic.{_⊎_}
 use mathlib.Core.List.{List, _∷_}
 use lib.ListN.{length, getD}
 use Rattle.words.specs.Holding.{Holds}
 use Rattle.definitions.specs.Location.{normal}
 use Rattle.trie.specs.Trie.{Lists, entries-of}
-use Rattle.tails.specs.Groups.{locations-of, wholes, below, group-lists, groups}
+use Rattle.tails.specs.Groups.{ends-as, run, locations-of, wholes, below, group-lists, groups}
 use Rattle.kinds.specs.Kinds.{kind-of}
 use Rattle.image_format.specs.Image.{lists-bytes, lists-size}
 use Rattle.tails.specs.Runs.{Run}
@@ -58,9 +59,16 @@ pub record HeadAsked (s : List ℕ) (work lo hi d : ℕ) (e : End) : Type 0 wher
   pub counted-nodes : e .nodes ≤ e .at
   pub counted : e .entries ≤ e .at
 
--- a kind and the lists of the node of the tails number lo to hi - 1 behind the end e, and r is the end behind them
-pub record Front (s s′ : List ℕ) (work lo hi d kind : ℕ) (e r : End) : Type 0 where
-  pub bytes : Holds s′ (e .at) (kind ∷ lists-bytes (group-lists d (tails-in s work lo hi)))
+-- the same, and where its tails end: inside their pieces up to parts, with them up to mid
+pub record FrontAsked (s : List ℕ) (work lo hi d parts mid n : ℕ) (e : End) : Type 0 where
+  pub asked : HeadAsked s work lo hi d e
+  pub first : parts ≡ lo + length (run (ends-as d false) (tails-in s work lo hi))
+  pub second : mid ≡ parts + length (run (ends-as d true) (tails-in s work parts hi))
+  pub few : n ≤ 256
+
+-- the kind for n children and the lists of the node of the tails number lo to hi - 1 behind the end e, and r is the end behind them
+pub record Front (s s′ : List ℕ) (work lo hi d n : ℕ) (e r : End) : Type 0 where
+  pub bytes : Holds s′ (e .at) (kind-of n ∷ lists-bytes (group-lists d (tails-in s work lo hi)))
   pub at : r .at ≡ e .at + 1 + lists-size (group-lists d (tails-in s work lo hi))
   pub few : entries-of (group-lists d (tails-in s work lo hi)) + group-weights (suc d) (groups d (below d (tails-in s work lo hi))) ≤ weights d (tails-in s work lo hi)
   pub nodes : r .nodes ≡ e .nodes + 1
@@ -74,13 +82,6 @@ pub record HeadWritten (s s′ : List ℕ) (work lo hi d : ℕ) (e : End) (buf b
   pub from : lo ≤ r .below
   pub upto : r .below ≤ hi
   pub rest : tails-in s work (r .below) hi ≡ below d (tails-in s work lo hi)
-  pub bytes : Holds s′ (e .at) (kind-of (r .groups) ∷ lists-bytes (group-lists d (tails-in s work lo hi)))
-  pub at : r .end .at ≡ e .at + 1 + lists-size (group-lists d (tails-in s work lo hi))
-  pub few : entries-of (group-lists d (tails-in s work lo hi)) + group-weights (suc d) (groups d (below d (tails-in s work lo hi))) ≤ weights d (tails-in s work lo hi)
-  pub nodes : r .end .nodes ≡ e .nodes + 1
-  pub entries : r .end .entries ≡ e .entries + entries-of (group-lists d (tails-in s work lo hi))
-  pub long : length s′ ≡ length s
-  pub before : (k : ℕ) → k < e .at → getD s′ k 0 ≡ getD s k 0
-  pub behind : (k : ℕ) → work ≤ k → getD s′ k 0 ≡ getD s k 0
+  pub front : Front s s′ work lo hi d (r .groups) e (r .end)
   pub grouped : Grouped s′ work (r .below) hi d buf′ (r .groups)
   pub kept : (k : ℕ) → (k < d * 513) ⊎ (d * 513 + 513 ≤ k) → getD buf′ k 0 ≡ getD buf k 0

@@ -65,30 +65,41 @@ pub record TableWritten (s s′ : List ℕ) (work lo hi d n : ℕ) (e : End) (bu
 abbrev pub node-of : List ℕ → ℕ → ℕ → ℕ → ℕ → ℕ → Node
 node-of s work lo hi d left = group-node left d (tails-in s work lo hi)
 
-pub record NodeAsked (s : List ℕ) (work lo hi d : ℕ) (e : End) (buf : List ℕ) (left : ℕ) : Type 0 where
-  pub order : lo ≤ hi
+-- a node stands behind the end e, and r is the end behind it; w is what its tails weigh, and the rest of the memory is as it was; offsets are from the image's start, byte 64
+pub record Stands (s s′ : List ℕ) (n : Node) (w work : ℕ) (e r : End) : Type 0 where
+  pub bytes : Holds s′ (e .at) (node-bytes (e .at - 64) (n .lists) (children-of (n .children)))
+  pub at : r .at ≡ e .at + node-size (n .lists) (children-of (n .children))
+  pub nodes : r .nodes ≡ e .nodes + (1 + forest-nodes (n .children))
+  pub entries : r .entries ≡ e .entries + (entries-of (n .lists) + forest-entries (n .children))
+  pub lean : r .at + 31 ≤ e .at + 64 * (1 + forest-nodes (n .children)) + 24 * w
+  pub counted-nodes : r .nodes ≤ r .at
+  pub counted : r .entries ≤ r .at
+  pub long : length s′ ≡ length s
+  pub before : (k : ℕ) → k < e .at → getD s′ k 0 ≡ getD s k 0
+  pub behind : (k : ℕ) → work ≤ k → getD s′ k 0 ≡ getD s k 0
+
+-- the tails number lo to hi - 1 share their first d bytes, and there is room for their node
+pub record SpanAsked (s : List ℕ) (work lo hi d : ℕ) (e : End) (left : ℕ) : Type 0 where
   pub held : Held s work lo hi
   pub memory : work + 56 * hi ≤ length s
   pub run : Run d (tails-in s work lo hi)
-  pub apart : Apart (tails-in s work lo hi)
   pub depth : d + left ≡ 16
-  pub buffer : 8721 ≤ length buf
   pub from : 64 ≤ e .at
   pub counted-nodes : e .nodes ≤ e .at
   pub counted : e .entries ≤ e .at
   -- 64 bytes for each node, 24 for each entry, repeats kept
   pub room : e .at + 64 * (1 + forest-nodes (node-of s work lo hi d left .children)) + 24 * weights d (tails-in s work lo hi) ≤ work
 
--- s′ is s with that node behind the end e; offsets are from the image's start, byte 64
+-- s′ is s with their node behind the end e
+abbrev pub SpanWritten : List ℕ → List ℕ → ℕ → ℕ → ℕ → ℕ → End → ℕ → End → Type 0
+SpanWritten s s′ work lo hi d e left r = Stands s s′ (node-of s work lo hi d left) (weights d (tails-in s work lo hi)) work e r
+
+pub record NodeAsked (s : List ℕ) (work lo hi d : ℕ) (e : End) (buf : List ℕ) (left : ℕ) : Type 0 where
+  pub span : SpanAsked s work lo hi d e left
+  pub order : lo ≤ hi
+  pub apart : Apart (tails-in s work lo hi)
+  pub buffer : 8721 ≤ length buf
+
 pub record NodeWritten (s s′ : List ℕ) (work lo hi d : ℕ) (e : End) (buf buf′ : List ℕ) (left : ℕ) (r : End) : Type 0 where
-  pub bytes : Holds s′ (e .at) (node-bytes (e .at - 64) (node-of s work lo hi d left .lists) (children-of (node-of s work lo hi d left .children)))
-  pub at : r .at ≡ e .at + node-size (node-of s work lo hi d left .lists) (children-of (node-of s work lo hi d left .children))
-  pub nodes : r .nodes ≡ e .nodes + (1 + forest-nodes (node-of s work lo hi d left .children))
-  pub entries : r .entries ≡ e .entries + (entries-of (node-of s work lo hi d left .lists) + forest-entries (node-of s work lo hi d left .children))
-  pub lean : r .at + 31 ≤ e .at + 64 * (1 + forest-nodes (node-of s work lo hi d left .children)) + 24 * weights d (tails-in s work lo hi)
-  pub counted-nodes : r .nodes ≤ r .at
-  pub counted : r .entries ≤ r .at
-  pub long : length s′ ≡ length s
-  pub before : (k : ℕ) → k < e .at → getD s′ k 0 ≡ getD s k 0
-  pub behind : (k : ℕ) → work ≤ k → getD s′ k 0 ≡ getD s k 0
+  pub span : SpanWritten s s′ work lo hi d e left r
   pub kept : (k : ℕ) → k < d * 513 → getD buf′ k 0 ≡ getD buf k 0

@@ -12,6 +12,8 @@ use Rattle.tail_records.specs.Found.{no-group, Grouped}
 use Rattle.tail_records.specs.Ranks.{rank-of, with-rank, firsts, Different}
 use Rattle.node_writer.specs.declared.Table.{Table}
 use Rattle.node_writer.specs.declared.Turn.{Turn}
+use Rattle.node_writer.specs.declared.Span.{Span}
+use Rattle.node_writer.specs.declared.Branches.{Branches}
 use Rattle.list_writer.specs.declared.End.{End}
 
 -- a table of n groups begun at an index
@@ -72,3 +74,7 @@ pub record Turned (s s′ : List ℕ) (work lo hi d : ℕ) (t : Table) (n j met 
   pub none : n ≤ r .group → s′ ≡ set (sets s (t .base + j * 8) (bytes64 (e .at - 64))) (e .at) 0
   pub dense : r .group < n → t .kind ≡ 1 → s′ ≡ set (sets s (t .base + j * 8) (bytes64 (e .at - 64))) (e .at) 1
   pub sparse : r .group < n → ¬ (t .kind ≡ 1) → GroupEntry s s′ work lo hi d (t .base) (r .group) (e .at)
+
+-- the tails of group g, as the buffer has them
+abbrev pub child-in : List ℕ → Branches → ℕ → Span
+child-in buf b g = record { work = b .work; lo = getD buf (b .depth * 513 + g) 0; hi = getD buf (b .depth * 513 + g + 1) 0; depth = b .depth + 1 }

@@ -5,12 +5,29 @@ ghost use Prim.Native.Nat.{_+_, _-_, _*_, _≤_, _<_};
 ghost use lib.ListN.{length, set};
 ghost use lib.Seq.{sets};
 ghost use Rattle.words.specs.Words.{bytes64};
-ghost use Rattle.node_writer.specs.Turns.{Opened, EntryAsked, GroupEntry, TurnAsked, Picked, Turned};
-ghost use Rattle.node_writer.specs.Images.{ImageAsked, ImageWritten};
-ghost use Rattle.node_writer.specs.Nodes.{TableAsked, TableWritten, NodeAsked, NodeWritten};
 ghost use Rattle.tail_records.specs.Tail.{tail-in};
-ghost use Rattle.node_writer.specs.Ones.{LinkWritten, LeafWritten, OneAsked, OneWritten};
-ghost use Rattle.node_writer.specs.Heads.{ListsAsked, ListsWritten, HeadAsked, HeadWritten};
+ghost use Rattle.node_writer.specs.Turns.{Opened, EntryAsked, GroupEntry, TurnAsked, Picked, Turned, child-in};
+ghost use Rattle.node_writer.specs.Images.{ImageAsked, ImageWritten};
+ghost use Rattle.node_writer.specs.Nodes.{TableAsked, TableWritten, SpanAsked, SpanWritten, NodeAsked, NodeWritten};
+ghost use Rattle.node_writer.specs.Singles.{SingleWritten, LeafWritten};
+ghost use Rattle.node_writer.specs.Heads.{ListsAsked, ListsWritten, HeadAsked, FrontAsked, Front, HeadWritten};
+
+// The tails from lo to hi - 1 in the work area, which share their first depth bytes.
+pub struct Span {
+    pub work: usize,
+    pub lo: usize,
+    pub hi: usize,
+    pub depth: usize,
+}
+
+// The tails of a node that go on, those from lo to hi - 1, in count groups by their byte at depth.
+pub struct Branches {
+    pub work: usize,
+    pub lo: usize,
+    pub hi: usize,
+    pub depth: usize,
+    pub count: usize,
+}
 
 // The table of a node: its kind, where its entries begin, where its children begin, and how many turns they take.
 pub struct Table {
@@ -18,6 +35,13 @@ pub struct Table {
     pub base: usize,
     pub start: usize,
     pub turns: usize,
+}
+
+// How far a table is: the turn that comes next, how many children were met, and where the image ends.
+pub struct Progress {
+    pub turn: usize,
+    pub met: usize,
+    pub end: End,
 }
 
 // What a turn of a table is for: a group, or none where the number is that of all groups; and where the image ends then.
@@ -77,136 +101,96 @@ fn put_slot(mem: &mut [u8], to: usize, at: usize, flag: u8)
     mem[at] = flag;
 }
 
-// Writes the entry of group g of a table of kind 2 or 3, and the flag 1 to index at. The groups are those of the tails from lo to hi - 1.
-fn put_entry(
-    mem: &mut [u8],
-    work: usize,
-    lo: usize,
-    hi: usize,
-    d: usize,
-    base: usize,
-    n: usize,
-    groups: &[usize],
-    g: usize,
-    at: usize,
-)
-    requires { ⌜ EntryAsked (now mem) work lo hi d base n (now groups) g at ⌝ }
-    ensures { λ _. ⌜ GroupEntry (now (mem .entry)) (now (mem .exit)) work lo hi d base g at ⌝ }
+// Writes the entry of group g of a table of kind 2 or 3 whose entries begin at base, and the flag 1 to index at.
+fn put_entry(mem: &mut [u8], b: Branches, base: usize, groups: &[usize], g: usize, at: usize)
+    requires { ⌜ EntryAsked (now mem) (b .work) (b .lo) (b .hi) (b .depth) base (b .count) (now groups) g at ⌝ }
+    ensures { λ _. ⌜ GroupEntry (now (mem .entry)) (now (mem .exit)) (b .work) (b .lo) (b .hi) (b .depth) base g at ⌝ }
 {
-    let least = d * 513 + 257;
-    let place = base + tail_records::rank(groups, least, n, groups[least + g]) * 9;
-    let byte = tail_records::tail_byte(mem, work, groups[d * 513 + g], d);
+    let starts = b.depth * 513;
+    let least = starts + 257;
+    let place = base + tail_records::rank(groups, least, b.count, groups[least + g]) * 9;
+    let byte = tail_records::tail_byte(mem, b.work, groups[starts + g], b.depth);
     mem[place] = byte;
     put_slot(mem, place + 1, at, 1);
 }
 
-// The group of turn j, where met children are written: by arrival in kind 3, by byte in kinds 2 and 1; n where there is none.
-// The groups are those of the tails from lo to hi - 1.
-fn group_of(
-    mem: &[u8],
-    work: usize,
-    lo: usize,
-    hi: usize,
-    d: usize,
-    t: Table,
-    n: usize,
-    groups: &[usize],
-    j: usize,
-    met: usize,
-) -> usize
-    requires { ⌜ TurnAsked (now mem) work lo hi d t n (now groups) j met ⌝ }
-    ensures { λ r. ⌜ Picked (now (mem .entry)) work lo hi d t n j met r ⌝ }
+// The group of turn j, where met children are written: by arrival in kind 3, by byte in kinds 2 and 1; all of them where there is none.
+fn group_of(mem: &[u8], b: Branches, t: Table, groups: &[usize], j: usize, met: usize) -> usize
+    requires { ⌜ TurnAsked (now mem) (b .work) (b .lo) (b .hi) (b .depth) t (b .count) (now groups) j met ⌝ }
+    ensures { λ r. ⌜ Picked (now (mem .entry)) (b .work) (b .lo) (b .hi) (b .depth) t (b .count) j met r ⌝ }
 {
+    let starts = b.depth * 513;
     if t.kind == 3 {
-        return tail_records::with_rank(groups, d * 513 + 257, n, j);
+        return tail_records::with_rank(groups, starts + 257, b.count, j);
     }
     if t.kind == 2 {
         return j;
     }
-    if n <= met {
-        return n;
+    if b.count <= met {
+        return b.count;
     }
-    let byte = tail_records::tail_byte(mem, work, groups[d * 513 + met], d);
+    let byte = tail_records::tail_byte(mem, b.work, groups[starts + met], b.depth);
     if byte as usize == j {
         return met;
     }
-    n
+    b.count
 }
 
-// Writes the entry and the flag of turn j.
-fn put_turn(
-    mem: &mut [u8],
-    work: usize,
-    lo: usize,
-    hi: usize,
-    d: usize,
-    t: Table,
-    n: usize,
-    groups: &[usize],
-    j: usize,
-    met: usize,
-    e: End,
-) -> Turn
-    requires { ⌜ TurnAsked (now mem) work lo hi d t n (now groups) j met × (t .start + j ≤ e .at) × (e .at + 1 ≤ length (now mem)) × (64 ≤ e .at) ⌝ }
-    ensures { λ r. ⌜ Turned (now (mem .entry)) (now (mem .exit)) work lo hi d t n j met e r ⌝ }
+// Writes the entry and the flag of the next turn.
+fn put_turn(mem: &mut [u8], b: Branches, t: Table, groups: &[usize], p: Progress) -> Turn
+    requires { ⌜ TurnAsked (now mem) (b .work) (b .lo) (b .hi) (b .depth) t (b .count) (now groups) (p .turn) (p .met) × (t .start + p .turn ≤ p .end .at) × (p .end .at + 1 ≤ length (now mem)) × (64 ≤ p .end .at) ⌝ }
+    ensures { λ r. ⌜ Turned (now (mem .entry)) (now (mem .exit)) (b .work) (b .lo) (b .hi) (b .depth) t (b .count) (p .turn) (p .met) (p .end) r ⌝ }
 {
-    let at = e.at;
+    let at = p.end.at;
     let base = t.base;
-    let g = group_of(mem, work, lo, hi, d, t, n, groups, j, met);
-    let end = behind_flag(e);
-    if n <= g {
-        put_slot(mem, base + j * 8, at, 0);
-        return Turn { group: g, end };
+    let group = group_of(mem, b, t, groups, p.turn, p.met);
+    let end = behind_flag(p.end);
+    if b.count <= group {
+        put_slot(mem, base + p.turn * 8, at, 0);
+        return Turn { group, end };
     }
     if t.kind == 1 {
-        put_slot(mem, base + j * 8, at, 1);
-        return Turn { group: g, end };
+        put_slot(mem, base + p.turn * 8, at, 1);
+        return Turn { group, end };
     }
-    put_entry(mem, work, lo, hi, d, base, n, groups, g, at);
-    Turn { group: g, end }
+    put_entry(mem, b, base, groups, group, at);
+    Turn { group, end }
 }
 
-// Writes the lists of a node.
-fn put_lists(
-    mem: &mut [u8],
-    work: usize,
-    lo: usize,
-    parts: usize,
-    below: usize,
-    hi: usize,
-    e: End,
-) -> End
-    requires { ⌜ ListsAsked (now mem) work lo parts below hi e ⌝ }
-    ensures { λ r. ⌜ ListsWritten (now (mem .entry)) (now (mem .exit)) work lo parts below hi e r ⌝ }
+// The tails of group g, which share one more byte.
+fn child_span(groups: &[usize], b: Branches, g: usize) -> Span
+    requires { ⌜ (b .depth < 16) × (g < 256) × (8721 ≤ length (now groups)) ⌝ }
+    ensures { λ r. ⌜ r ≡ child-in (now (groups .entry)) b g ⌝ }
 {
-    let past_prefixes = list_writer::put_run_list(mem, work, lo, parts, e);
-    let past_chunks = list_writer::put_run_list(mem, work, parts, below, past_prefixes);
-    list_writer::put_suffix_list(mem, work, below, hi, past_chunks)
-}
-
-// Writes the lists of the node of tail i alone, which goes on: only the last of them can have a location.
-fn put_link_lists(mem: &mut [u8], work: usize, i: usize, e: End) -> End
-    requires { ⌜ ListsAsked (now mem) work i i i (i + 1) e ⌝ }
-    ensures { λ r. ⌜ ListsWritten (now (mem .entry)) (now (mem .exit)) work i i i (i + 1) e r ⌝ }
-{
-    let past_prefixes = list_writer::put_none(mem, e);
-    let past_chunks = list_writer::put_none(mem, past_prefixes);
-    list_writer::put_whole_list(mem, work, i, past_chunks)
-}
-
-// Writes the lists of the node of tail i alone, which ends: it is in the second list where parts is i, else in the first.
-fn put_leaf_lists(mem: &mut [u8], work: usize, i: usize, parts: usize, e: End) -> End
-    requires { ⌜ ListsAsked (now mem) work i parts (i + 1) (i + 1) e ⌝ }
-    ensures { λ r. ⌜ ListsWritten (now (mem .entry)) (now (mem .exit)) work i parts (i + 1) (i + 1) e r ⌝ }
-{
-    if parts == i {
-        let no_prefixes = list_writer::put_none(mem, e);
-        let past_chunk = list_writer::put_tail_list(mem, work, i, no_prefixes);
-        return list_writer::put_none(mem, past_chunk);
+    let start = b.depth * 513 + g;
+    Span {
+        work: b.work,
+        lo: groups[start],
+        hi: groups[start + 1],
+        depth: b.depth + 1,
     }
-    let past_prefix = list_writer::put_tail_list(mem, work, i, e);
-    let no_chunks = list_writer::put_none(mem, past_prefix);
-    list_writer::put_none(mem, no_chunks)
+}
+
+// Writes the lists of a node: its tails end inside their pieces up to parts, with them up to below, and go on from there.
+fn put_lists(mem: &mut [u8], s: Span, parts: usize, below: usize, e: End) -> End
+    requires { ⌜ ListsAsked (now mem) (s .work) (s .lo) parts below (s .hi) e ⌝ }
+    ensures { λ r. ⌜ ListsWritten (now (mem .entry)) (now (mem .exit)) (s .work) (s .lo) parts below (s .hi) e r ⌝ }
+{
+    let past_prefixes = list_writer::put_run_list(mem, s.work, s.lo, parts, e);
+    let past_chunks = list_writer::put_run_list(mem, s.work, parts, below, past_prefixes);
+    list_writer::put_suffix_list(mem, s.work, below, s.hi, past_chunks)
+}
+
+// The same for a single tail, as most nodes have: how many prefixes and chunks it makes says how it ends.
+fn put_single_lists(mem: &mut [u8], s: Span, prefixes: usize, chunks: usize, e: End) -> End
+    requires { ⌜ ListsAsked (now mem) (s .work) (s .lo) (s .lo + prefixes) (s .lo + prefixes + chunks) (s .hi) e × (s .hi ≡ s .lo + 1) ⌝ }
+    ensures { λ r. ⌜ ListsWritten (now (mem .entry)) (now (mem .exit)) (s .work) (s .lo) (s .lo + prefixes) (s .lo + prefixes + chunks) (s .hi) e r ⌝ }
+{
+    let parts = s.lo + prefixes;
+    let below = parts + chunks;
+    let past_prefixes = list_writer::put_short_run_list(mem, s.work, s.lo, prefixes, e);
+    let past_chunks = list_writer::put_short_run_list(mem, s.work, parts, chunks, past_prefixes);
+    list_writer::put_short_suffix_list(mem, s.work, below, 1 - prefixes - chunks, past_chunks)
 }
 
 // The end behind the kind of one more node.
@@ -221,25 +205,42 @@ fn behind_kind(e: End) -> End
     }
 }
 
-// Writes the kind and the lists of the node of the tails from lo to hi - 1, which share their first d bytes, and finds its groups.
-fn put_head(
-    mem: &mut [u8],
-    work: usize,
-    lo: usize,
-    hi: usize,
-    d: usize,
-    e: End,
-    groups: &mut [usize],
-) -> Head
-    requires { ⌜ HeadAsked (now mem) work lo hi d e × (8721 ≤ length (now groups)) ⌝ }
-    ensures { λ r. ⌜ HeadWritten (now (mem .entry)) (now (mem .exit)) work lo hi d e (now (groups .entry)) (now (groups .exit)) r ⌝ }
+// Writes the kind of a node of n children, and its lists.
+fn put_front(mem: &mut [u8], s: Span, parts: usize, below: usize, n: usize, e: End) -> End
+    requires { ⌜ FrontAsked (now mem) (s .work) (s .lo) (s .hi) (s .depth) parts below n e ⌝ }
+    ensures { λ r. ⌜ Front (now (mem .entry)) (now (mem .exit)) (s .work) (s .lo) (s .hi) (s .depth) n e r ⌝ }
 {
     let at = e.at;
-    let parts = tail_records::run_end(mem, work, lo, hi, d, false);
-    let below = tail_records::run_end(mem, work, parts, hi, d, true);
-    let n = tail_records::find_groups(mem, work, below, hi, d, groups);
     mem[at] = kinds::kind_of(n);
-    let end = put_lists(mem, work, lo, parts, below, hi, behind_kind(e));
+    put_lists(mem, s, parts, below, behind_kind(e))
+}
+
+// The same for a single tail.
+fn put_single_front(
+    mem: &mut [u8],
+    s: Span,
+    prefixes: usize,
+    chunks: usize,
+    n: usize,
+    e: End,
+) -> End
+    requires { ⌜ FrontAsked (now mem) (s .work) (s .lo) (s .hi) (s .depth) (s .lo + prefixes) (s .lo + prefixes + chunks) n e × (s .hi ≡ s .lo + 1) ⌝ }
+    ensures { λ r. ⌜ Front (now (mem .entry)) (now (mem .exit)) (s .work) (s .lo) (s .hi) (s .depth) n e r ⌝ }
+{
+    let at = e.at;
+    mem[at] = kinds::kind_of(n);
+    put_single_lists(mem, s, prefixes, chunks, behind_kind(e))
+}
+
+// Writes the kind and the lists of a node, and finds its groups.
+fn put_head(mem: &mut [u8], s: Span, e: End, groups: &mut [usize]) -> Head
+    requires { ⌜ HeadAsked (now mem) (s .work) (s .lo) (s .hi) (s .depth) e × (8721 ≤ length (now groups)) ⌝ }
+    ensures { λ r. ⌜ HeadWritten (now (mem .entry)) (now (mem .exit)) (s .work) (s .lo) (s .hi) (s .depth) e (now (groups .entry)) (now (groups .exit)) r ⌝ }
+{
+    let parts = tail_records::run_end(mem, s.work, s.lo, s.hi, s.depth, false);
+    let below = tail_records::run_end(mem, s.work, parts, s.hi, s.depth, true);
+    let n = tail_records::find_groups(mem, s.work, below, s.hi, s.depth, groups);
+    let end = put_front(mem, s, parts, below, n, e);
     Head {
         below,
         groups: n,
@@ -247,22 +248,12 @@ fn put_head(
     }
 }
 
-// Writes the table and the children of a node whose tails that go on are those from lo to hi - 1, in n groups.
-fn put_table(
-    mem: &mut [u8],
-    work: usize,
-    lo: usize,
-    hi: usize,
-    d: usize,
-    n: usize,
-    e: End,
-    groups: &mut [usize],
-    left: usize,
-) -> End
-    requires { ⌜ TableAsked (now mem) work lo hi d n e (now groups) left ⌝ }
-    ensures { λ r. ⌜ TableWritten (now (mem .entry)) (now (mem .exit)) work lo hi d n e (now (groups .entry)) (now (groups .exit)) left r ⌝ }
+// Writes the table of a node and its children, one for each group.
+fn put_table(mem: &mut [u8], b: Branches, e: End, groups: &mut [usize]) -> End
+    requires { ⌜ TableAsked (now mem) (b .work) (b .lo) (b .hi) (b .depth) (b .count) e (now groups) (16 - b .depth) ⌝ }
+    ensures { λ r. ⌜ TableWritten (now (mem .entry)) (now (mem .exit)) (b .work) (b .lo) (b .hi) (b .depth) (b .count) e (now (groups .entry)) (now (groups .exit)) (16 - b .depth) r ⌝ }
 {
-    let t = put_count(mem, e.at, n);
+    let t = put_count(mem, e.at, b.count);
     let turns = t.turns;
     let mut end = End {
         at: t.start,
@@ -272,29 +263,32 @@ fn put_table(
     let mut met = 0;
     let mut j = 0;
     while j < turns {
-        let turn = put_turn(mem, work, lo, hi, d, t, n, groups, j, met, end);
+        let turn = put_turn(mem, b, t, groups, Progress { turn: j, met, end });
         let g = turn.group;
         j += 1;
-        if n <= g {
+        if b.count <= g {
             end = turn.end;
         } else {
-            let a = groups[d * 513 + g];
-            let b = groups[d * 513 + g + 1];
-            end = put_node(mem, work, a, b, d + 1, turn.end, groups, left - 1);
+            let child = child_span(groups, b, g);
+            end = put_node(mem, child, turn.end, groups);
             met += 1;
         }
     }
     end
 }
 
-// Writes the node of tail i alone, which goes on behind its first d bytes, up to the node below it.
-fn put_link(mem: &mut [u8], work: usize, i: usize, d: usize, e: End) -> End
+// Writes the node of the single tail i, which goes on behind its first d bytes, up to the node below it.
+fn put_single(mem: &mut [u8], work: usize, i: usize, d: usize, e: End) -> End
     requires { ⌜ HeadAsked (now mem) work i (i + 1) d e × (64 ≤ e .at) × (d < length (tail-in (now mem) work i .entry .path)) ⌝ }
-    ensures { λ r. ⌜ LinkWritten (now (mem .entry)) (now (mem .exit)) work i d e r ⌝ }
+    ensures { λ r. ⌜ SingleWritten (now (mem .entry)) (now (mem .exit)) work i d e r ⌝ }
 {
-    let at = e.at;
-    mem[at] = kinds::kind_of(1);
-    let front = put_link_lists(mem, work, i, behind_kind(e));
+    let s = Span {
+        work,
+        lo: i,
+        hi: i + 1,
+        depth: d,
+    };
+    let front = put_single_front(mem, s, 0, 0, 1, e);
     let table = front.at;
     let byte = tail_records::tail_byte(mem, work, i, d);
     words::put64(mem, table, 1);
@@ -307,15 +301,19 @@ fn put_link(mem: &mut [u8], work: usize, i: usize, d: usize, e: End) -> End
     }
 }
 
-// Writes the node of tail i alone, which ends after its first d bytes.
+// Writes the node of the single tail i, which ends after its first d bytes.
 fn put_leaf(mem: &mut [u8], work: usize, i: usize, d: usize, e: End) -> End
     requires { ⌜ HeadAsked (now mem) work i (i + 1) d e × (length (tail-in (now mem) work i .entry .path) ≡ d) ⌝ }
     ensures { λ r. ⌜ LeafWritten (now (mem .entry)) (now (mem .exit)) work i d e r ⌝ }
 {
-    let at = e.at;
+    let s = Span {
+        work,
+        lo: i,
+        hi: i + 1,
+        depth: d,
+    };
     let parts = tail_records::run_end(mem, work, i, i + 1, d, false);
-    mem[at] = kinds::kind_of(0);
-    let front = put_leaf_lists(mem, work, i, parts, behind_kind(e));
+    let front = put_single_front(mem, s, parts - i, i + 1 - parts, 0, e);
     let table = front.at;
     words::put64(mem, table, 0);
     End {
@@ -325,39 +323,37 @@ fn put_leaf(mem: &mut [u8], work: usize, i: usize, d: usize, e: End) -> End
     }
 }
 
-// Writes the node of tail i alone at depth d, and all below it: one node for each byte that it goes on for.
-fn put_one(mem: &mut [u8], work: usize, i: usize, d: usize, e: End) -> End
-    requires { ⌜ OneAsked (now mem) work i d e (16 - d) ⌝ }
-    ensures { λ r. ⌜ OneWritten (now (mem .entry)) (now (mem .exit)) work i d e (16 - d) r ⌝ }
+// Writes the node of the single tail i at depth d, and all below it: one node for each byte that it goes on for.
+fn put_singles(mem: &mut [u8], work: usize, i: usize, d: usize, e: End) -> End
+    requires { ⌜ SpanAsked (now mem) work i (i + 1) d e (16 - d) ⌝ }
+    ensures { λ r. ⌜ SpanWritten (now (mem .entry)) (now (mem .exit)) work i (i + 1) d e (16 - d) r ⌝ }
 {
     let mut end = e;
     let mut k = d;
     while tail_records::goes_on(mem, work, i, k) {
-        end = put_link(mem, work, i, k, end);
+        end = put_single(mem, work, i, k, end);
         k += 1;
     }
     put_leaf(mem, work, i, k, end)
 }
 
-// Writes the node of the tails from lo to hi - 1, which share their first d bytes, and all below it.
-pub fn put_node(
-    mem: &mut [u8],
-    work: usize,
-    lo: usize,
-    hi: usize,
-    d: usize,
-    e: End,
-    groups: &mut [usize],
-    left: usize,
-) -> End
-    requires { ⌜ NodeAsked (now mem) work lo hi d e (now groups) left ⌝ }
-    ensures { λ r. ⌜ NodeWritten (now (mem .entry)) (now (mem .exit)) work lo hi d e (now (groups .entry)) (now (groups .exit)) left r ⌝ }
+// Writes the node of the tails of a span, and all below it.
+fn put_node(mem: &mut [u8], s: Span, e: End, groups: &mut [usize]) -> End
+    requires { ⌜ NodeAsked (now mem) (s .work) (s .lo) (s .hi) (s .depth) e (now groups) (16 - s .depth) ⌝ }
+    ensures { λ r. ⌜ NodeWritten (now (mem .entry)) (now (mem .exit)) (s .work) (s .lo) (s .hi) (s .depth) e (now (groups .entry)) (now (groups .exit)) (16 - s .depth) r ⌝ }
 {
-    if hi - lo == 1 {
-        return put_one(mem, work, lo, d, e);
+    if s.hi - s.lo == 1 {
+        return put_singles(mem, s.work, s.lo, s.depth, e);
     }
-    let h = put_head(mem, work, lo, hi, d, e, groups);
-    put_table(mem, work, h.below, hi, d, h.groups, h.end, groups, left)
+    let h = put_head(mem, s, e, groups);
+    let b = Branches {
+        work: s.work,
+        lo: h.below,
+        hi: s.hi,
+        depth: s.depth,
+        count: h.groups,
+    };
+    put_table(mem, b, h.end, groups)
 }
 
 // Writes the image of the sorted tails from byte 64 on: 25 zero bytes where there are none.
@@ -378,6 +374,12 @@ pub fn put_image(mem: &mut [u8], work: usize, tails: usize) -> End
         nodes: 0,
         entries: 0,
     };
+    let all = Span {
+        work,
+        lo: 0,
+        hi: tails,
+        depth: 0,
+    };
     let mut groups = [0usize; 8721];
-    put_node(mem, work, 0, tails, 0, start, &mut groups, 16)
+    put_node(mem, all, start, &mut groups)
 }

@@ -7,11 +7,11 @@ use native.Mathlib.Omega.{arith}
 use mathlib.Core.Path.{_≡_, refl, sym, ap, _∙_}
 use mathlib.Core.Logic.{_⊎_, inl, inr}
 use mathlib.Core.List.{List, [], _∷_, _++_}
-use lib.ListN.{length, getD, drop, length-append, List·getD-append, List·getD-eq-default}
+use lib.ListN.{length, getD, drop, length-append, List·getD-append}
 use lib.Seq.{getD-at, getD-take, getD-drop}
 use Rattle.words.specs.Words.{bytesN, le64, bytes64}
 use Rattle.words.proofs.Laws.{top}
-use Rattle.words.proofs.Parts.{lt-or-ge, bytesN-lt, bytes64-le64}
+use Rattle.words.proofs.Parts.{lt-or-ge, bytes64-le64}
 use Rattle.records.proofs.Bytes.{Bytes}
 use Rattle.tails.specs.Tails.{high}
 use Rattle.tail_records.specs.Tail.{high-bytes}
@@ -90,15 +90,6 @@ high-bytes-high (suc n) bs d b l = go (high-bytes-high n bs d b) (lt-or-ge d n)
     go ih (inr h) =
         let e : n ≡ d = omega arith in
         getD-at (high-bytes n (v / 256)) (v % 256) [] 0 d (length-high-bytes n (v / 256) ∙ e) ∙ last ∙ ap (λ (k : ℕ). getD bs k 0) e
-
-pub high-bytes-lt : (n v k : ℕ) → getD (high-bytes n v) k 0 < 256
-unfolding high-bytes
-high-bytes-lt zero v k = omega arith
-high-bytes-lt (suc n) v k = go (lt-or-ge k (suc n))
-  where
-    go : (k < suc n) ⊎ (suc n ≤ k) → getD (high-bytes (suc n) v) k 0 < 256
-    go (inl h) = let e : suc n ≡ suc (k + (n - k)) = omega arith in rw (getD-high-bytes (suc n) v k (n - k) e) (bytesN-lt (suc n) v (n - k))
-    go (inr h) = omega (arith, List·getD-eq-default (high-bytes (suc n) v) 0 {n = k} (omega (arith, length-high-bytes (suc n) v)))
 
 -- ── in memory ──
 

@@ -1,13 +1,10 @@
 -- Tails in memory: what is written is read back, what lies elsewhere is as it was, a part stands in the whole. Assumes nothing.
 use Prim.Native.Nat.{ℕ, zero, suc, _+_, _-_, _*_, _≤_, _<_}
-use native.Mathlib.Nat.{not-suc-le-zero}
 use native.Mathlib.Omega.{arith}
 use mathlib.Core.Path.{_≡_, refl, sym, ap, subst, _∙_}
-use mathlib.Core.Logic.{_⊎_, inl, inr}
 use mathlib.Core.List.{List, [], _∷_, _++_, List·Memᴰ as Mem, List·Memᴰ·head as here, Memᴰ·append-right as append-right}
 use lib.ListN.{length, getD}
 use lib.Seq.{sets}
-use Rattle.words.proofs.Parts.{getD-sets-out}
 use Rattle.records.specs.Records.{recordAt, records, recordsBytes}
 use Rattle.records.proofs.Bytes.{length-records, recordAt-ext, records-ext, records-sets, records-append, getD-records}
 use Rattle.records.proofs.Lists.{getD-mem}
@@ -57,20 +54,6 @@ module _ (s : List ℕ) (work : ℕ) where
       let f : work + 56 * lo + 8 * ((mid - lo) * 7) ≡ work + 56 * mid = omega arith in
       rw (e, records-append 7 (mid - lo) (hi - mid) s (work + 56 * lo), f) (tails-of-append (records 7 (mid - lo) s (work + 56 * lo)) (records 7 (hi - mid) s (work + 56 * mid)))
 
-  -- the tail number lo + k
-  pub tails-at : (lo hi k : ℕ) (t : Tail) → k < hi - lo → getD (tails-in s work lo hi) k t ≡ tail-in s work (lo + k)
-  unfolding tails-in
-  tails-at lo hi k t h =
-      let n : ℕ = hi - lo in
-      let at : ℕ = work + 56 * lo in
-      let e : at + 8 * (k * 7) ≡ work + 56 * (lo + k) = omega arith in
-      getD-tails-of (records 7 n s at) k t (omega (arith, length-records 7 n s at)) ∙ ap tail-of-record (getD-records 7 n s at k h ∙ ap (recordAt 7 s) e)
-    where
-      getD-tails-of : (rs : List (List ℕ)) (k : ℕ) (t : Tail) → k < length rs → getD (tails-of rs) k t ≡ tail-of-record (getD rs k [])
-      getD-tails-of [] k t h = absurd (not-suc-le-zero h)
-      getD-tails-of (r ∷ rs) zero t h = refl
-      getD-tails-of (r ∷ rs) (suc k) t h = getD-tails-of rs k t (omega arith)
-
 -- each tail is a member
 pub tails-mem : (s : List ℕ) (work lo hi i : ℕ) → lo ≤ i → i < hi → Mem (tail-in s work i) (tails-in s work lo hi)
 tails-mem s work lo hi i a b =
@@ -90,17 +73,6 @@ module _ (s s′ : List ℕ) (work lo hi : ℕ) (same : (k : ℕ) → work + 56 
 
   pub held-ext : Held s work lo hi → Held s′ work lo hi
   held-ext v = record { each = λ i a b. subst ValidRecord (sym (record-ext i a b)) (v .each i a b) }
-
-module _ (ys s : List ℕ) (at work lo hi : ℕ) (out : (work + 56 * hi ≤ at) ⊎ (at + length ys ≤ work + 56 * lo)) where
-  outside : (work + 56 * hi ≤ at) ⊎ (at + length ys ≤ work + 56 * lo) → (k : ℕ) → work + 56 * lo ≤ k → k < work + 56 * hi → getD (sets s at ys) k 0 ≡ getD s k 0
-  outside (inl h) k a b = getD-sets-out ys s at k (inl (omega arith))
-  outside (inr h) k a b = getD-sets-out ys s at k (inr (omega arith))
-
-  pub tails-elsewhere : tails-in (sets s at ys) work lo hi ≡ tails-in s work lo hi
-  tails-elsewhere = tails-ext s (sets s at ys) work lo hi (outside out)
-
-  pub held-elsewhere : Held s work lo hi → Held (sets s at ys) work lo hi
-  held-elsewhere = held-ext s (sets s at ys) work lo hi (outside out)
 
 -- a part of what is held
 pub held-part : {s : List ℕ} {work lo hi : ℕ} (lo′ hi′ : ℕ) → Held s work lo hi → lo ≤ lo′ → hi′ ≤ hi → Held s work lo′ hi′

@@ -5,7 +5,7 @@ use mathlib.Core.Path.{_≡_, refl, sym, ap, _∙_}
 use mathlib.Core.Bool.{Bool, true, false, not, _&&_, cond}
 use mathlib.Core.List.{List, [], _∷_, _++_, List·Memᴰ·head as here, List·Memᴰ·tail as later}
 use lib.ListN.{length, getD}
-use lib.Dec.{leb, eqb}
+use lib.Dec.{eqb}
 use Rattle.records.specs.Records.{sorted}
 use Rattle.records.proofs.Lists.{sumOf, sorted-same}
 use Rattle.definitions.specs.Location.{Location, moved}
@@ -13,7 +13,7 @@ use Rattle.definitions.specs.Blocks.{Piece, entry-charge, charge}
 use Rattle.definitions.proofs.Views.{Eq, eq}
 use Rattle.trie.specs.Build.{Entry, parts, entered, entered-all}
 use Rattle.tails.specs.Tails.{Tail, numbered, mark-of, tail-record, tail-records}
-use Rattle.tails.specs.Groups.{ends-as, run, after-run, wholes, byte-at, Group, into-group, groups, arrive, by-arrival, kept-groups, below}
+use Rattle.tails.specs.Groups.{ends-as, run, after-run, wholes, byte-at, Group, into-group, groups, below}
 use Rattle.tails.specs.Runs.{Run}
 use Rattle.tails.specs.Weights.{weight, weights, group-weights}
 use Rattle.tails.proofs.Keep.{keep}
@@ -34,27 +34,6 @@ into-weights k d t (g ∷ gs) = go (eqb (byte-at d t) (g .byte))
 groups-weights : (k d : ℕ) (ts : List Tail) → group-weights k (groups d ts) ≡ weights k ts
 groups-weights k d [] = refl
 groups-weights k d (t ∷ ts) = omega (arith, into-weights k d t (groups d ts), groups-weights k d ts)
-
-arrive-weights : (k : ℕ) (g : Group) (hs : List Group) → group-weights k (arrive g hs) ≡ weights k (g .tails) + group-weights k hs
-arrive-weights k g [] = refl
-arrive-weights k g (h ∷ hs) = go (leb (g .first) (h .first)) (arrive-weights k g hs)
-  where
-    go : (o : Bool) → group-weights k (arrive g hs) ≡ weights k (g .tails) + group-weights k hs
-        → group-weights k (cond o (g ∷ h ∷ hs) (h ∷ arrive g hs)) ≡ weights k (g .tails) + (weights k (h .tails) + group-weights k hs)
-    go true ih = refl
-    go false ih = omega arith
-
-by-arrival-weights : (k : ℕ) (gs : List Group) → group-weights k (by-arrival gs) ≡ group-weights k gs
-by-arrival-weights k [] = refl
-by-arrival-weights k (g ∷ gs) = omega (arith, arrive-weights k g (by-arrival gs), by-arrival-weights k gs)
-
--- in either order
-pub kept-weights : (k : ℕ) (gs : List Group) → group-weights k (kept-groups gs) ≡ group-weights k gs
-kept-weights k gs = go (leb (length gs) 96)
-  where
-    go : (o : Bool) → group-weights k (cond o (by-arrival gs) gs) ≡ group-weights k gs
-    go true = by-arrival-weights k gs
-    go false = refl
 
 -- ── one node ──
 

@@ -3,20 +3,18 @@
 use Prim.Native.Nat.{ℕ, zero, suc, _+_, _-_, _*_, _≤_, _<_}
 use native.Mathlib.Nat.{not-suc-le-zero}
 use native.Mathlib.Omega.{arith}
-use mathlib.Core.Path.{_≡_, refl, sym, _∙_}
+use mathlib.Core.Path.{_≡_, sym, _∙_}
 use mathlib.Core.Bool.{Bool, true, false}
 use mathlib.Core.Logic.{_⊎_, inl, inr}
 use mathlib.Core.List.{List, _∷_}
 use lib.ListN.{length, getD, drop, List·getD-eq-default}
-use lib.Seq.{getD-drop, ext-getD}
+use lib.Seq.{getD-drop}
 use Rattle.records.specs.Records.{Le}
 use Rattle.records.proofs.Order.{clash, lex-less, lex-same}
-use Rattle.definitions.proofs.Order.{location-path}
 use Rattle.definitions.proofs.Views.{lt-or-le}
-use Rattle.trie.proofs.BuildPaths.{entry-path}
-use Rattle.tails.specs.Tails.{Tail, high, mark-of, tail-record}
+use Rattle.tails.specs.Tails.{Tail, high, mark-of}
 use Rattle.tails.specs.Runs.{Agree, SoundPath, Upto}
-use Rattle.tails.proofs.High.{agree-next, high-agree, high-le, high-same, sound-bytes, bytes-drop}
+use Rattle.tails.proofs.High.{agree-next, high-agree, high-le, sound-bytes, bytes-drop}
 
 -- ── two halves of a path ──
 
@@ -27,49 +25,11 @@ agree-low xs ys a k l = a k (omega arith)
 agree-drop : (d : ℕ) (xs ys : List ℕ) → Agree (8 + d) xs ys → Agree d (drop 8 xs) (drop 8 ys)
 agree-drop d xs ys a k l = getD-drop 8 xs k 0 ∙ a (8 + k) (omega arith) ∙ sym (getD-drop 8 ys k 0)
 
-agree-both : (xs ys : List ℕ) → Agree 8 xs ys → Agree 8 (drop 8 xs) (drop 8 ys) → Agree 16 xs ys
-agree-both xs ys a b k l = go (lt-or-le k 8)
-  where
-    go : (k < 8) ⊎ (8 ≤ k) → getD xs k 0 ≡ getD ys k 0
-    go (inl h) = a k h
-    go (inr h) =
-        let e : 8 + (k - 8) ≡ k = omega arith in
-        let f : getD xs (8 + (k - 8)) 0 ≡ getD ys (8 + (k - 8)) 0 = sym (getD-drop 8 xs (k - 8) 0) ∙ b (k - 8) (omega arith) ∙ getD-drop 8 ys (k - 8) 0 in
-        rw e at f
-
 -- ── equal records ──
-
-pub tail-path : {t s : Tail} → t .entry ≡ s .entry → t .arrival ≡ s .arrival → t ≡ s
-tail-path p q = λ i. record { entry = p i; arrival = q i }
 
 pub mark-le : (w : Bool) → mark-of w ≤ 1
 mark-le true = omega arith
 mark-le false = omega arith
-
-mark-same : (v w : Bool) → mark-of v ≡ mark-of w → v ≡ w
-mark-same true true e = refl
-mark-same true false e = absurd (omega arith)
-mark-same false true e = absurd (omega arith)
-mark-same false false e = refl
-
-pub record-injective : (t s : Tail) → SoundPath (t .entry .path) → SoundPath (s .entry .path) → tail-record t ≡ tail-record s → t ≡ s
-record-injective t s ht hs e =
-    let p : List ℕ = t .entry .path in
-    let q : List ℕ = s .entry .path in
-    let h₁ : high 8 p 0 ≡ high 8 q 0 = cc in
-    let h₂ : high 8 (drop 8 p) 0 ≡ high 8 (drop 8 q) 0 = cc in
-    let l : 2 * length p + mark-of (t .entry .whole) ≡ 2 * length q + mark-of (s .entry .whole) = cc in
-    let a : t .entry .at .address ≡ s .entry .at .address = cc in
-    let c : t .entry .at .created ≡ s .entry .at .created = cc in
-    let d : t .entry .at .destroyed ≡ s .entry .at .destroyed = cc in
-    let n : t .arrival ≡ s .arrival = cc in
-    let bp = sound-bytes p ht in
-    let bq = sound-bytes q hs in
-    let all : Agree 16 p q = agree-both p q (high-same 8 p q bp bq h₁ 8 (omega arith)) (high-same 8 (drop 8 p) (drop 8 q) (bytes-drop 8 p bp) (bytes-drop 8 q bq) h₂ 8 (omega arith)) in
-    let m : length p ≡ length q = omega (arith, mark-le (t .entry .whole), mark-le (s .entry .whole)) in
-    let w : mark-of (t .entry .whole) ≡ mark-of (s .entry .whole) = omega arith in
-    let same : p ≡ q = ext-getD 0 p q m (λ k h. all k (omega (arith, ht .short))) in
-    tail-path (entry-path same (location-path a c d) (mark-same (t .entry .whole) (s .entry .whole) w)) n
 
 -- ── records in order ──
 

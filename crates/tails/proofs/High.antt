@@ -1,14 +1,13 @@
 -- Bytes as a number, highest first: its size, its bytes, and what the order of two such numbers tells of their bytes.
 -- Assumes nothing.
 use Prim.Native.Nat.{ℕ, zero, suc, _+_, _-_, _*_, _/_, _%_, _^_, _≤_, _<_}
-use native.Mathlib.Nat.{not-suc-le-zero, add-mul, mul-assoc, suc-mul, mul-le-mul-right, mul-add-div-right, mul-add-mod-self-right, div-eq-of-lt, div-one, div-div-eq-div-mul, pow-suc}
+use native.Mathlib.Nat.{not-suc-le-zero, add-mul, mul-assoc, suc-mul, mul-le-mul-right, mul-add-div-right, mul-add-mod-self-right, div-eq-of-lt, pow-suc}
 use native.Mathlib.Omega.{arith}
 use mathlib.Core.Path.{_≡_, refl, sym, ap, _∙_}
 use mathlib.Core.Logic.{_⊎_, inl, inr}
 use mathlib.Core.List.{List, [], _∷_}
 use lib.ListN.{length, getD, drop, List·getD-eq-default}
 use lib.Seq.{getD-drop}
-use Rattle.words.specs.Words.{bytesN, bytes64}
 use Rattle.words.proofs.Laws.{top}
 use Rattle.records.proofs.Bytes.{Bytes}
 use Rattle.definitions.proofs.Order.{mem-getD}
@@ -138,13 +137,6 @@ unfolding top
 top-pow zero = refl
 top-pow (suc n) = omega (arith, top-pow n, pow-suc 256 n)
 
--- byte j of a number, the lowest being byte 0
-bytesN-at : (n v j : ℕ) → j < n → getD (bytesN n v) j 0 ≡ v / top j % 256
-unfolding bytesN top
-bytesN-at zero v j l = absurd (not-suc-le-zero l)
-bytesN-at (suc n) v zero l = ap (λ (x : ℕ). x % 256) (sym (div-one v))
-bytesN-at (suc n) v (suc j) l = bytesN-at n (v / 256) j (omega arith) ∙ ap (λ (x : ℕ). x % 256) (div-div-eq-div-mul v 256 (top j))
-
 high-at : (bs : List ℕ) → Bytes bs → (k : ℕ) → k < 8 → high 8 bs 0 / top (7 - k) % 256 ≡ getD bs k 0
 high-at bs h k l =
     let e : k + suc (7 - k) ≡ 8 = omega arith in
@@ -152,14 +144,6 @@ high-at bs h k l =
 
 high-pow : (bs : List ℕ) → Bytes bs → (k : ℕ) → k < 8 → high 8 bs 0 / 256 ^ (7 - k) % 256 ≡ getD bs k 0
 high-pow bs h k l = ap (λ (t : ℕ). high 8 bs 0 / t % 256) (sym (top-pow (7 - k))) ∙ high-at bs h k l
-
-high-stored : (bs : List ℕ) → Bytes bs → (k : ℕ) → k < 8 → getD (bytes64 (high 8 bs 0)) (7 - k) 0 ≡ getD bs k 0
-unfolding bytes64
-high-stored bs h k l = bytesN-at 8 (high 8 bs 0) (7 - k) (omega arith) ∙ high-at bs h k l
-
-high-small : (bs : List ℕ) → Bytes bs → high 8 bs 0 < 2 ^ 64
-unfolding top
-high-small bs h = high-lt 8 bs h
 
 -- ── the two numbers of a path ──
 
@@ -173,23 +157,15 @@ sound-bytes path s k = go (lt-or-le k (length path))
 pub bytes-drop : (n : ℕ) (path : List ℕ) → Bytes path → Bytes (drop n path)
 bytes-drop n path h k = rw (getD-drop n path k 0) (h (n + k))
 
--- both are below 2 ^ 64, and every byte of the path is read off them, or off their eight bytes, lowest first
+-- every byte of the path is read off them
 pub record HighBytes (path : List ℕ) : Type 0 where
-  pub first-small : high 8 path 0 < 2 ^ 64
-  pub second-small : high 8 (drop 8 path) 0 < 2 ^ 64
   pub first : (k : ℕ) → k < 8 → high 8 path 0 / 256 ^ (7 - k) % 256 ≡ getD path k 0
   pub second : (k : ℕ) → 8 ≤ k → k < 16 → high 8 (drop 8 path) 0 / 256 ^ (15 - k) % 256 ≡ getD path k 0
-  pub first-stored : (k : ℕ) → k < 8 → getD (bytes64 (high 8 path 0)) (7 - k) 0 ≡ getD path k 0
-  pub second-stored : (k : ℕ) → 8 ≤ k → k < 16 → getD (bytes64 (high 8 (drop 8 path) 0)) (15 - k) 0 ≡ getD path k 0
 
 pub high-bytes : (path : List ℕ) → SoundPath path → HighBytes path
 high-bytes path s = record {
-  first-small = high-small path h;
-  second-small = high-small (drop 8 path) h′;
   first = high-pow path h;
   second = λ k l m. on k l (λ j. high 8 (drop 8 path) 0 / 256 ^ j % 256) (high-pow (drop 8 path) h′ (k - 8) (omega arith));
-  first-stored = high-stored path h;
-  second-stored = λ k l m. on k l (λ j. getD (bytes64 (high 8 (drop 8 path) 0)) j 0) (high-stored (drop 8 path) h′ (k - 8) (omega arith));
 }
   where
     h : Bytes path

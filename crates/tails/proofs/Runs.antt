@@ -3,13 +3,13 @@
 use Prim.Native.Nat.{ℕ, suc, _≤_}
 use native.Mathlib.Nat.{not-suc-le-zero}
 use native.Mathlib.Omega.{arith}
-use mathlib.Core.Path.{_≡_, refl, sym, ap, _∙_, subst}
+use mathlib.Core.Path.{_≡_, refl, sym, ap, _∙_}
 use mathlib.Core.Bool.{Bool, true, false, not, _&&_}
 use mathlib.Core.List.{List, [], _∷_, List·Memᴰ as Mem, List·Memᴰ·head as here, List·Memᴰ·tail as later}
 use lib.ListN.{length}
 use lib.Dec.{eqb}
 use borrow.Author.Tests.{eqb-true, eqb-false, eq-eqb, not-true}
-use Rattle.records.specs.Records.{Le, Ordered}
+use Rattle.records.specs.Records.{Ordered}
 use Rattle.records.proofs.Order.{clash}
 use Rattle.tails.specs.Tails.{Tail, mark-of, tail-record, tail-records}
 use Rattle.tails.specs.Groups.{ends-as, run, after-run, byte-at, below}
@@ -20,13 +20,6 @@ use Rattle.tails.proofs.Keep.{keep, Kept, keep-mem, pairs-keep, pairs-m
 
 -- ── order ──
 
-record-mem : {r : List ℕ} (ts : List Tail) → Mem r (tail-records ts) → (t : Tail) × Mem t ts × (r ≡ tail-record t)
-record-mem (t ∷ ts) (here e) = (t, here refl, e)
-record-mem {r} (t ∷ ts) (later m) = on (record-mem ts m)
-  where
-    on : (s : Tail) × Mem s ts × (r ≡ tail-record s) → (s : Tail) × Mem s (t ∷ ts) × (r ≡ tail-record s)
-    on k = (k .0, later (k .1), k .2)
-
 mem-record : {t : Tail} (ts : List Tail) → Mem t ts → Mem (tail-record t) (tail-records ts)
 mem-record (s ∷ ts) (here e) = here (ap tail-record e)
 mem-record (s ∷ ts) (later m) = later (mem-record ts m)
@@ -34,13 +27,6 @@ mem-record (s ∷ ts) (later m) = later (mem-record ts m)
 pub ordered-pairs : (ts : List Tail) → Ordered (tail-records ts) → Pairs Upto ts
 ordered-pairs [] o = tt
 ordered-pairs (t ∷ ts) o = ((λ s m. o .0 (tail-record s) (mem-record ts m)), ordered-pairs ts (o .1))
-
-pub pairs-ordered : (ts : List Tail) → Pairs Upto ts → Ordered (tail-records ts)
-pairs-ordered [] p = tt
-pairs-ordered (t ∷ ts) p = ((λ r m. go r (record-mem ts m)), pairs-ordered ts (p .1))
-  where
-    go : (r : List ℕ) → (s : Tail) × Mem s ts × (r ≡ tail-record s) → Le (tail-record t) r
-    go r k = subst (Le (tail-record t)) (sym (k .2)) (p .0 (k .0) (k .1))
 
 -- ── sorted tails that share their first d bytes ──
 

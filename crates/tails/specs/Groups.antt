@@ -1,10 +1,10 @@
 -- The node of sorted tails that share their first d bytes: those that end there, then a group for each next byte.
 -- Assumes nothing.
-use Prim.Native.Nat.{ℕ, zero, suc, _+_, min}
+use Prim.Native.Nat.{ℕ, zero, suc, min}
 use mathlib.Core.Bool.{Bool, true, false, not, _&&_, cond}
-use mathlib.Core.List.{List, [], _∷_, _++_}
+use mathlib.Core.List.{List, [], _∷_}
 use lib.ListN.{length, getD}
-use lib.Dec.{leb, ltb, eqb}
+use lib.Dec.{leb, eqb}
 use Rattle.definitions.specs.Location.{Location, normal}
 use Rattle.trie.specs.Trie.{Lists, Forest, leaf, more, Node}
 use Rattle.tails.specs.Tails.{Tail}

@@ -1,11 +1,9 @@
 -- Finish sorts what was entered: tails, seven numbers each. Assumes nothing.
 use Prim.Native.Nat.{ℕ, zero, suc, _+_, _*_}
 use mathlib.Core.Bool.{Bool, true, false}
-use mathlib.Core.List.{List, [], _∷_, _++_}
-use lib.ListN.{length, getD, drop}
-use Rattle.definitions.specs.Location.{Location}
+use mathlib.Core.List.{List, [], _∷_}
+use lib.ListN.{length, drop}
 use Rattle.trie.specs.Build.{Entry}
-use Rattle.records.specs.Records.{sorted}
 
 -- an entry and its number in the order of arrival
 pub record Tail : Type 0 where

@@ -5,21 +5,6 @@ use borrow.Author.Needs.{needs}
 use Rattle.list_writer.proofs.close_many.Statement.{statement}
 use Rattle.list_writer.proofs.close_many.Tie as tie
 
-add-from : tie.Need-add-from
-add-from c = search needs
-
-sort-requires : tie.Need-sort-requires
-sort-requires c κs = search needs
-
-drop-repeats-requires : tie.Need-drop-repeats-requires
-drop-repeats-requires c κs = search needs
-
-put64-requires : tie.Need-put64-requires
-put64-requires c κs = search needs
-
-same-length : tie.Need-same-length
-same-length c = search needs
-
 returns : tie.Need-returns
 returns c =
     let put = c .before .before in
@@ -32,4 +17,10 @@ returns c =
 pub close-many-spec : {M : Type 1} → statement M
 close-many-spec =
     tie.close
-    (tie.spec add-from sort-requires drop-repeats-requires put64-requires same-length returns)
+    (tie.spec
+    (λ c. search needs)
+    (λ c κs. search needs)
+    (λ c κs. search needs)
+    (λ c κs. search needs)
+    (λ c. search needs)
+    returns)

@@ -11,9 +11,6 @@ Inv-loop mem₀ work lo hi at n₀ i₀ mem n i = OnCopy all mem₀ mem work lo 
 abbrev μ-loop : tie.MeasureT-loop
 μ-loop mem₀ work lo hi at n₀ i₀ mem n i = hi - i
 
-loop-holds : tie.Need-loop-holds Inv-loop μ-loop
-loop-holds c = copy-start _ _ _ _ _ (c .before .pre .0) (c .before .pre .1) (λ j. omega (arith, c .slice-known .given j))
-
 add-put-tail-location : tie.Need-add-put-tail-location Inv-loop μ-loop
 add-put-tail-location c =
     let turn = c .before in
@@ -49,38 +46,20 @@ add-n c =
     let q = copy-asks _ _ _ _ _ (p .0) (p .1) (p .2) (turn .before .loop .inv) (turn .loop-test .taken) in
     omega (arith, q .to)
 
-add-i : tie.Need-add-i Inv-loop μ-loop
-add-i c = omega arith
-
-loop-less : tie.Need-loop-less Inv-loop μ-loop
-loop-less c = omega arith
-
-loop-again : tie.Need-loop-again Inv-loop μ-loop
-loop-again c =
-    let turn = c .before .before .before .before in
-    let p = turn .before .before .before .pre in
-    copy-turn _ _ _ _ _ (p .0) (p .1) (p .2) (turn .before .loop .inv) (turn .loop-test .taken) _ (λ j. omega (arith, c .slice-known2 .given j)) (c .before .before .put-tail-location .ensures)
-
-same-length : tie.Need-same-length Inv-loop μ-loop
-same-length c = c .before .loop .inv .copied .long
-
-returns : tie.Need-returns Inv-loop μ-loop
-returns c = copy-done _ _ _ _ _ (c .before .before .before .pre .0) (c .before .before .before .pre .1) (c .before .loop .inv) (c .loop-test .left)
-
 pub put-run-spec : {M : Type 1} → statement M
 put-run-spec =
     tie.close
     (tie.spec
     Inv-loop
     μ-loop
-    loop-holds
+    (λ c. copy-start _ _ _ _ _ (c .before .pre .0) (c .before .pre .1) (λ j. omega (arith, c .slice-known .given j)))
     add-put-tail-location
     mul-put-tail-location
     add-put-tail-location-2
     put-tail-location-requires
     add-n
-    add-i
-    loop-less
-    loop-again
-    same-length
-    returns)
+    (λ c. omega arith)
+    (λ c. omega arith)
+    (λ c. copy-turn _ _ _ _ _ (c .before .before .before .before .before .before .before .pre .0) (c .before .before .before .before .before .before .before .pre .1) (c .before .before .before .before .before .before .before .pre .2) (c .before .before .before .before .before .loop .inv) (c .before .before .before .before .loop-test .taken) _ (λ j. omega (arith, c .slice-known2 .given j)) (c .before .before .put-tail-location .ensures))
+    (λ c. c .before .loop .inv .copied .long)
+    (λ c. copy-done _ _ _ _ _ (c .before .before .before .pre .0) (c .before .before .before .pre .1) (c .before .loop .inv) (c .loop-test .left)))

@@ -6,9 +6,6 @@ use borrow.Author.Needs.{needs}
 use Rattle.list_writer.proofs.put_run_list.Statement.{statement}
 use Rattle.list_writer.proofs.put_run_list.Tie as tie
 
-put-run-requires : tie.Need-put-run-requires
-put-run-requires c κs = search needs
-
 close-list-requires : tie.Need-close-list-requires
 close-list-requires c κs =
     let copy = c .before .before .before in
@@ -25,16 +22,12 @@ behind-list-requires c κs =
     let h = copied-within (tails-in (a .mem .now) (a .work) (a .lo) (a .hi)) (copy .put-run .ensures) (start .pre .2) in
     (omega (arith, h, c .before .before .close-list .ensures .few, start .pre .1), start .pre .3)
 
-same-length : tie.Need-same-length
-same-length c = search needs
-
-returns : tie.Need-returns
-returns c =
-    let close = c .before .before .before in
-    let copy = close .before .before .before .before in
-    written _ _ (copy .put-run .ensures) (close .close-list .ensures) (c .behind-list .ensures)
-
 pub put-run-list-spec : {M : Type 1} → statement M
 put-run-list-spec =
     tie.close
-    (tie.spec put-run-requires close-list-requires behind-list-requires same-length returns)
+    (tie.spec
+    (λ c κs. search needs)
+    close-list-requires
+    behind-list-requires
+    (λ c. search needs)
+    (λ c. written _ _ (c .before .before .before .before .before .before .before .put-run .ensures) (c .before .before .before .close-list .ensures) (c .behind-list .ensures)))

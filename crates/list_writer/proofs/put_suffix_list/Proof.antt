@@ -7,9 +7,6 @@ use borrow.Author.Needs.{needs}
 use Rattle.list_writer.proofs.put_suffix_list.Statement.{statement}
 use Rattle.list_writer.proofs.put_suffix_list.Tie as tie
 
-put-wholes-requires : tie.Need-put-wholes-requires
-put-wholes-requires c κs = search needs
-
 close-list-requires : tie.Need-close-list-requires
 close-list-requires c κs =
     let copy = c .before .before .before in
@@ -26,16 +23,12 @@ behind-list-requires c κs =
     let h = copied-within (wholes (tails-in (a .mem .now) (a .work) (a .lo) (a .hi))) (copy .put-wholes .ensures) (start .pre .2) in
     (omega (arith, h, c .before .before .close-list .ensures .few, start .pre .1), start .pre .3)
 
-same-length : tie.Need-same-length
-same-length c = search needs
-
-returns : tie.Need-returns
-returns c =
-    let close = c .before .before .before in
-    let copy = close .before .before .before .before in
-    written _ _ (copy .put-wholes .ensures) (close .close-list .ensures) (c .behind-list .ensures)
-
 pub put-suffix-list-spec : {M : Type 1} → statement M
 put-suffix-list-spec =
     tie.close
-    (tie.spec put-wholes-requires close-list-requires behind-list-requires same-length returns)
+    (tie.spec
+    (λ c κs. search needs)
+    close-list-requires
+    behind-list-requires
+    (λ c. search needs)
+    (λ c. written _ _ (c .before .before .before .before .before .before .before .put-wholes .ensures) (c .before .before .before .close-list .ensures) (c .behind-list .ensures)))

@@ -7,40 +7,14 @@ use borrow.Author.Needs.{needs}
 use Rattle.list_writer.proofs.put_tail_location.Statement.{statement}
 use Rattle.list_writer.proofs.put_tail_location.Tie as tie
 
-mul-location-at : tie.Need-mul-location-at
-mul-location-at c = search needs
-
-add-location-at : tie.Need-add-location-at
-add-location-at c = search needs
-
-add-location-at-2 : tie.Need-add-location-at-2
-add-location-at-2 c = search needs
-
-location-at-requires : tie.Need-location-at-requires
-location-at-requires c κs = search needs
-
-put-location-requires : tie.Need-put-location-requires
-put-location-requires c κs = search needs
-
-same-length : tie.Need-same-length
-same-length c = search needs
-
-returns : tie.Need-returns
-returns c =
-    let put = c .before .before in
-    let read = put .before .before in
-    let start = read .before .before .before in
-    let mem = start .args .mem .now in
-    put .put-location .ensures ∙ ap (λ (l : Location). sets mem (start .args .to) (location-bytes l)) (read .location-at .ensures ∙ tail-location mem (start .args .work) (start .args .i))
-
 pub put-tail-location-spec : {M : Type 1} → statement M
 put-tail-location-spec =
     tie.close
     (tie.spec
-    mul-location-at
-    add-location-at
-    add-location-at-2
-    location-at-requires
-    put-location-requires
-    same-length
-    returns)
+    (λ c. search needs)
+    (λ c. search needs)
+    (λ c. search needs)
+    (λ c κs. search needs)
+    (λ c κs. search needs)
+    (λ c. search needs)
+    (λ c. c .before .before .put-location .ensures ∙ ap (λ (l : Location). sets (c .before .before .before .before .before .before .before .args .mem .now) (c .before .before .before .before .before .before .before .args .to) (location-bytes l)) (c .before .before .before .before .location-at .ensures ∙ tail-location (c .before .before .before .before .before .before .before .args .mem .now) (c .before .before .before .before .before .before .before .args .work) (c .before .before .before .before .before .before .before .args .i))))

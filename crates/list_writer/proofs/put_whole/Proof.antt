@@ -6,27 +6,6 @@ use borrow.Author.Needs.{needs}
 use Rattle.list_writer.proofs.put_whole.Statement.{statement}
 use Rattle.list_writer.proofs.put_whole.Tie as tie
 
-mul-get64 : tie.Need-mul-get64
-mul-get64 c = search needs
-
-add-get64 : tie.Need-add-get64
-add-get64 c = search needs
-
-add-get64-2 : tie.Need-add-get64-2
-add-get64-2 c = search needs
-
-get64-requires : tie.Need-get64-requires
-get64-requires c κs = search needs
-
-add-put-tail-location : tie.Need-add-put-tail-location
-add-put-tail-location c = search needs
-
-mul-put-tail-location : tie.Need-mul-put-tail-location
-mul-put-tail-location c = search needs
-
-add-put-tail-location-2 : tie.Need-add-put-tail-location-2
-add-put-tail-location-2 c = search needs
-
 put-tail-location-requires : tie.Need-put-tail-location-requires
 put-tail-location-requires c κs =
     let start = c .before .before .before .before .before in
@@ -34,20 +13,11 @@ put-tail-location-requires c κs =
     let r = rw e at (start .pre .0) in
     omega arith
 
-add-result : tie.Need-add-result
-add-result c = search needs
-
-same-length : tie.Need-same-length
-same-length c = search needs
-
 returns : tie.Need-returns
 returns c =
     let read = c .before .before .before .before .before in
     let e = is-whole _ _ _ (read .get64 .ensures) (c .before .before .before .before .if1 .taken) in
     (rw e refl, rw e (c .before .before .put-tail-location .ensures))
-
-same-length-2 : tie.Need-same-length-2
-same-length-2 c = search needs
 
 returns-2 : tie.Need-returns-2
 returns-2 c =
@@ -58,16 +28,16 @@ pub put-whole-spec : {M : Type 1} → statement M
 put-whole-spec =
     tie.close
     (tie.spec
-    mul-get64
-    add-get64
-    add-get64-2
-    get64-requires
-    add-put-tail-location
-    mul-put-tail-location
-    add-put-tail-location-2
+    (λ c. search needs)
+    (λ c. search needs)
+    (λ c. search needs)
+    (λ c κs. search needs)
+    (λ c. search needs)
+    (λ c. search needs)
+    (λ c. search needs)
     put-tail-location-requires
-    add-result
-    same-length
+    (λ c. search needs)
+    (λ c. search needs)
     returns
-    same-length-2
+    (λ c. search needs)
     returns-2)

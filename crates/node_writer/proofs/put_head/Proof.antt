@@ -1,13 +1,8 @@
--- `node_writer::put_head` meets its contract: the runs end where the tails say, and the lists are those of the node. Assumes nothing.
-use mathlib.Core.Path.{_∙_}
-use lib.ListN.{length-set}
-use Rattle.node_writer.proofs.Heading.{parts-held, parts-upto, mid-held, mid-upto, mid-longer, mid-few, lists-asked, head-written}
+-- `node_writer::put_head` meets its contract: the runs end where the tails say. Assumes nothing.
+use Rattle.node_writer.proofs.Heading.{parts-held, parts-upto, mid-held, mid-upto, mid-longer, mid-few, head-written}
 use borrow.Author.Needs.{needs}
 use Rattle.node_writer.proofs.put_head.Statement.{statement}
 use Rattle.node_writer.proofs.put_head.Tie as tie
-
-run-end-requires : tie.Need-run-end-requires
-run-end-requires c κs = search needs
 
 run-end-requires-2 : tie.Need-run-end-requires-2
 run-end-requires-2 c κs =
@@ -17,57 +12,19 @@ run-end-requires-2 c κs =
 
 find-groups-requires : tie.Need-find-groups-requires
 find-groups-requires c κs =
-    let second = c .before .before in
-    let first = second .before .before in
-    let q = first .before .before .before .before .pre .0 in
-    let e = first .run-end .ensures in
-    let f = second .run-end2 .ensures in
-    (mid-upto q e f, q .memory, mid-held q e f, q .depth, first .before .before .before .before .pre .1, mid-longer q e f, mid-few q e f)
-
-kind-of-requires : tie.Need-kind-of-requires
-kind-of-requires c κs = search needs
-
-slice-write-mem : tie.Need-slice-write-mem
-slice-write-mem c = search needs
-
-behind-kind-requires : tie.Need-behind-kind-requires
-behind-kind-requires c κs = search needs
-
-put-lists-requires : tie.Need-put-lists-requires
-put-lists-requires c κs =
-    let kind = c .before .before in
-    let second = kind .before .before .before .before .before .before in
-    let first = second .before .before in
-    let q = first .before .before .before .before .pre .0 in
-    lists-asked q (first .run-end .ensures) (second .run-end2 .ensures) _ _ (kind .kind-of .ensures) (c .behind-kind .ensures)
-
-same-length : tie.Need-same-length
-same-length c = c .before .before .put-lists .kept .0 ∙ simp length-set
-
-same-length-2 : tie.Need-same-length-2
-same-length-2 c = search needs
-
-returns : tie.Need-returns
-returns c =
-    let lists = c .before .before in
-    let kind = lists .before .before .before in
-    let found = kind .before .before .before in
-    let second = found .before .before .before in
-    let first = second .before .before in
-    let q = first .before .before .before .before .pre .0 in
-    head-written q (first .run-end .ensures) (second .run-end2 .ensures) _ _ (kind .kind-of .ensures) (lists .before .behind-kind .ensures) (lists .put-lists .ensures) (found .find-groups .ensures)
+    let q = c .before .before .before .before .before .before .before .before .pre .0 in
+    let e = c .before .before .before .before .run-end .ensures in
+    let f = c .before .before .run-end2 .ensures in
+    (mid-upto q e f, q .memory, mid-held q e f, q .depth, c .before .before .before .before .before .before .before .before .pre .1, mid-longer q e f, mid-few q e f)
 
 pub put-head-spec : {M : Type 1} → statement M
 put-head-spec =
     tie.close
     (tie.spec
-    run-end-requires
+    (λ c κs. search needs)
     run-end-requires-2
     find-groups-requires
-    kind-of-requires
-    slice-write-mem
-    behind-kind-requires
-    put-lists-requires
-    same-length
-    same-length-2
-    returns)
+    (λ c κs. record { asked = c .before .before .before .before .before .before .before .before .before .before .before .before .pre .0; first = c .before .before .before .before .before .before .before .before .run-end .ensures; second = c .before .before .before .before .before .before .run-end2 .ensures; few = c .before .before .before .find-groups .ensures .grouped .few })
+    (λ c. search needs)
+    (λ c. search needs)
+    (λ c. head-written (c .before .before .before .before .before .before .before .before .before .before .before .before .before .before .before .pre .0) (c .before .before .before .before .before .before .before .before .before .before .before .run-end .ensures) (c .before .before .before .before .before .before .before .before .before .run-end2 .ensures) (c .before .before .put-front .ensures) (c .before .before .before .before .before .before .find-groups .ensures)))

@@ -4,41 +4,22 @@ use borrow.Author.Needs.{needs}
 use Rattle.node_writer.proofs.put_lists.Statement.{statement}
 use Rattle.node_writer.proofs.put_lists.Tie as tie
 
-put-run-list-requires : tie.Need-put-run-list-requires
-put-run-list-requires c κs = search needs
-
 put-run-list-requires-2 : tie.Need-put-run-list-requires-2
 put-run-list-requires-2 c κs =
-    let w = c .before .before .before in
-    let q = w .before .before .before .pre in
-    let a = second-asked q (w .put-run-list .ensures) in
-    (q .second, a .memory, a .room, a .counted)
+    let a = second-asked (c .before .before .before .before .before .before .pre) (c .before .before .before .put-run-list .ensures) in
+    (c .before .before .before .before .before .before .pre .second, a .memory, a .room, a .counted)
 
 put-suffix-list-requires : tie.Need-put-suffix-list-requires
 put-suffix-list-requires c κs =
-    let w₂ = c .before .before .before in
-    let w = w₂ .before .before .before .before in
-    let q = w .before .before .before .pre in
-    let a = third-asked q (w .put-run-list .ensures) (w₂ .put-run-list2 .ensures) in
-    (q .third, a .memory, a .room, a .counted)
-
-same-length : tie.Need-same-length
-same-length c = search needs
-
-returns : tie.Need-returns
-returns c =
-    let w₃ = c .before .before in
-    let w₂ = w₃ .before .before .before .before in
-    let w = w₂ .before .before .before .before in
-    let q = w .before .before .before .pre in
-    lists-written q (w .put-run-list .ensures) (w₂ .put-run-list2 .ensures) (w₃ .put-suffix-list .ensures)
+    let a = third-asked (c .before .before .before .before .before .before .before .before .before .before .pre) (c .before .before .before .before .before .before .before .put-run-list .ensures) (c .before .before .before .put-run-list2 .ensures) in
+    (c .before .before .before .before .before .before .before .before .before .before .pre .third, a .memory, a .room, a .counted)
 
 pub put-lists-spec : {M : Type 1} → statement M
 put-lists-spec =
     tie.close
     (tie.spec
-    put-run-list-requires
+    (λ c κs. search needs)
     put-run-list-requires-2
     put-suffix-list-requires
-    same-length
-    returns)
+    (λ c. search needs)
+    (λ c. lists-written (c .before .before .before .before .before .before .before .before .before .before .before .before .before .pre) (c .before .before .before .before .before .before .before .before .before .before .put-run-list .ensures) (c .before .before .before .before .before .before .put-run-list2 .ensures) (c .before .before .put-suffix-list .ensures)))

@@ -8,22 +8,15 @@ use borrow.Author.Needs.{needs}
 use Rattle.node_writer.proofs.put_slot.Statement.{statement}
 use Rattle.node_writer.proofs.put_slot.Tie as tie
 
-sub-put64 : tie.Need-sub-put64
-sub-put64 c = search needs
-
-put64-requires : tie.Need-put64-requires
-put64-requires c κs = search needs
-
-slice-write-mem : tie.Need-slice-write-mem
-slice-write-mem c = search needs
-
-same-length : tie.Need-same-length
-same-length c = search needs
-
 returns : tie.Need-returns
-returns c =
-    let a = c .before .before .before .before .before .args in
-    ap (λ (x : List ℕ). set x (a .at) (a .flag)) (c .before .before .put64 .ensures ∙ setLe64-sets (a .mem .now) (a .to) (a .at - 64))
+returns c = ap (λ (x : List ℕ). set x (c .before .before .before .before .before .args .at) (c .before .before .before .before .before .args .flag)) (c .before .before .put64 .ensures ∙ setLe64-sets (c .before .before .before .before .before .args .mem .now) (c .before .before .before .before .before .args .to) (c .before .before .before .before .before .args .at - 64))
 
 pub put-slot-spec : {M : Type 1} → statement M
-put-slot-spec = tie.close (tie.spec sub-put64 put64-requires slice-write-mem same-length returns)
+put-slot-spec =
+    tie.close
+    (tie.spec
+    (λ c. search needs)
+    (λ c κs. search needs)
+    (λ c. search needs)
+    (λ c. search needs)
+    returns)

@@ -6,22 +6,12 @@ use borrow.Author.Needs.{needs}
 use Rattle.tail_records.proofs.arrival_of.Statement.{statement}
 use Rattle.tail_records.proofs.arrival_of.Tie as tie
 
-mul-get64 : tie.Need-mul-get64
-mul-get64 c = search needs
-
-add-get64 : tie.Need-add-get64
-add-get64 c = search needs
-
-add-get64-2 : tie.Need-add-get64-2
-add-get64-2 c = search needs
-
-get64-requires : tie.Need-get64-requires
-get64-requires c κs = search needs
-
-returns : tie.Need-returns
-returns c =
-    let a = c .before .before .args in
-    c .get64 .ensures ∙ arrival-in (now (a .mem)) (a .work) (a .i)
-
 pub arrival-of-spec : {M : Type 1} → statement M
-arrival-of-spec = tie.close (tie.spec mul-get64 add-get64 add-get64-2 get64-requires returns)
+arrival-of-spec =
+    tie.close
+    (tie.spec
+    (λ c. search needs)
+    (λ c. search needs)
+    (λ c. search needs)
+    (λ c κs. search needs)
+    (λ c. c .get64 .ensures ∙ arrival-in (now (c .before .before .args .mem)) (c .before .before .args .work) (c .before .before .args .i)))

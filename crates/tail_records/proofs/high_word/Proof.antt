@@ -21,9 +21,6 @@ loop-holds : tie.Need-loop-holds Inv-loop μ-loop
 unfolding high
 loop-holds c = (omega arith, refl)
 
-padded-requires : tie.Need-padded-requires Inv-loop μ-loop
-padded-requires c κs = search needs
-
 with-byte-requires : tie.Need-with-byte-requires Inv-loop μ-loop
 with-byte-requires c κs =
     let t = c .before in
@@ -32,12 +29,6 @@ with-byte-requires c κs =
     let b = part-bytes (a .n) (now (a .mem)) (a .at) (λ k. omega (arith, t .before .before .shared-slice-known .given k)) in
     let r = high-room (l .k) (take (a .n) (drop (a .at) (now (a .mem)))) (l .x) b (t .loop-test .taken) (l .inv .1) in
     (omega (arith, r), omega (arith, c .padded .ensures, b (l .k)))
-
-add-k : tie.Need-add-k Inv-loop μ-loop
-add-k c = omega arith
-
-loop-less : tie.Need-loop-less Inv-loop μ-loop
-loop-less c = omega arith
 
 loop-again : tie.Need-loop-again Inv-loop μ-loop
 loop-again c =
@@ -60,9 +51,9 @@ high-word-spec =
     Inv-loop
     μ-loop
     loop-holds
-    padded-requires
+    (λ c κs. search needs)
     with-byte-requires
-    add-k
-    loop-less
+    (λ c. omega arith)
+    (λ c. omega arith)
     loop-again
     returns)

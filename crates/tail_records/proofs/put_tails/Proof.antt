@@ -13,9 +13,6 @@ Inv-loop mem₀ piece work count m t₀ i₀ mem t i = Putting mem₀ piece work
 abbrev μ-loop : tie.MeasureT-loop
 μ-loop mem₀ piece work count m t₀ i₀ mem t i = m - i
 
-get64-requires : tie.Need-get64-requires Inv-loop μ-loop
-get64-requires c κs = omega arith
-
 loop-holds : tie.Need-loop-holds Inv-loop μ-loop
 loop-holds c =
     let p = c .before .before .before .pre in
@@ -28,21 +25,6 @@ put-tail-requires c κs =
     let p = c .before .before .before .before .before .before .pre in
     let q = putting-asks _ _ _ _ (p .0) (p .1) (p .2) _ g w (c .before .loop-test .taken) in
     (q .sound, q .inside, q .before, q .room)
-
-mul-put-tail : tie.Need-mul-put-tail Inv-loop μ-loop
-mul-put-tail c = omega (arith, put-tail-requires c (c .before .before .before .before .before .before .κs) .3)
-
-add-put-tail : tie.Need-add-put-tail Inv-loop μ-loop
-add-put-tail c = omega (arith, put-tail-requires c (c .before .before .before .before .before .before .κs) .3)
-
-add-t : tie.Need-add-t Inv-loop μ-loop
-add-t c = omega (arith, put-tail-requires (c .before .before .before) (c .before .before .before .before .before .before .before .before .before .κs) .3)
-
-add-i : tie.Need-add-i Inv-loop μ-loop
-add-i c = omega arith
-
-loop-less : tie.Need-loop-less Inv-loop μ-loop
-loop-less c = omega arith
 
 loop-again : tie.Need-loop-again Inv-loop μ-loop
 loop-again c =
@@ -60,18 +42,6 @@ put-tail-requires-2 c κs =
     let q = putting-asks-last _ _ _ _ (p .0) (p .1) (p .2) _ g w (c .before .loop-test .left) in
     (q .sound, q .inside, q .before, q .room)
 
-mul-put-tail-2 : tie.Need-mul-put-tail-2 Inv-loop μ-loop
-mul-put-tail-2 c = omega (arith, put-tail-requires-2 c (c .before .before .before .before .before .before .κs) .3)
-
-add-put-tail-2 : tie.Need-add-put-tail-2 Inv-loop μ-loop
-add-put-tail-2 c = omega (arith, put-tail-requires-2 c (c .before .before .before .before .before .before .κs) .3)
-
-add-result : tie.Need-add-result Inv-loop μ-loop
-add-result c = omega (arith, put-tail-requires-2 (c .before .before .before) (c .before .before .before .before .before .before .before .before .before .κs) .3)
-
-same-length : tie.Need-same-length Inv-loop μ-loop
-same-length c = c .before .before .put-tail2 .kept .0 ∙ c .before .before .before .before .before .loop .inv .front .long
-
 returns : tie.Need-returns Inv-loop μ-loop
 returns c =
     let turn = c .before .before .before .before in
@@ -86,18 +56,18 @@ put-tails-spec =
     (tie.spec
     Inv-loop
     μ-loop
-    get64-requires
+    (λ c κs. omega arith)
     loop-holds
-    mul-put-tail
-    add-put-tail
+    (λ c. omega (arith, put-tail-requires c (c .before .before .before .before .before .before .κs) .3))
+    (λ c. omega (arith, put-tail-requires c (c .before .before .before .before .before .before .κs) .3))
     put-tail-requires
-    add-t
-    add-i
-    loop-less
+    (λ c. omega (arith, put-tail-requires (c .before .before .before) (c .before .before .before .before .before .before .before .before .before .κs) .3))
+    (λ c. omega arith)
+    (λ c. omega arith)
     loop-again
-    mul-put-tail-2
-    add-put-tail-2
+    (λ c. omega (arith, put-tail-requires-2 c (c .before .before .before .before .before .before .κs) .3))
+    (λ c. omega (arith, put-tail-requires-2 c (c .before .before .before .before .before .before .κs) .3))
     put-tail-requires-2
-    add-result
-    same-length
+    (λ c. omega (arith, put-tail-requires-2 (c .before .before .before) (c .before .before .before .before .before .before .before .before .before .κs) .3))
+    (λ c. c .before .before .put-tail2 .kept .0 ∙ c .before .before .before .before .before .loop .inv .front .long)
     returns)
