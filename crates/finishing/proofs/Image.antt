@@ -26,12 +26,12 @@ use Rattle.tails.proofs.Keep.{SameTails}
 use Rattle.tails.proofs.Runs.{run-all}
 use Rattle.tails.proofs.Budget.{sorted-weights, weights-charged}
 use Rattle.tails.proofs.Finished.{SoundPieces, sound-entered, finished-node, sorted-tails}
-use Rattle.tail_records.specs.Tail.{tail-of-record, tails-of, tails-in, Held}
-use Rattle.tail_records.proofs.Tail.{tail-read}
-use Rattle.tail_records.proofs.Memory.{length-tail-records, held-records}
+use Rattle.tail_words.specs.Tail.{tail-of-record, tails-of, tails-in, Held}
+use Rattle.tail_groups.proofs.Tail.{tail-read}
+use Rattle.tail_groups.proofs.Memory.{length-tail-records, held-records}
 use Rattle.tail_records.proofs.Log.{log-is-sound}
-use Rattle.tail_records.proofs.Results.{length-numbered}
-use Rattle.tail_records.proofs.Distinct.{apart-sorted, numbered-apart}
+use Rattle.tail_groups.proofs.Results.{length-numbered}
+use Rattle.tail_groups.proofs.Distinct.{apart-sorted, numbered-apart}
 use Rattle.node_writer.specs.Images.{tails-trie, ImageAsked}
 use Rattle.finishing.specs.Steps.{tail-count, TailsAsked, TailsSorted}
 

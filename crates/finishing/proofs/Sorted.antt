@@ -14,9 +14,9 @@ use Rattle.records.proofs.Lists.{sorted-mem, length-sorted}
 use Rattle.trie.specs.Build.{entered-all}
 use Rattle.index_memory.specs.Log.{log-in}
 use Rattle.tails.specs.Tails.{Tail, numbered, tail-records}
-use Rattle.tail_records.specs.Tail.{tails-in, Held}
-use Rattle.tail_records.proofs.Memory.{length-tail-records}
-use Rattle.tail_records.proofs.Results.{length-numbered, expanded-tails, expanded-held, sorted-tails, sorted-held}
+use Rattle.tail_words.specs.Tail.{tails-in, Held}
+use Rattle.tail_groups.proofs.Memory.{length-tail-records}
+use Rattle.tail_groups.proofs.Results.{length-numbered, expanded-tails, expanded-held, sorted-tails, sorted-held}
 use Rattle.finishing.specs.Steps.{tail-count, TailsAsked, TailsSorted}
 
 -- a record of a tail has seven numbers

@@ -8,7 +8,7 @@ use Rattle.records.specs.Records.{sorted}
 use Rattle.trie.specs.Build.{entered-all}
 use Rattle.index_memory.specs.Log.{log-in}
 use Rattle.tails.specs.Tails.{numbered, tail-records}
-use Rattle.tail_records.specs.Tail.{tails-in, Held}
+use Rattle.tail_words.specs.Tail.{tails-in, Held}
 use Rattle.tail_records.specs.Log.{SoundLog}
 
 -- how many tails a log has

@@ -23,8 +23,8 @@ use Rattle.image_format.specs.Image.{list-bytes}
 use Rattle.image_format.proofs.BytesRead.{locs-read}
 use Rattle.tails.specs.Tails.{Tail}
 use Rattle.tails.specs.Groups.{locations-of}
-use Rattle.tail_records.specs.Tail.{tails-in}
-use Rattle.tail_records.proofs.Memory.{tails-none}
+use Rattle.tail_words.specs.Tail.{tails-in}
+use Rattle.tail_groups.proofs.Memory.{tails-none}
 use Rattle.list_writer.specs.Written.{Copied, Closed, ListWritten}
 use Rattle.list_writer.specs.declared.End.{End}
 use Rattle.list_writer.proofs.Copying.{length-locations-of}

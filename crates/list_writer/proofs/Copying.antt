@@ -19,8 +19,8 @@ use Rattle.location.specs.Fits.{Fits}
 use Rattle.location.proofs.Bytes.{length-location, location-fits}
 use Rattle.tails.specs.Tails.{Tail}
 use Rattle.tails.specs.Groups.{locations-of, wholes}
-use Rattle.tail_records.specs.Tail.{tail-of-record, tail-in, tails-in}
-use Rattle.tail_records.proofs.Memory.{tails-none, tails-step, tails-split, tails-length, record-ext}
+use Rattle.tail_words.specs.Tail.{tail-of-record, tail-in, tails-in}
+use Rattle.tail_groups.proofs.Memory.{tails-none, tails-step, tails-split, tails-length, record-ext}
 use Rattle.place_buffer.proofs.Scratch.{locations-written}
 use Rattle.list_writer.specs.Written.{Copied}
 

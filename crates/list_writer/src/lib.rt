@@ -7,7 +7,7 @@ ghost use lib.ListN.{length};
 ghost use lib.Seq.{sets};
 ghost use Rattle.definitions.specs.Location.{location-bytes, locations-in};
 ghost use Rattle.tails.specs.Groups.{locations-of, wholes};
-ghost use Rattle.tail_records.specs.Tail.{tail-in, tails-in};
+ghost use Rattle.tail_words.specs.Tail.{tail-in, tails-in};
 ghost use Rattle.list_writer.specs.Written.{Copied, Closed, ListWritten};
 
 // Where an image ends, and the nodes and entries written so far.

@@ -15,9 +15,9 @@ use Rattle.words.proofs.Parts.{getD-sets-out, length-bytes64}
 use Rattle.words.proofs.Holding.{holds-left, holds-right, holds-append, holds-ext, holds-sets}
 use Rattle.image_format.specs.Image.{Child, with-byte, slot-size, slot-bytes, slot-offsets, slots-bytes, slots-size}
 use Rattle.image_format.proofs.KindOne.{offsets-length}
-use Rattle.node_writer.specs.Kids.{no-child, sizes}
-use Rattle.node_writer.proofs.Sized.{Sized, sized-with, slot-length, slots-length}
-use Rattle.node_writer.proofs.Orders.{Climbs, climbs-less, climbs-none, past-with}
+use Rattle.single_writer.specs.Kids.{no-child, sizes}
+use Rattle.single_writer.proofs.Sized.{Sized, sized-with, slot-length, slots-length}
+use Rattle.single_writer.proofs.Orders.{Climbs, climbs-less, climbs-none, past-with}
 
 -- ── one more slot ──
 

@@ -21,17 +21,17 @@ use Rattle.image_format.proofs.KindOne.{offsets-length}
 use Rattle.image_format.proofs.KindThree.{table-length}
 use Rattle.kinds.proofs.KindRule.{kind-one, kind-two, kind-three}
 use Rattle.tails.specs.Weights.{group-weights}
-use Rattle.tail_records.specs.Found.{no-group}
-use Rattle.tail_records.specs.Ranks.{rank-of, with-rank, firsts}
-use Rattle.tail_records.proofs.Arrival.{length-by-arrival, arrival-rank, with-rank-inside, rank-with-rank, with-rank-place}
+use Rattle.tail_groups.specs.Found.{no-group}
+use Rattle.tail_groups.specs.Ranks.{rank-of, with-rank, firsts}
+use Rattle.tail_groups.proofs.Arrival.{length-by-arrival, arrival-rank, with-rank-inside, rank-with-rank, with-rank-place}
 use Rattle.list_writer.specs.declared.End.{End}
-use Rattle.node_writer.specs.declared.Table.{Table}
-use Rattle.node_writer.specs.Kids.{kid, kids, sizes, no-child}
-use Rattle.node_writer.specs.Turns.{Opened, groups-in}
-use Rattle.node_writer.specs.Nodes.{child-node, children-in, TableAsked, TableWritten}
-use Rattle.node_writer.proofs.Sized.{by-byte-length}
-use Rattle.node_writer.proofs.Orders.{Climbs, getD-kids, length-kids, ascending-climbs, ascending-by-arrival, below-climbs, below-by-arrival}
-use Rattle.node_writer.proofs.Places.{rising-climbs, rising-apart, order-three, order-other, order-total, kept-length, kept-total, kept-few, kept-many, place-of, costs}
+use Rattle.slot_writer.specs.declared.Table.{Table}
+use Rattle.single_writer.specs.Kids.{kid, kids, sizes, no-child}
+use Rattle.slot_writer.specs.Turns.{Opened, groups-in}
+use Rattle.single_writer.specs.Nodes.{child-node, children-in, TableAsked, TableWritten}
+use Rattle.single_writer.proofs.Sized.{by-byte-length}
+use Rattle.single_writer.proofs.Orders.{Climbs, getD-kids, length-kids, ascending-climbs, ascending-by-arrival, below-climbs, below-by-arrival}
+use Rattle.single_writer.proofs.Places.{rising-climbs, rising-apart, order-three, order-other, order-total, kept-length, kept-total, kept-few, kept-many, place-of, costs}
 use Rattle.node_writer.proofs.Sparse.{entry-bytes, table-three, table-two}
 use Rattle.node_writer.proofs.Walking.{TableOpen, in-order, kids-in, asked-count, asked-costs, kind-large, opened, OnTurns, first-end, where-is, later-groups}
 use Rattle.node_writer.proofs.Stepping.{size-sum}

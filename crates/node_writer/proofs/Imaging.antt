@@ -12,12 +12,12 @@ use Rattle.words.proofs.Holding.{holds-sets}
 use Rattle.trie.specs.Trie.{Trie, empty, root, nodes, entries, forest-nodes}
 use Rattle.tails.specs.Groups.{group-node}
 use Rattle.image_format.specs.Image.{image, children-of, node-bytes}
-use Rattle.tail_records.specs.Tail.{tails-in}
-use Rattle.tail_records.proofs.Memory.{tails-none, tails-step}
+use Rattle.tail_words.specs.Tail.{tails-in}
+use Rattle.tail_groups.proofs.Memory.{tails-none, tails-step}
 use Rattle.list_writer.specs.declared.End.{End}
-use Rattle.node_writer.specs.Nodes.{node-of, NodeAsked, NodeWritten}
+use Rattle.single_writer.specs.Nodes.{node-of, NodeAsked, NodeWritten}
 use Rattle.node_writer.specs.Images.{tails-trie, ImageAsked, ImageWritten}
-use Rattle.node_writer.proofs.Sized.{node-long, all-sized}
+use Rattle.single_writer.proofs.Sized.{node-long, all-sized}
 
 -- where the image begins
 abbrev pub image-start : End

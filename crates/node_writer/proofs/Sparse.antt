@@ -15,8 +15,8 @@ use Rattle.words.proofs.Parts.{getD-sets-out, length-bytes64}
 use Rattle.words.proofs.Holding.{holds-at, holds-left, holds-right, holds-append, holds-ext, holds-sets}
 use Rattle.definitions.proofs.Views.{lt-or-le}
 use Rattle.image_format.specs.Image.{Child, children-bytes, children-size, size-below, table-by-arrival, table-by-byte}
-use Rattle.node_writer.specs.Kids.{no-child}
-use Rattle.node_writer.proofs.Sized.{Sized, sized-take, children-length}
+use Rattle.single_writer.specs.Kids.{no-child}
+use Rattle.single_writer.proofs.Sized.{Sized, sized-take, children-length}
 
 -- one more child behind others
 pub holds-child : (s : List ℕ) (p o : ℕ) (xs : List Child) (k : Child) → Sized xs → Holds s p (children-bytes o xs) → getD s (p + children-size xs) 0 ≡ 1

@@ -19,22 +19,22 @@ use Rattle.kinds.specs.Kinds.{kind-of}
 use Rattle.image_format.specs.Image.{Child, children-size, nodes-in, entries-in, slots-size}
 use Rattle.tails.specs.Runs.{Run}
 use Rattle.tails.specs.Weights.{weights}
-use Rattle.tail_records.specs.Tail.{tails-in}
-use Rattle.tail_records.specs.Found.{no-group}
-use Rattle.tail_records.specs.Ranks.{Apart, rank-of, firsts}
-use Rattle.tail_records.proofs.Memory.{tails-ext, held-part, held-ext}
-use Rattle.tail_records.proofs.Arrival.{rank-inside}
-use Rattle.tail_records.proofs.Distinct.{apart-part}
+use Rattle.tail_words.specs.Tail.{tails-in}
+use Rattle.tail_groups.specs.Found.{no-group}
+use Rattle.tail_groups.specs.Ranks.{Apart, rank-of, firsts}
+use Rattle.tail_groups.proofs.Memory.{tails-ext, held-part, held-ext}
+use Rattle.tail_groups.proofs.Arrival.{rank-inside}
+use Rattle.tail_groups.proofs.Distinct.{apart-part}
 use Rattle.list_writer.specs.declared.End.{End}
-use Rattle.node_writer.specs.declared.Table.{Table}
-use Rattle.node_writer.specs.declared.Turn.{Turn}
-use Rattle.node_writer.specs.declared.Span.{Span}
-use Rattle.node_writer.specs.Kids.{kid, kids, sizes, no-child}
-use Rattle.node_writer.specs.Turns.{groups-in, group-in, group-bytes, GroupEntry, Turned}
-use Rattle.node_writer.specs.Nodes.{child-node, node-of, Stands, NodeAsked, NodeWritten}
-use Rattle.node_writer.proofs.Sized.{Sized}
-use Rattle.node_writer.proofs.Orders.{Climbs, getD-kids, kid-byte, length-kids}
-use Rattle.node_writer.proofs.Places.{kid-nodes, kid-entries, kid-size, kid-bytes, kids-sized, getD-in, rising-climbs, order-other, place-of, place-inside, place-apart, cost, costs, costs-more}
+use Rattle.slot_writer.specs.declared.Table.{Table}
+use Rattle.slot_writer.specs.declared.Turn.{Turn}
+use Rattle.slot_writer.specs.declared.Span.{Span}
+use Rattle.single_writer.specs.Kids.{kid, kids, sizes, no-child}
+use Rattle.slot_writer.specs.Turns.{groups-in, group-in, group-bytes, GroupEntry, Turned}
+use Rattle.single_writer.specs.Nodes.{child-node, node-of, Stands, NodeAsked, NodeWritten}
+use Rattle.single_writer.proofs.Sized.{Sized}
+use Rattle.single_writer.proofs.Orders.{Climbs, getD-kids, kid-byte, length-kids}
+use Rattle.single_writer.proofs.Places.{kid-nodes, kid-entries, kid-size, kid-bytes, kids-sized, getD-in, rising-climbs, order-other, place-of, place-inside, place-apart, cost, costs, costs-more}
 use Rattle.node_writer.proofs.Sparse.{entry-bytes, Sparse, sparse-start, sparse-child}
 use Rattle.node_writer.proofs.Dense.{Dense, dense-start, dense-none, dense-child, sizes-snoc}
 use Rattle.node_writer.proofs.Walking.{TableOpen, in-order, kids-in, asked-count, OnTurns, first-end, where-is, flag-room, node-room, now-asked, now-groups, now-grouped, levels, next-group}

@@ -10,8 +10,8 @@ use Rattle.tails.specs.Groups.{group-node}
 use Rattle.image_format.specs.Image.{image}
 use Rattle.tails.specs.Runs.{Run}
 use Rattle.tails.specs.Weights.{weights}
-use Rattle.tail_records.specs.Tail.{tails-in, Held}
-use Rattle.tail_records.specs.Ranks.{Apart}
+use Rattle.tail_words.specs.Tail.{tails-in, Held}
+use Rattle.tail_groups.specs.Ranks.{Apart}
 use Rattle.list_writer.specs.declared.End.{End}
 
 -- the trie of sorted tails: no root where there are none

@@ -18,7 +18,7 @@ use Rattle.definitions.proofs.Order.{location-path}
 use Rattle.trie.specs.Build.{Entry, parts, entered}
 use Rattle.index_memory.specs.Log.{piece-in, log-in, piece-sound, log-sound}
 use Rattle.tail_records.specs.Log.{SoundPiece, SoundLog, tail-from}
-use Rattle.tail_records.proofs.Part.{part-ext}
+use Rattle.tail_words.proofs.Part.{part-ext}
 
 -- ── a piece ──
 

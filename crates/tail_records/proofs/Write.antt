@@ -17,7 +17,7 @@ use Rattle.trie.specs.Build.{Entry}
 use Rattle.index_memory.specs.Log.{piece-in}
 use Rattle.tails.specs.Tails.{high, mark-of, numbered, tail-record, tail-records}
 use Rattle.tail_records.specs.Log.{tail-from, numbers}
-use Rattle.tail_records.proofs.Part.{part-drop}
+use Rattle.tail_words.proofs.Part.{part-drop}
 
 -- ── one record ──
 

@@ -1,6 +1,6 @@
 -- `list_writer::put_run_list` meets its contract: the locations of the tails are copied, then made a list. Assumes nothing.
 use native.Mathlib.Omega.{arith}
-use Rattle.tail_records.specs.Tail.{tails-in}
+use Rattle.tail_words.specs.Tail.{tails-in}
 use Rattle.list_writer.proofs.Closing.{written, copied-within}
 use borrow.Author.Needs.{needs}
 use Rattle.list_writer.proofs.put_run_list.Statement.{statement}

@@ -2,7 +2,7 @@
 use Prim.Native.Nat.{_+_}
 use native.Mathlib.Omega.{arith}
 use mathlib.Core.Path.{_≡_, refl}
-use Rattle.tail_records.proofs.Memory.{tails-length}
+use Rattle.tail_groups.proofs.Memory.{tails-length}
 use Rattle.list_writer.proofs.Copying.{all}
 use Rattle.list_writer.proofs.Closing.{written-none, written-single}
 use borrow.Author.Needs.{needs}

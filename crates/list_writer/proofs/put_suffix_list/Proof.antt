@@ -1,7 +1,7 @@
 -- `list_writer::put_suffix_list` meets its contract: those of the whole pieces are copied, then made a list. Assumes nothing.
 use native.Mathlib.Omega.{arith}
 use Rattle.tails.specs.Groups.{wholes}
-use Rattle.tail_records.specs.Tail.{tails-in}
+use Rattle.tail_words.specs.Tail.{tails-in}
 use Rattle.list_writer.proofs.Closing.{written, copied-within}
 use borrow.Author.Needs.{needs}
 use Rattle.list_writer.proofs.put_suffix_list.Statement.{statement}

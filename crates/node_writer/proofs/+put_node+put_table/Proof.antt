@@ -5,8 +5,8 @@ use native.Mathlib.Omega.{arith}
 use mathlib.Core.Path.{refl, _∙_}
 use borrow.Fn.Kinds.{In}
 use borrow.Fn.PlainCycle.{Measures, is, falls, and}
-use Rattle.node_writer.proofs.SingleChain.{single-asked, single-node}
-use Rattle.node_writer.proofs.Noding.{span-head, table-asked, node-written}
+use Rattle.single_writer.proofs.SingleChain.{single-asked, single-node}
+use Rattle.single_writer.proofs.Noding.{span-head, table-asked, node-written}
 use Rattle.node_writer.proofs.Walking.{opened, asked-first, OnTurns, flag-room, now-asked, turn-called, levels}
 use Rattle.node_writer.proofs.Stepping.{turns-start, none-turn, child-asked, child-written, child-turn}
 use Rattle.node_writer.proofs.Finishing.{table-written}
@@ -16,11 +16,11 @@ use Rattle.node_writer.proofs.+put_node+put_table.Lts-put_node as put-n
 use Rattle.node_writer.proofs.put_table.Reads as put-table
 use Rattle.node_writer.proofs.put_table.Kinds as put-table-kinds
 use Rattle.node_writer.proofs.+put_node+put_table.Lts-put_table as put-table-lts
-use Rattle.node_writer.proofs.put_count.Reads as put-count-reads
+use Rattle.slot_writer.proofs.put_count.Reads as put-count-reads
 use Rattle.node_writer.proofs.put_head.Reads as put-head-reads
-use Rattle.node_writer.proofs.put_singles.Reads as put-singles-reads
+use Rattle.single_writer.proofs.put_singles.Reads as put-singles-reads
 use Rattle.node_writer.proofs.put_turn.Reads as put-turn-reads
-use Rattle.node_writer.proofs.child_span.Reads as child-span-reads
+use Rattle.slot_writer.proofs.child_span.Reads as child-span-reads
 use Rattle.node_writer.proofs.+put_node+put_table.{statement}
 use Rattle.node_writer.proofs.+put_node+put_table.Tie.{close}
 

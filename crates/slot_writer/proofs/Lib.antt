@@ -1,0 +1,2 @@
+-- `Turning` has one turn. Assumes nothing.
+pub mod Turning

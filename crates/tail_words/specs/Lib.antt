@@ -1,0 +1,2 @@
+-- `Tail` has a tail as words. Assumes nothing.
+pub mod Tail
