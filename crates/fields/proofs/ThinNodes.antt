@@ -19,9 +19,9 @@ use Rattle.fields.specs.Thin.{Thin, ThinRun}
 pub not-true : {P : Type 0} → false ≡ true → P
 not-true e = let z : _≡_ {A = ℕ} 0 1 = cc in absurd (omega arith)
 
--- with the test of the flag
-pub by-flag : (s : List ℕ) (at : ℕ) → (getD s (at + 42) 0 ≡ 1 → Thin s at) → eqb (getD s (at + 42) 0) 1 ≡ true → Thin s at
-by-flag s at f e = f (eqb-true _ _ e)
+-- with a test that holds
+pub by-test : {P : Type 0} (n m : ℕ) → (n ≡ m → P) → eqb n m ≡ true → P
+by-test n m f e = f (eqb-true n m e)
 
 fits-one : fits 3 1 ≡ true
 unfolding fits
@@ -33,16 +33,16 @@ module _ (s : List ℕ) (at : ℕ) (t : Thin s at) where
 
   thin-head : head 3 (at + 25) 0 ≡ read-head s at
   thin-head =
-      subst (λ (k : ℕ). head k (at + 25) 0 ≡ read-head s at) (t .kind)
+      subst (λ (k : ℕ). head k (at + 25) 0 ≡ read-head s at) (t .head .bare .kind)
       (lists-ready s (getD s at 0) (at + 1) (at + 9) 0 (at + 17) 0 (at + 25) 0
-      (list-past s (at + 1) (at + 9) 0 (sym (t .prefixes)) (omega arith) (omega (arith, t .within)))
-      (list-past s (at + 9) (at + 17) 0 (sym (t .chunks)) (omega arith) (omega (arith, t .within)))
-      (list-past s (at + 17) (at + 25) 0 (sym (t .suffixes)) (omega arith) (omega (arith, t .within))) ∙
-      head-lists s at (omega (arith, t .within)) (omega (arith, t .kind)) (omega (arith, t .kind)))
+      (list-past s (at + 1) (at + 9) 0 (sym (t .head .bare .prefixes)) (omega arith) (omega (arith, t .within)))
+      (list-past s (at + 9) (at + 17) 0 (sym (t .head .bare .chunks)) (omega arith) (omega (arith, t .within)))
+      (list-past s (at + 17) (at + 25) 0 (sym (t .head .suffixes)) (omega arith) (omega (arith, t .within))) ∙
+      head-lists s at (omega (arith, t .within)) (omega (arith, t .head .bare .kind)) (omega (arith, t .head .bare .kind)))
 
   thin-table : table the-table ≡ open-table s 3 (at + 25)
   thin-table =
-      open-ready s 3 (at + 25) (omega arith) 1 0 (sym (t .count)) (omega (arith, t .within)) fits-one
+      open-ready s 3 (at + 25) (omega arith) 1 0 (sym (t .head .count)) (omega (arith, t .within)) fits-one
       (fault-end s (at + 25 + 8) 1 1 (omega arith) ∙ fault-on s (at + 25 + 8) 1 0 (omega arith) (omega arith) (omega (arith, t .within))) refl
 
   thin-child : (rd : ℕ → Step) → rd (at + 43) ≡ read-child s rd the-table 0 (at + 42)

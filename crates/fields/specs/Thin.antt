@@ -6,14 +6,22 @@ use lib.ListN.{length, getD}
 use Rattle.words.specs.Words.{le64}
 use Rattle.image_format.specs.Reading.{done, fault, read-node}
 
--- a thin node stands at an index, and its child 43 bytes further on
-pub record Thin (s : List ℕ) (at : ℕ) : Type 0 where
-  pub within : at + 43 ≤ length s
+-- the node at an index is of kind 3 and has neither prefix nor chunk
+pub record Bare (s : List ℕ) (at : ℕ) : Type 0 where
   pub kind : getD s at 0 ≡ 3
   pub prefixes : le64 s (at + 1) ≡ 0
   pub chunks : le64 s (at + 9) ≡ 0
+
+-- nor suffix, and has one child
+pub record SingleWithoutLists (s : List ℕ) (at : ℕ) : Type 0 where
+  pub bare : Bare s at
   pub suffixes : le64 s (at + 17) ≡ 0
   pub count : le64 s (at + 25) ≡ 1
+
+-- such a node stands at an index, and its child 43 bytes further on
+pub record Thin (s : List ℕ) (at : ℕ) : Type 0 where
+  pub within : at + 43 ≤ length s
+  pub head : SingleWithoutLists s at
   pub offset : le64 s (at + 34) ≡ at + 42
   pub flag : getD s (at + 42) 0 ≡ 1
 

@@ -7,7 +7,7 @@ ghost use mathlib.Core.Bool.{cond, true};
 ghost use Rattle.image_format.specs.Reading.{offset, slot-turn, turn-at, all-met, read-list, read-head, open-table};
 ghost use Rattle.fields.specs.Answers.{step-of, list-of, head-of, table-in, table-of, turn-of};
 ghost use Rattle.image_format.specs.Turns.{Within, Skips};
-ghost use Rattle.fields.specs.Thin.{Thin, ThinRun};
+ghost use Rattle.fields.specs.Thin.{Bare, SingleWithoutLists, Thin, ThinRun};
 
 // The nodes and entries of an image.
 pub struct Counts {
@@ -281,7 +281,41 @@ pub fn all_met(c: Children, met: usize, at: usize, nodes: usize, entries: usize)
     }
 }
 
-// Whether the node at an index is thin, with its child where it is due.
+// Whether the node at an index is bare: of kind 3, with neither prefix nor chunk.
+// Compared with 0 a word would be tested byte by byte, so the counts are compared with each other.
+pub fn is_bare(s: &[u8], at: usize) -> bool
+    requires { ⌜ at + 17 ≤ length (now s) ⌝ }
+    ensures { λ r. ⌜ (r ≡ true → Bare (now (s .entry)) at) ⌝ }
+{
+    let kind = s[at];
+    let prefixes = words::get64(s, at + 1);
+    let chunks = words::get64(s, at + 9);
+    if prefixes != chunks {
+        return false;
+    }
+    if chunks != (kind / 4) as u64 {
+        return false;
+    }
+    kind == 3
+}
+
+// Whether it has no suffix either, and one child.
+pub fn is_single_without_lists(s: &[u8], at: usize) -> bool
+    requires { ⌜ at + 33 ≤ length (now s) ⌝ }
+    ensures { λ r. ⌜ (r ≡ true → SingleWithoutLists (now (s .entry)) at) ⌝ }
+{
+    if !is_bare(s, at) {
+        return false;
+    }
+    let suffixes = words::get64(s, at + 17);
+    let children = words::get64(s, at + 25);
+    if suffixes != children / 2 {
+        return false;
+    }
+    children == 1
+}
+
+// Whether such a node stands at an index, with its child where it is due.
 fn is_thin(s: &[u8], at: usize) -> bool
     requires { ⌜ at ≤ length (now s) ⌝ }
     ensures { λ r. ⌜ (r ≡ true → Thin (now (s .entry)) at) ⌝ }
@@ -289,24 +323,7 @@ fn is_thin(s: &[u8], at: usize) -> bool
     if s.len() - at < 43 {
         return false;
     }
-    if s[at] != 3 {
-        return false;
-    }
-    // Compared with 0 a word would be tested byte by byte, so the counts are compared with each other.
-    let prefixes = words::get64(s, at + 1);
-    let chunks = words::get64(s, at + 9);
-    if prefixes != chunks {
-        return false;
-    }
-    let suffixes = words::get64(s, at + 17);
-    if chunks != suffixes {
-        return false;
-    }
-    let children = words::get64(s, at + 25);
-    if suffixes != children / 2 {
-        return false;
-    }
-    if children != 1 {
+    if !is_single_without_lists(s, at) {
         return false;
     }
     let flag = at + 42;

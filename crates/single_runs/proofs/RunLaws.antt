@@ -17,6 +17,7 @@ use Rattle.trie.specs.Test.{all-ended, and-list, child-lists, front-lists, is-u
 use Rattle.trie.proofs.Union.{both}
 use Rattle.location_lists.specs.Lists.{Lists as ListsIn, lists-in, count-with}
 use Rattle.image_format.specs.Held.{Entry}
+use Rattle.fields.specs.Thin.{Bare, SingleWithoutLists}
 use Rattle.image_walk.specs.Parts.{parts-at}
 use Rattle.image_walk.specs.Tables.{slot-in}
 use Rattle.image_walk.specs.Here.{Laid}
@@ -24,7 +25,7 @@ use Rattle.image_walk.proofs.Parts.{parts-are, room-last}
 use Rattle.node_rule.specs.Parts.{TableOf, PartsOf, HasTable}
 use Rattle.single_runs.specs.Says.{children-right}
 use Rattle.node_rule.specs.OneNode.{ChildLists, with-two}
-use Rattle.single_runs.specs.Runs.{BareAt, LoneTable, Bare, Thin, byte-behind, Down, RunAt, RunTo, SaysNone, is-leaf, LeafSays}
+use Rattle.single_runs.specs.Runs.{LoneTable, BareSingle, byte-behind, Down, RunAt, RunTo, SaysNone, is-leaf, LeafSays}
 use Rattle.node_rule.proofs.Tables.{Next, slot-taken, slots-end}
 use Rattle.node_rule.proofs.Parts.{parts-of}
 use Rattle.node_rule.proofs.Children.{next-laid}
@@ -58,7 +59,7 @@ leaf-parts p e =
 pub laid-room : (s : List ℕ) (at : ℕ) → Laid s at → at + 33 ≤ length s
 laid-room s at h = let r = room-last s at _ _ _ h refl refl refl in omega arith
 
-module _ (s : List ℕ) (at : ℕ) (b : BareAt s at) where
+module _ (s : List ℕ) (at : ℕ) (b : Bare s at) where
   chunks-there : 0 ≡ le64 s (at + 1 + 8 + 24 * 0)
   chunks-there = let e : at + 9 ≡ at + 1 + 8 + 24 * 0 = omega arith in sym (b .chunks) ∙ ap (le64 s) e
 
@@ -68,7 +69,7 @@ module _ (s : List ℕ) (at : ℕ) (b : BareAt s at) where
   pub bare-room : (u : ℕ) → Laid s at → u ≡ le64 s (at + 17) → at + 25 + 24 * u + 8 ≤ length s
   bare-room u h e = let r = room-last s at 0 0 u h (sym (b .prefixes)) chunks-there (e ∙ suffixes-there) in omega arith
 
-  pub bare-parts : (u : ℕ) → u ≡ le64 s (at + 17) → 1 ≡ le64 s (at + 25 + 24 * u) → Bare (parts-at s at) (at + 25 + 24 * u + 8) × (parts-at s at .«suffix_count» ≡ u)
+  pub bare-parts : (u : ℕ) → u ≡ le64 s (at + 17) → 1 ≡ le64 s (at + 25 + 24 * u) → BareSingle (parts-at s at) (at + 25 + 24 * u + 8) × (parts-at s at .«suffix_count» ≡ u)
   bare-parts u e f =
       let z : getD s at 0 ≡ 1 → ⊥ = omega (arith, b .kind) in
       let x : at + 25 + 24 * u ≡ at + 1 + 8 + 24 * 0 + 8 + 24 * 0 + 8 + 24 * u = omega arith in
@@ -90,20 +91,20 @@ module _ (s : List ℕ) (at : ℕ) (b : BareAt s at) where
       let y : at + 1 + 8 + 24 * 0 + 8 + 24 * 0 + 8 ≡ at + 25 = omega arith in
       sym (ap (λ (y : Parts). y .suffixes) p) ∙ y
 
-  pub bare-some : (u r : ℕ) → u ≡ le64 s (at + 17) → LoneTable s (at + 25 + 24 * u) r → Bare (parts-at s at) r
-  bare-some u r e l = subst (Bare (parts-at s at)) (l .table-is) (bare-parts u e (sym (l .one)) .0)
+  pub bare-some : (u r : ℕ) → u ≡ le64 s (at + 17) → LoneTable s (at + 25 + 24 * u) r → BareSingle (parts-at s at) r
+  bare-some u r e l = subst (BareSingle (parts-at s at)) (l .table-is) (bare-parts u e (sym (l .one)) .0)
 
-  pub bare-none : (u r : ℕ) → u ≡ le64 s (at + 17) → u ≡ 0 → LoneTable s (at + 25) r → Bare (parts-at s at) r
+  pub bare-none : (u r : ℕ) → u ≡ le64 s (at + 17) → u ≡ 0 → LoneTable s (at + 25) r → BareSingle (parts-at s at) r
   bare-none u r e z l =
       let x : at + 25 ≡ at + 25 + 24 * u = omega arith in
       bare-some u r e (subst (λ (y : ℕ). LoneTable s y r) x l)
 
-  pub thin-parts : 0 ≡ le64 s (at + 17) → 1 ≡ le64 s (at + 25) → Thin (parts-at s at) (at + 33)
-  thin-parts e f =
-      let x : at + 25 ≡ at + 25 + 24 * 0 = omega arith in
-      let y : at + 25 + 24 * 0 + 8 ≡ at + 33 = omega arith in
-      let p = bare-parts 0 e (f ∙ ap (le64 s) x) in
-      record { bare = subst (Bare (parts-at s at)) y (p .0); suffixes = p .1 }
+pub without-lists : (s : List ℕ) (at : ℕ) → SingleWithoutLists s at → BareSingle (parts-at s at) (at + 33) × (parts-at s at .«suffix_count» ≡ 0)
+without-lists s at h =
+    let x : at + 25 ≡ at + 25 + 24 * 0 = omega arith in
+    let y : at + 25 + 24 * 0 + 8 ≡ at + 33 = omega arith in
+    let p = bare-parts s at (h .bare) 0 (sym (h .suffixes)) (sym (h .count) ∙ ap (le64 s) x) in
+    (subst (BareSingle (parts-at s at)) y (p .0), p .1)
 
 -- ── two nodes ──
 
@@ -124,11 +125,11 @@ module _ (s : List ℕ) (table : ℕ) (e : Entry) (q : some e ≡ slot-in s tabl
   pub only-parts : (d : ℕ) (g : Forest) (t : TableOf s d table 1 g) → PartsOf s (d - 1) (parts-at s (e .node)) (record { lists = only d g t .lists; children = only d g t .below })
   only-parts d g t = let x = only d g t in parts-of s (d - 1) (e .node) (record { lists = x .lists; children = x .below }) (x .here)
 
-  pub only-leads : (d : ℕ) (g : Forest) (t : TableOf s d table 1 g) (n : ℕ) → Bare (parts-at s (e .node)) n → TableOf s (d - 1) n 1 (only d g t .below)
+  pub only-leads : (d : ℕ) (g : Forest) (t : TableOf s d table 1 g) (n : ℕ) → BareSingle (parts-at s (e .node)) n → TableOf s (d - 1) n 1 (only d g t .below)
   only-leads d g t n b = let p = only-parts d g t .table in subst (λ (k : ℕ). TableOf s (d - 1) n k (only d g t .below)) (b .one) (subst (λ (k : ℕ). TableOf s (d - 1) k (parts-at s (e .node) .children) (only d g t .below)) (b .leads) p)
 
 pub goes-down : (s : List ℕ) (table other t o : ℕ) (e f : Entry) → some e ≡ slot-in s table 1 0 → some f ≡ slot-in s other 1 0 → e .byte ≡ f .byte →
-    Thin (parts-at s (e .node)) t → Bare (parts-at s (f .node)) o → Down s table other t o
+    BareSingle (parts-at s (e .node)) t × (parts-at s (e .node) .«suffix_count» ≡ 0) → BareSingle (parts-at s (f .node)) o → Down s table other t o
 goes-down s table other t o e f q r z x y d c g h m n =
     let a = only s table e q d g m in
     let b = only s other f r c h n in
@@ -141,14 +142,14 @@ goes-down s table other t o e f q r z x y d c g h m n =
       front = record { lists = b .lists; children = b .below };
       is = only-is s table e q d g m;
       front-is = only-is s other f r c h n ∙ ap (λ (i : ℕ). more i (b .lists) (b .below) leaf) (sym z);
-      prefixes = no-locations s _ _ _ (x .bare .prefixes) (p .prefixes);
-      chunks = no-locations s _ _ _ (x .bare .chunks) (p .chunks);
-      suffixes = no-locations s _ _ _ (x .suffixes) (p .suffixes);
+      prefixes = no-locations s _ _ _ (x .0 .prefixes) (p .prefixes);
+      chunks = no-locations s _ _ _ (x .0 .chunks) (p .chunks);
+      suffixes = no-locations s _ _ _ (x .1) (p .suffixes);
       front-chunks = no-locations s _ _ _ (y .chunks) (k .chunks);
       front-prefixes = no-locations s _ _ _ (y .prefixes) (k .prefixes);
-      leads = only-leads s table e q d g m t (x .bare);
+      leads = only-leads s table e q d g m t (x .0);
       front-leads = only-leads s other f r c h n o y;
-      some = never (p .childless) (x .bare .one);
+      some = never (p .childless) (x .0 .one);
     }
   where
     never : {v : ℕ} {w : Forest} → (w ≡ leaf → v ≡ 0) → v ≡ 1 → w ≡ leaf → ⊥
@@ -185,7 +186,7 @@ module _ (s : List ℕ) (table b : ℕ) (e : b ≡ byte-behind (slot-in s table 
   laid-behind = only-laid s table (record { byte = b; node = table + 10 }) behind
 
 pub goes-behind : (s : List ℕ) (table other t o b c : ℕ) → b ≡ byte-behind (slot-in s table 1 0) (table + 10) → (b ≡ 256 → ⊥) → c ≡ byte-behind (slot-in s other 1 0) (other + 10) → c ≡ b →
-    Thin (parts-at s (table + 10)) t → Bare (parts-at s (other + 10)) o → Down s table other t o
+    BareSingle (parts-at s (table + 10)) t × (parts-at s (table + 10) .«suffix_count» ≡ 0) → BareSingle (parts-at s (other + 10)) o → Down s table other t o
 goes-behind s table other t o b c e n f z =
     goes-down s table other t o (record { byte = b; node = table + 10 }) (record { byte = c; node = other + 10 }) (behind s table b e n) (behind s other c f (λ y. n (sym z ∙ y))) (sym z)
 

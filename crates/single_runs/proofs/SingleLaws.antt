@@ -16,13 +16,14 @@ use Rattle.trie.specs.Trie.{Lists, Forest, leaf, more, Node}
 use Rattle.trie.specs.Test.{is-union, moved-back}
 use Rattle.trie.proofs.Union.{true-same}
 use Rattle.image_format.specs.Held.{Entry}
+use Rattle.fields.specs.Thin.{Bare}
 use Rattle.image_walk.specs.Parts.{parts-at}
 use Rattle.image_walk.specs.Tables.{slot-in}
 use Rattle.image_walk.specs.Here.{Laid}
 use Rattle.node_rule.specs.Parts.{TableOf, PartsOf, HasTable}
 use Rattle.fronts.specs.Fronts.{FrontsHere}
 use Rattle.single_runs.specs.Says.{children-right}
-use Rattle.single_runs.specs.Runs.{BareAt, Bare, Further, LoneSays}
+use Rattle.single_runs.specs.Runs.{BareSingle, Further, LoneSays}
 use Rattle.single_runs.specs.Singles.{Single, SingleTo, SingleIn, SinglesAt, SinglesTo, SinglesSay}
 use Rattle.fronts.proofs.Fronts.{kept-none}
 use Rattle.single_runs.proofs.RunLaws.{bare-parts, bare-place, bare-room, no-locations, not-so, one-location, only, only-is, only-leads, only-parts}
@@ -30,13 +31,13 @@ use Rattle.image_walk.specs.declared.Node.{Node as Parts}
 
 -- ── one node ──
 
-pub single-parts : (s : List ℕ) (at : ℕ) → BareAt s at → Laid s at → 1 ≡ le64 s (at + 17) → 1 ≡ le64 s (at + 49) → Single s at
+pub single-parts : (s : List ℕ) (at : ℕ) → Bare s at → Laid s at → 1 ≡ le64 s (at + 17) → 1 ≡ le64 s (at + 49) → Single s at
 single-parts s at b h e f =
     let x : at + 49 ≡ at + 25 + 24 * 1 = omega arith in
     let y : at + 25 + 24 * 1 + 8 ≡ at + 57 = omega arith in
     let p = bare-parts s at b 1 e (f ∙ ap (le64 s) x) in
     let r = bare-room s at b 1 h e in
-    record { bare = subst (Bare (parts-at s at)) y (p .0); one = p .1; place = bare-place s at b 1 e (f ∙ ap (le64 s) x); room = omega arith }
+    record { bare = subst (BareSingle (parts-at s at)) y (p .0); one = p .1; place = bare-place s at b 1 e (f ∙ ap (le64 s) x); room = omega arith }
 
 -- ── a table that leads to one ──
 

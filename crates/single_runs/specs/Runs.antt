@@ -5,7 +5,6 @@ use mathlib.Core.Bool.{Bool, true, false, cond, _&&_}
 use mathlib.Core.List.{List, [], _∷_}
 use mathlib.Core.Option.{Option, none, some}
 use lib.Dec.{eqb}
-use lib.ListN.{getD}
 use Rattle.words.specs.Words.{le64}
 use Rattle.trie.specs.Trie.{Lists, Forest, leaf, more, Node}
 use Rattle.trie.specs.Test.{all-ended, child-lists}
@@ -15,28 +14,17 @@ use Rattle.fronts.specs.Fronts.{FrontsHere, KeptBelow}
 use Rattle.single_runs.specs.Says.{children-right}
 use Rattle.image_walk.specs.declared.Node.{Node as Parts}
 
--- the node at an index is of kind 3 and has neither prefix nor chunk
-pub record BareAt (s : List ℕ) (at : ℕ) : Type 0 where
-  pub kind : getD s at 0 ≡ 3
-  pub prefixes : le64 s (at + 1) ≡ 0
-  pub chunks : le64 s (at + 9) ≡ 0
-
 -- a table of one entry behind its count at an index
 pub record LoneTable (s : List ℕ) (behind table : ℕ) : Type 0 where
   pub one : le64 s behind ≡ 1
   pub table-is : behind + 8 ≡ table
 
 -- a node with one child, and neither prefix nor chunk, and its table
-pub record Bare (p : Parts) (table : ℕ) : Type 0 where
+pub record BareSingle (p : Parts) (table : ℕ) : Type 0 where
   pub prefixes : p .«prefix_count» ≡ 0
   pub chunks : p .«chunk_count» ≡ 0
   pub leads : p .table ≡ table
   pub one : p .children ≡ 1
-
--- nor suffix
-pub record Thin (p : Parts) (table : ℕ) : Type 0 where
-  pub bare : Bare p table
-  pub suffixes : p .«suffix_count» ≡ 0
 
 -- the byte of an entry whose node stands at an index, or else 256
 abbrev pub byte-behind : Option Entry → ℕ → ℕ

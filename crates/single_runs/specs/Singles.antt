@@ -8,12 +8,12 @@ use Rattle.definitions.specs.Location.{location-at}
 use Rattle.trie.specs.Trie.{Lists, Forest, leaf, more}
 use Rattle.image_walk.specs.Parts.{parts-at}
 use Rattle.node_rule.specs.Parts.{TableOf}
-use Rattle.single_runs.specs.Runs.{Bare}
+use Rattle.single_runs.specs.Runs.{BareSingle}
 use Rattle.single_runs.specs.Says.{children-right}
 
 -- the node at an index has one child, one suffix, and neither prefix nor chunk
 pub record Single (s : List ℕ) (at : ℕ) : Type 0 where
-  pub bare : Bare (parts-at s at) (at + 57)
+  pub bare : BareSingle (parts-at s at) (at + 57)
   pub one : parts-at s at .«suffix_count» ≡ 1
   pub place : parts-at s at .suffixes ≡ at + 25
   pub room : at + 57 ≤ length s

@@ -3,7 +3,7 @@ use image_walk::Node;
 use image_walk::Slot;
 ghost use mathlib.Core.Path.{_≡_};
 ghost use mathlib.Core.Bool.{false, true};
-ghost use Rattle.single_runs.specs.Runs.{is-leaf, BareAt, LoneTable, Bare, Thin, byte-behind, Down, RunTo};
+ghost use Rattle.single_runs.specs.Runs.{is-leaf, LoneTable, BareSingle, byte-behind, Down, RunTo};
 ghost use Prim.Native.Nat.{_+_, _≤_};
 ghost use lib.ListN.{length};
 ghost use Rattle.image_walk.specs.Parts.{parts-at};
@@ -29,40 +29,6 @@ pub fn is_leaf(n: Node) -> bool
     n.prefix_count == 1
 }
 
-// Whether the node at an index is of kind 3 and has neither prefix nor chunk.
-// Compared with 0 a word would be tested byte by byte, so the counts are compared with each other.
-fn is_bare(s: &[u8], at: usize) -> bool
-    requires { ⌜ Laid (now s) at ⌝ }
-    ensures { λ r. ⌜ (r ≡ true → BareAt (now (s .entry)) at) ⌝ }
-{
-    let kind = s[at];
-    let prefixes = words::get64(s, at + 1);
-    let chunks = words::get64(s, at + 9);
-    if prefixes != chunks {
-        return false;
-    }
-    if chunks != (kind / 4) as u64 {
-        return false;
-    }
-    kind == 3
-}
-
-// Whether it has no suffix either, and one child.
-fn is_thin(s: &[u8], at: usize) -> bool
-    requires { ⌜ Laid (now s) at ⌝ }
-    ensures { λ r. ⌜ (r ≡ true → Thin (parts-at (now (s .entry)) at) (at + 33)) ⌝ }
-{
-    if !is_bare(s, at) {
-        return false;
-    }
-    let suffixes = words::get64(s, at + 17);
-    let children = words::get64(s, at + 25);
-    if suffixes != children / 2 {
-        return false;
-    }
-    children == 1
-}
-
 // The table behind its count at an index, if that is 1, or else 0.
 fn lone_table(s: &[u8], behind: usize) -> usize
     requires { ⌜ behind + 8 ≤ length (now s) ⌝ }
@@ -77,9 +43,9 @@ fn lone_table(s: &[u8], behind: usize) -> usize
 // The table of the node at an index, if that has one child and neither prefix nor chunk, or else 0.
 fn bare_table(s: &[u8], at: usize) -> usize
     requires { ⌜ Laid (now s) at ⌝ }
-    ensures { λ r. ⌜ ((r ≡ 0 → ⊥) → Bare (parts-at (now (s .entry)) at) r) ⌝ }
+    ensures { λ r. ⌜ ((r ≡ 0 → ⊥) → BareSingle (parts-at (now (s .entry)) at) r) ⌝ }
 {
-    if !is_bare(s, at) {
+    if !fields::is_bare(s, at) {
         return 0;
     }
     let n = words::get64(s, at + 17) as usize;
@@ -139,7 +105,7 @@ fn both_down(s: &[u8], table: usize, other: usize) -> Pair
     if byte_behind(s, other) != byte {
         return apart();
     }
-    if !is_thin(s, due) {
+    if !fields::is_single_without_lists(s, due) {
         return apart();
     }
     let next = bare_table(s, front_due);
@@ -193,7 +159,7 @@ fn is_single(s: &[u8], at: usize) -> bool
     requires { ⌜ Laid (now s) at ⌝ }
     ensures { λ r. ⌜ (r ≡ true → Single (now (s .entry)) at) ⌝ }
 {
-    if !is_bare(s, at) {
+    if !fields::is_bare(s, at) {
         return false;
     }
     if words::get64(s, at + 17) != 1 {

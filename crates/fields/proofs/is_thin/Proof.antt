@@ -1,7 +1,8 @@
 -- `fields::is_thin` meets its contract. Assumes nothing.
 use native.Mathlib.Omega.{arith}
 use borrow.Author.Needs.{needs}
-use Rattle.fields.proofs.ThinNodes.{by-flag, not-true}
+use borrow.Author.Tests.{not-false}
+use Rattle.fields.proofs.ThinNodes.{by-test, not-true}
 use Rattle.fields.proofs.is_thin.Statement.{statement}
 use Rattle.fields.proofs.is_thin.Tie as tie
 
@@ -15,19 +16,7 @@ returns-3 : tie.Need-returns-3
 returns-3 c = not-true
 
 returns-4 : tie.Need-returns-4
-returns-4 c = not-true
-
-returns-5 : tie.Need-returns-5
-returns-5 c = not-true
-
-returns-6 : tie.Need-returns-6
-returns-6 c = not-true
-
-returns-7 : tie.Need-returns-7
-returns-7 c = not-true
-
-returns-8 : tie.Need-returns-8
-returns-8 c = by-flag _ _ λ f. omega (arith, f)
+returns-4 c = by-test _ 1 λ f. record { within = omega arith; head = c .before .before .before .before .is-single-without-lists .ensures (not-false _ (c .before .before .before .if2 .left)); offset = omega arith; flag = f }
 
 pub is-thin-spec : {M : Type 1} → statement M
 is-thin-spec =
@@ -35,23 +24,11 @@ is-thin-spec =
     (tie.spec
     (λ c. search needs)
     returns
-    (λ c. search needs)
+    (λ c κs. search needs)
     returns-2
     (λ c. search needs)
-    (λ c κs. search needs)
     (λ c. search needs)
     (λ c κs. search needs)
     returns-3
     (λ c. search needs)
-    (λ c κs. search needs)
-    returns-4
-    (λ c. search needs)
-    (λ c κs. search needs)
-    returns-5
-    returns-6
-    (λ c. search needs)
-    (λ c. search needs)
-    (λ c κs. search needs)
-    returns-7
-    (λ c. search needs)
-    returns-8)
+    returns-4)

@@ -6,6 +6,9 @@ use borrow.Author.Needs.{needs}
 use Rattle.single_runs.proofs.bare_table.Statement.{statement}
 use Rattle.single_runs.proofs.bare_table.Tie as tie
 
+is-bare-requires : tie.Need-is-bare-requires
+is-bare-requires c κs = let r = laid-room _ _ (c .before .pre) in omega arith
+
 get64-requires : tie.Need-get64-requires
 get64-requires c κs = let r = laid-room _ _ (c .before .before .before .pre) in omega arith
 
@@ -31,7 +34,7 @@ pub bare-table-spec : {M : Type 1} → statement M
 bare-table-spec =
     tie.close
     (tie.spec
-    (λ c κs. search needs)
+    is-bare-requires
     (λ c. search needs)
     (λ c. search needs)
     get64-requires

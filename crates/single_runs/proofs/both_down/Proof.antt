@@ -3,7 +3,7 @@ use native.Mathlib.Omega.{arith}
 use mathlib.Core.Path.{_∙_, sym}
 use denote.Ref.{now}
 use borrow.Author.Tests.{not-false}
-use Rattle.single_runs.proofs.RunLaws.{goes-behind, laid-behind, laid-room, not-so, table-room}
+use Rattle.single_runs.proofs.RunLaws.{goes-behind, laid-behind, laid-room, not-so, table-room, without-lists}
 use borrow.Author.Needs.{needs}
 use Rattle.single_runs.proofs.both_down.Statement.{statement}
 use Rattle.single_runs.proofs.both_down.Tie as tie
@@ -20,8 +20,8 @@ returns c = λ e. not-so (sym (c .apart .ensures .0) ∙ e)
 returns-2 : tie.Need-returns-2
 returns-2 c = λ e. not-so (sym (c .apart2 .ensures .0) ∙ e)
 
-is-thin-requires : tie.Need-is-thin-requires
-is-thin-requires c κs = let u = c .before .before .before .before .before in let x = c .before .before .before .byte-behind in laid-behind (now (u .args .s)) (u .args .table) (x .result) (x .ensures) (c .before .before .if1 .left) (u .pre .0)
+is-single-without-lists-requires : tie.Need-is-single-without-lists-requires
+is-single-without-lists-requires c κs = let u = c .before .before .before .before .before in let x = c .before .before .before .byte-behind in let r = laid-room _ _ (laid-behind (now (u .args .s)) (u .args .table) (x .result) (x .ensures) (c .before .before .if1 .left) (u .pre .0)) in omega arith
 
 returns-3 : tie.Need-returns-3
 returns-3 c = λ e. not-so (sym (c .apart3 .ensures .0) ∙ e)
@@ -36,7 +36,7 @@ add-t9 : tie.Need-add-t9
 add-t9 c = let u = c .before .before .before .before .before .before .before .before .before in let x = c .before .before .before .before .before .before .before .byte-behind in let r = laid-room _ _ (laid-behind (now (u .args .s)) (u .args .table) (x .result) (x .ensures) (c .before .before .before .before .before .before .if1 .left) (u .pre .0)) in omega arith
 
 returns-5 : tie.Need-returns-5
-returns-5 c = λ _. let a = c .before .before .before .before .before .before .before .before .before .args in let x = c .before .before .before .before .before .before .before .byte-behind in let y = c .before .before .before .before .before .byte-behind2 in goes-behind (now (a .s)) (a .table) (a .other) _ _ (x .result) (y .result) (x .ensures) (c .before .before .before .before .before .before .if1 .left) (y .ensures) (c .before .before .before .before .if2 .left) (c .before .before .before .is-thin .ensures (not-false _ (c .before .before .if3 .left))) (c .before .bare-table .ensures (c .if4 .left))
+returns-5 c = λ _. let a = c .before .before .before .before .before .before .before .before .before .args in let x = c .before .before .before .before .before .before .before .byte-behind in let y = c .before .before .before .before .before .byte-behind2 in goes-behind (now (a .s)) (a .table) (a .other) _ _ (x .result) (y .result) (x .ensures) (c .before .before .before .before .before .before .if1 .left) (y .ensures) (c .before .before .before .before .if2 .left) (without-lists _ _ (c .before .before .before .is-single-without-lists .ensures (not-false _ (c .before .before .if3 .left)))) (c .before .bare-table .ensures (c .if4 .left))
 
 pub both-down-spec : {M : Type 1} → statement M
 both-down-spec =
@@ -50,7 +50,7 @@ both-down-spec =
     (λ c κs. search needs)
     (λ c κs. search needs)
     returns-2
-    is-thin-requires
+    is-single-without-lists-requires
     (λ c κs. search needs)
     returns-3
     bare-table-requires

@@ -7,6 +7,9 @@ use borrow.Author.Needs.{needs}
 use Rattle.single_runs.proofs.is_single.Statement.{statement}
 use Rattle.single_runs.proofs.is_single.Tie as tie
 
+is-bare-requires : tie.Need-is-bare-requires
+is-bare-requires c κs = let r = laid-room _ _ (c .before .pre) in omega arith
+
 returns : tie.Need-returns
 returns c = not-so
 
@@ -26,7 +29,7 @@ pub is-single-spec : {M : Type 1} → statement M
 is-single-spec =
     tie.close
     (tie.spec
-    (λ c κs. search needs)
+    is-bare-requires
     returns
     (λ c. search needs)
     get64-requires
