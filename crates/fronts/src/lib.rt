@@ -107,21 +107,26 @@ fn fronts_by(
     }
 }
 
-// The fronts of the child by byte at index at. Below the root they are many, and are read ahead with all below them.
+// The child by byte at index at, of a node at depth.
+pub struct Place {
+    pub byte: u8,
+    pub at: usize,
+    pub depth: usize,
+}
+
+// The fronts of a child. Below the root they are many, and are read ahead with all below them.
 pub fn next_fronts(
     s: &[u8],
-    byte: u8,
-    depth: usize,
+    child: Place,
     fronts: &mut [usize],
     count: usize,
     lists: &mut [usize],
-    at: usize,
 ) -> Found
-    requires { ⌜ HasFronts (now s) (now fronts) (depth * 768) count × (depth ≤ 15) × (13056 ≤ length (now fronts)) × (1025 ≤ length (now lists)) ⌝ }
-    ensures { λ r. ⌜ NextFronts (now (s .entry)) byte depth (now (fronts .entry)) count (now (fronts .exit)) (r .fronts) (now (lists .exit)) (r .lists) ⌝ }
+    requires { ⌜ HasFronts (now s) (now fronts) (child .depth * 768) count × (child .depth ≤ 15) × (13056 ≤ length (now fronts)) × (1025 ≤ length (now lists)) ⌝ }
+    ensures { λ r. ⌜ NextFronts (now (s .entry)) (child .byte) (child .depth) (now (fronts .entry)) count (now (fronts .exit)) (r .fronts) (now (lists .exit)) (r .lists) ⌝ }
 {
-    look_ahead(s, byte, depth, fronts, count, at, lists);
-    fronts_by(s, byte, depth, fronts, count, lists)
+    look_ahead(s, child, fronts, count, lists);
+    fronts_by(s, child.byte, child.depth, fronts, count, lists)
 }
 
 // How many parts of 64 bytes of n bytes are among room bytes.
@@ -175,23 +180,15 @@ fn read_ahead(s: &[u8], byte: u8, fronts: &[usize], count: usize, at: usize) -> 
     sum
 }
 
-// Reads ahead for a child of the root; depth is its parent's. The number has a place of its own behind the lists.
-fn look_ahead(
-    s: &[u8],
-    byte: u8,
-    depth: usize,
-    fronts: &[usize],
-    count: usize,
-    at: usize,
-    lists: &mut [usize],
-)
-    requires { ⌜ HasFronts (now s) (now fronts) (depth * 768) count × (13056 ≤ length (now fronts)) × (1025 ≤ length (now lists)) ⌝ }
-    ensures { λ _. ⌜ now (lists .exit) ≡ cond (eqb depth 0) (set (now (lists .entry)) 1024 (shares-read (now (s .entry)) byte (now (fronts .entry)) count at)) (now (lists .entry)) ⌝ }
+// Reads ahead for a child of the root. The number has a place of its own behind the lists.
+fn look_ahead(s: &[u8], child: Place, fronts: &[usize], count: usize, lists: &mut [usize])
+    requires { ⌜ HasFronts (now s) (now fronts) (child .depth * 768) count × (13056 ≤ length (now fronts)) × (1025 ≤ length (now lists)) ⌝ }
+    ensures { λ _. ⌜ now (lists .exit) ≡ cond (eqb (child .depth) 0) (set (now (lists .entry)) 1024 (shares-read (now (s .entry)) (child .byte) (now (fronts .entry)) count (child .at))) (now (lists .entry)) ⌝ }
 {
-    if depth != 0 {
+    if child.depth != 0 {
         return;
     }
-    lists[1024] = read_ahead(s, byte, fronts, count, at) as usize;
+    lists[1024] = read_ahead(s, child.byte, fronts, count, child.at) as usize;
 }
 
 // Whether a mask tells that a byte is not among its bytes.

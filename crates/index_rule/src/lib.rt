@@ -22,16 +22,13 @@ pub fn index_rule(s: &[u8]) -> bool
         return false;
     }
     let count = fronts::root_fronts(s, root.table, root.children, &mut fronts);
-    forest_rule::children_right(
-        s,
-        root.table,
-        root.children,
-        0,
-        &mut fronts,
-        count,
-        &mut lists,
-        16,
-    )
+    let below = forest_rule::Siblings {
+        table: root.table,
+        children: root.children,
+        depth: 0,
+        left: 16,
+    };
+    forest_rule::children_right(s, below, &mut fronts, count, &mut lists)
 }
 
 // An image: its layout, and then the index rule of what it holds.

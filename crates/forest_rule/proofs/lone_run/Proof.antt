@@ -8,7 +8,7 @@ use Rattle.forest_rule.proofs.lone_run.Tie as tie
 returns : tie.Need-returns
 returns c =
     let a = c .before .before .before .before .before .args in
-    singles-lone (now (a .s)) (a .table) (a .children) (a .depth) (now (a .fronts)) (a .count) (a .left) _ _ _ _ (c .before .if1 .taken) (c .run-without-front .ensures)
+    singles-lone (now (a .s)) (a .below .table) (a .below .children) (a .below .depth) (now (a .fronts)) (a .count) (a .below .left) _ _ _ _ (c .before .if1 .taken) (c .run-without-front .ensures)
 
 pub lone-run-spec : {M : Type 1} → statement M
 lone-run-spec = tie.close (tie.spec (λ c κs. search needs) returns (λ c κs. search needs) (λ c. search needs) (λ c. search needs) (λ c. search needs))
