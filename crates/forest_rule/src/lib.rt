@@ -7,7 +7,7 @@ ghost use Prim.Native.Nat.{_+_, _*_, _≤_, _<_};
 ghost use lib.ListN.{length};
 ghost use Rattle.node_rule.specs.Parts.{HasTable};
 ghost use Rattle.single_runs.specs.Says.{ChildAsked, ChildSays, ChildrenAsked, ChildrenSays};
-ghost use Rattle.single_runs.specs.Runs.{LeafSays, LoneSays, SaysNone};
+ghost use Rattle.single_runs.specs.Runs.{LeafSays, RunSays, SaysNone};
 ghost use Rattle.single_runs.specs.Singles.{SinglesSay};
 
 // Whether the child in a table of one entry has neither chunk nor suffix.
@@ -74,17 +74,17 @@ pub struct Siblings {
 }
 
 // Where the run below a node ends, and whether its last node is right; or all below it, if the run ended at leaves.
-struct Lone {
+struct RunEnd {
     pub levels: usize,
     pub table: usize,
     pub right: bool,
     pub ended: bool,
 }
 
-fn no_run(table: usize) -> Lone
+fn no_run(table: usize) -> RunEnd
     ensures { λ r. ⌜ (r .levels ≡ 0) × (r .table ≡ table) × (r .right ≡ true) × (r .ended ≡ false) ⌝ }
 {
-    Lone {
+    RunEnd {
         levels: 0,
         table,
         right: true,
@@ -93,10 +93,10 @@ fn no_run(table: usize) -> Lone
 }
 
 // A run that ended at leaves.
-fn leaf_run(table: usize, right: bool) -> Lone
+fn leaf_run(table: usize, right: bool) -> RunEnd
     ensures { λ r. ⌜ (r .levels ≡ 0) × (r .table ≡ table) × (r .right ≡ right) × (r .ended ≡ true) ⌝ }
 {
-    Lone {
+    RunEnd {
         levels: 0,
         table,
         right,
@@ -105,7 +105,7 @@ fn leaf_run(table: usize, right: bool) -> Lone
 }
 
 // The run below a node that has no front.
-fn run_without_front(s: &[u8], table: usize, children: usize, left: usize) -> Lone
+fn run_without_front(s: &[u8], table: usize, children: usize, left: usize) -> RunEnd
     requires { ⌜ HasTable (now s) table children ⌝ }
     ensures { λ r. ⌜ SinglesSay (now (s .entry)) table children left (r .levels) (r .table) (r .right) (r .ended) ⌝ }
 {
@@ -113,7 +113,7 @@ fn run_without_front(s: &[u8], table: usize, children: usize, left: usize) -> Lo
         return no_run(table);
     }
     let run = single_runs::single_run(s, table, left);
-    Lone {
+    RunEnd {
         levels: run.levels,
         table: run.table,
         right: true,
@@ -128,9 +128,9 @@ fn run_with_front(
     fronts: &mut [usize],
     count: usize,
     lists: &mut [usize],
-) -> Lone
+) -> RunEnd
     requires { ⌜ ChildrenAsked (now s) (below .table) (below .children) (below .depth) (now fronts) count (now lists) (below .left) ⌝ }
-    ensures { λ r. ⌜ LoneSays (now (s .entry)) (below .table) (below .children) (below .depth) (now (fronts .entry)) count (below .left) (now (fronts .exit)) (r .levels) (r .table) (r .right) (r .ended) ⌝ }
+    ensures { λ r. ⌜ RunSays (now (s .entry)) (below .table) (below .children) (below .depth) (now (fronts .entry)) count (below .left) (now (fronts .exit)) (r .levels) (r .table) (r .right) (r .ended) ⌝ }
 {
     if count != 1 {
         return no_run(below.table);
@@ -138,7 +138,7 @@ fn run_with_front(
     if below.children != 1 {
         return no_run(below.table);
     }
-    let from = below.depth * 768;
+    let from = below.depth * fronts::LEVEL_SIZE;
     if fronts[from + 1] != 1 {
         return no_run(below.table);
     }
@@ -150,8 +150,14 @@ fn run_with_front(
     if run.levels == 0 {
         return no_run(below.table);
     }
-    fronts::put_front(fronts, (below.depth + run.levels) * 768, run.other, 1, 0);
-    Lone {
+    fronts::put_front(
+        fronts,
+        (below.depth + run.levels) * fronts::LEVEL_SIZE,
+        run.other,
+        1,
+        0,
+    );
+    RunEnd {
         levels: run.levels,
         table: run.table,
         right: owes_none(s, run.table, lists),
@@ -160,15 +166,15 @@ fn run_with_front(
 }
 
 // The run below a node, if there is one.
-fn lone_run(
+fn run_below(
     s: &[u8],
     below: Siblings,
     fronts: &mut [usize],
     count: usize,
     lists: &mut [usize],
-) -> Lone
+) -> RunEnd
     requires { ⌜ ChildrenAsked (now s) (below .table) (below .children) (below .depth) (now fronts) count (now lists) (below .left) ⌝ }
-    ensures { λ r. ⌜ LoneSays (now (s .entry)) (below .table) (below .children) (below .depth) (now (fronts .entry)) count (below .left) (now (fronts .exit)) (r .levels) (r .table) (r .right) (r .ended) ⌝ }
+    ensures { λ r. ⌜ RunSays (now (s .entry)) (below .table) (below .children) (below .depth) (now (fronts .entry)) count (below .left) (now (fronts .exit)) (r .levels) (r .table) (r .right) (r .ended) ⌝ }
 {
     if count == 0 {
         return run_without_front(s, below.table, below.children, below.left);
@@ -219,7 +225,7 @@ pub fn children_right(
     requires { ⌜ ChildrenAsked (now s) (below .table) (below .children) (below .depth) (now fronts) count (now lists) (below .left) ⌝ }
     ensures { λ r. ⌜ ChildrenSays (now (s .entry)) (below .table) (below .children) (below .depth) (now (fronts .entry)) count (below .left) (now (fronts .exit)) r ⌝ }
 {
-    let run = lone_run(s, below, fronts, count, lists);
+    let run = run_below(s, below, fronts, count, lists);
     if run.ended {
         return run.right;
     }
@@ -246,5 +252,12 @@ pub fn children_right(
             }
         }
     }
-    fronts::fronts_within(s, run.table, below.children, fronts, here * 768, count)
+    fronts::fronts_within(
+        s,
+        run.table,
+        below.children,
+        fronts,
+        here * fronts::LEVEL_SIZE,
+        count,
+    )
 }
