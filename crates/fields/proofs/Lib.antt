@@ -1,3 +1,3 @@
--- `AnswerLaws` has laws of the answers, `ThinNodes` of runs. Assumes nothing.
+-- `AnswerLaws` has laws of the answers, `Singles` of runs. Assumes nothing.
 pub mod AnswerLaws
-pub mod ThinNodes
+pub mod Singles

@@ -1,3 +1,3 @@
--- `Answers` has what the code's answers mean, `Thin` runs of nodes that are stepped over at once. Assumes nothing.
+-- `Answers` has what the code's answers mean, `Singles` runs of nodes that are stepped over at once. Assumes nothing.
 pub mod Answers
-pub mod Thin
+pub mod Singles

@@ -7,7 +7,7 @@ ghost use mathlib.Core.Bool.{cond, true};
 ghost use Rattle.image_format.specs.Reading.{offset, slot-turn, turn-at, all-met, read-list, read-head, open-table};
 ghost use Rattle.fields.specs.Answers.{step-of, list-of, head-of, table-in, table-of, turn-of};
 ghost use Rattle.image_format.specs.Turns.{Within, Skips};
-ghost use Rattle.fields.specs.Thin.{Bare, SingleWithoutLists, Thin, ThinRun};
+ghost use Rattle.fields.specs.Singles.{Bare, SingleWithoutLists, SingleBeforeChild, SinglesBelow};
 
 // The nodes and entries of an image.
 pub struct Counts {
@@ -91,6 +91,9 @@ fn refuse_children(n: u64) -> Children
     }
 }
 
+// The bytes of a location.
+const LOCATION_SIZE: usize = 24;
+
 // A list: its count and its locations.
 fn read_list(s: &[u8], at: usize) -> Past
     requires { ⌜ at ≤ length (now s) ⌝ }
@@ -109,11 +112,11 @@ fn read_list(s: &[u8], at: usize) -> Past
             entries: 0,
         };
     }
-    if (room - 8) / 24 < n {
+    if (room - 8) / LOCATION_SIZE < n {
         return refuse(definitions::CUT_SHORT);
     }
     Past {
-        at: at + 8 + n * 24,
+        at: at + 8 + n * LOCATION_SIZE,
         refusal: 0,
         nodes: 0,
         entries: n,
@@ -315,12 +318,15 @@ pub fn is_single_without_lists(s: &[u8], at: usize) -> bool
     children == 1
 }
 
+// The bytes of such a node up to its child, where that is due.
+const SINGLE_SIZE: usize = 43;
+
 // Whether such a node stands at an index, with its child where it is due.
-fn is_thin(s: &[u8], at: usize) -> bool
+fn is_single_before_child(s: &[u8], at: usize) -> bool
     requires { ⌜ at ≤ length (now s) ⌝ }
-    ensures { λ r. ⌜ (r ≡ true → Thin (now (s .entry)) at) ⌝ }
+    ensures { λ r. ⌜ (r ≡ true → SingleBeforeChild (now (s .entry)) at) ⌝ }
 {
-    if s.len() - at < 43 {
+    if s.len() - at < SINGLE_SIZE {
         return false;
     }
     if !is_single_without_lists(s, at) {
@@ -333,14 +339,14 @@ fn is_thin(s: &[u8], at: usize) -> bool
     s[flag] == 1
 }
 
-// How many thin nodes stand below each other from an index on, at most so many.
-pub fn thin_run(s: &[u8], at: usize, most: usize) -> usize
+// How many such nodes stand below each other from an index on, at most so many.
+pub fn singles_below(s: &[u8], at: usize, most: usize) -> usize
     requires { ⌜ at ≤ length (now s) ⌝ }
-    ensures { λ r. ⌜ ThinRun (now (s .entry)) at most r ⌝ }
+    ensures { λ r. ⌜ SinglesBelow (now (s .entry)) at most r ⌝ }
 {
     let mut k = 0;
     while k < most {
-        if !is_thin(s, at + 43 * k) {
+        if !is_single_before_child(s, at + SINGLE_SIZE * k) {
             return k;
         }
         k += 1;

@@ -1,3 +1,3 @@
--- `Forest` has the laws of all nodes, `LoneLaws` those of runs with their fronts. Assumes nothing.
+-- `Forest` has the laws of all nodes, `RunBelow` those of runs with their fronts. Assumes nothing.
 pub mod Forest
-pub mod LoneLaws
+pub mod RunBelow

@@ -1,4 +1,5 @@
 // The index rule at all nodes below the root: each child with its fronts, runs of nodes with one child at once.
+use fronts::Place;
 use image_walk::Slot;
 ghost use mathlib.Core.Path.{_≡_};
 ghost use mathlib.Core.Bool.{true, false};
@@ -6,7 +7,7 @@ ghost use Prim.Native.Nat.{_+_, _*_, _≤_, _<_};
 ghost use lib.ListN.{length};
 ghost use Rattle.node_rule.specs.Parts.{HasTable};
 ghost use Rattle.single_runs.specs.Says.{ChildAsked, ChildSays, ChildrenAsked, ChildrenSays};
-ghost use Rattle.single_runs.specs.Runs.{LeafSays, LoneSays, SaysNone};
+ghost use Rattle.single_runs.specs.Runs.{LeafSays, RunSays, SaysNone};
 ghost use Rattle.single_runs.specs.Singles.{SinglesSay};
 
 // Whether the child in a table of one entry has neither chunk nor suffix.
@@ -64,18 +65,26 @@ fn leaf_right(s: &[u8], table: usize, other: usize, lists: &mut [usize]) -> Leaf
     }
 }
 
+// The children in the table of a node at depth, where left levels are left below the node.
+pub struct Siblings {
+    pub table: usize,
+    pub children: usize,
+    pub depth: usize,
+    pub left: usize,
+}
+
 // Where the run below a node ends, and whether its last node is right; or all below it, if the run ended at leaves.
-struct Lone {
+struct RunEnd {
     pub levels: usize,
     pub table: usize,
     pub right: bool,
     pub ended: bool,
 }
 
-fn no_run(table: usize) -> Lone
+fn no_run(table: usize) -> RunEnd
     ensures { λ r. ⌜ (r .levels ≡ 0) × (r .table ≡ table) × (r .right ≡ true) × (r .ended ≡ false) ⌝ }
 {
-    Lone {
+    RunEnd {
         levels: 0,
         table,
         right: true,
@@ -84,10 +93,10 @@ fn no_run(table: usize) -> Lone
 }
 
 // A run that ended at leaves.
-fn leaf_run(table: usize, right: bool) -> Lone
+fn leaf_run(table: usize, right: bool) -> RunEnd
     ensures { λ r. ⌜ (r .levels ≡ 0) × (r .table ≡ table) × (r .right ≡ right) × (r .ended ≡ true) ⌝ }
 {
-    Lone {
+    RunEnd {
         levels: 0,
         table,
         right,
@@ -96,7 +105,7 @@ fn leaf_run(table: usize, right: bool) -> Lone
 }
 
 // The run below a node that has no front.
-fn run_without_front(s: &[u8], table: usize, children: usize, left: usize) -> Lone
+fn run_without_front(s: &[u8], table: usize, children: usize, left: usize) -> RunEnd
     requires { ⌜ HasTable (now s) table children ⌝ }
     ensures { λ r. ⌜ SinglesSay (now (s .entry)) table children left (r .levels) (r .table) (r .right) (r .ended) ⌝ }
 {
@@ -104,7 +113,7 @@ fn run_without_front(s: &[u8], table: usize, children: usize, left: usize) -> Lo
         return no_run(table);
     }
     let run = single_runs::single_run(s, table, left);
-    Lone {
+    RunEnd {
         levels: run.levels,
         table: run.table,
         right: true,
@@ -112,40 +121,43 @@ fn run_without_front(s: &[u8], table: usize, children: usize, left: usize) -> Lo
     }
 }
 
-// The run below a node at depth that has fronts; its last front is put on the stack.
+// The run below a node that has fronts; its last front is put on the stack.
 fn run_with_front(
     s: &[u8],
-    table: usize,
-    children: usize,
-    depth: usize,
+    below: Siblings,
     fronts: &mut [usize],
     count: usize,
     lists: &mut [usize],
-    left: usize,
-) -> Lone
-    requires { ⌜ ChildrenAsked (now s) table children depth (now fronts) count (now lists) left ⌝ }
-    ensures { λ r. ⌜ LoneSays (now (s .entry)) table children depth (now (fronts .entry)) count left (now (fronts .exit)) (r .levels) (r .table) (r .right) (r .ended) ⌝ }
+) -> RunEnd
+    requires { ⌜ ChildrenAsked (now s) (below .table) (below .children) (below .depth) (now fronts) count (now lists) (below .left) ⌝ }
+    ensures { λ r. ⌜ RunSays (now (s .entry)) (below .table) (below .children) (below .depth) (now (fronts .entry)) count (below .left) (now (fronts .exit)) (r .levels) (r .table) (r .right) (r .ended) ⌝ }
 {
     if count != 1 {
-        return no_run(table);
+        return no_run(below.table);
     }
-    if children != 1 {
-        return no_run(table);
+    if below.children != 1 {
+        return no_run(below.table);
     }
-    let from = depth * 768;
+    let from = below.depth * fronts::LEVEL_SIZE;
     if fronts[from + 1] != 1 {
-        return no_run(table);
+        return no_run(below.table);
     }
-    let run = single_runs::common_run(s, table, fronts[from], left);
+    let run = single_runs::common_run(s, below.table, fronts[from], below.left);
     let leaf = leaf_right(s, run.table, run.other, lists);
     if leaf.found {
-        return leaf_run(table, leaf.right);
+        return leaf_run(below.table, leaf.right);
     }
     if run.levels == 0 {
-        return no_run(table);
+        return no_run(below.table);
     }
-    fronts::put_front(fronts, (depth + run.levels) * 768, run.other, 1, 0);
-    Lone {
+    fronts::put_front(
+        fronts,
+        (below.depth + run.levels) * fronts::LEVEL_SIZE,
+        run.other,
+        1,
+        0,
+    );
+    RunEnd {
         levels: run.levels,
         table: run.table,
         right: owes_none(s, run.table, lists),
@@ -153,97 +165,99 @@ fn run_with_front(
     }
 }
 
-// The run below a node at depth, if there is one.
-fn lone_run(
+// The run below a node, if there is one.
+fn run_below(
     s: &[u8],
-    table: usize,
-    children: usize,
-    depth: usize,
+    below: Siblings,
     fronts: &mut [usize],
     count: usize,
     lists: &mut [usize],
-    left: usize,
-) -> Lone
-    requires { ⌜ ChildrenAsked (now s) table children depth (now fronts) count (now lists) left ⌝ }
-    ensures { λ r. ⌜ LoneSays (now (s .entry)) table children depth (now (fronts .entry)) count left (now (fronts .exit)) (r .levels) (r .table) (r .right) (r .ended) ⌝ }
+) -> RunEnd
+    requires { ⌜ ChildrenAsked (now s) (below .table) (below .children) (below .depth) (now fronts) count (now lists) (below .left) ⌝ }
+    ensures { λ r. ⌜ RunSays (now (s .entry)) (below .table) (below .children) (below .depth) (now (fronts .entry)) count (below .left) (now (fronts .exit)) (r .levels) (r .table) (r .right) (r .ended) ⌝ }
 {
     if count == 0 {
-        return run_without_front(s, table, children, left);
+        return run_without_front(s, below.table, below.children, below.left);
     }
-    run_with_front(s, table, children, depth, fronts, count, lists, left)
+    run_with_front(s, below, fronts, count, lists)
 }
 
-// One child of a node at depth, by byte at index at: its prefixes are the chunks and prefixes of its fronts, one address
+// One child: its prefixes are the chunks and prefixes of its fronts, one address
 // further on, and it and all below it is right, where left levels are left below it.
 fn child_right(
     s: &[u8],
-    byte: u8,
-    at: usize,
-    depth: usize,
+    child: Place,
     fronts: &mut [usize],
     count: usize,
     lists: &mut [usize],
     left: usize,
 ) -> bool
-    requires { ⌜ ChildAsked (now s) at depth (now fronts) count (now lists) left ⌝ }
-    ensures { λ r. ⌜ ChildSays (now (s .entry)) byte at depth (now (fronts .entry)) count left (now (fronts .exit)) r ⌝ }
+    requires { ⌜ ChildAsked (now s) (child .at) (child .depth) (now fronts) count (now lists) left ⌝ }
+    ensures { λ r. ⌜ ChildSays (now (s .entry)) (child .byte) (child .at) (child .depth) (now (fronts .entry)) count left (now (fronts .exit)) r ⌝ }
 {
-    let c = image_walk::node_at(s, at);
-    let found = fronts::next_fronts(s, byte, depth, fronts, count, lists, at);
+    let c = image_walk::node_at(s, child.at);
+    let found = fronts::next_fronts(s, child, fronts, count, lists);
     if !location_lists::is_union(s, c.prefixes, c.prefix_count, 1, lists, found.lists) {
         return false;
     }
-    // The nodes below come first, so that the image is read in its order.
-    if !children_right(
-        s,
-        c.table,
-        c.children,
-        depth + 1,
-        fronts,
-        found.fronts,
-        lists,
+    let depth = child.depth + 1;
+    let below = Siblings {
+        table: c.table,
+        children: c.children,
+        depth,
         left,
-    ) {
+    };
+    // The nodes below come first, so that the image is read in its order.
+    if !children_right(s, below, fronts, found.fronts, lists) {
         return false;
     }
-    node_rule::node_right(s, c, depth + 1, lists)
+    node_rule::node_right(s, c, depth, lists)
 }
 
-// The children in the table of a node at depth: each is right, and each child of a front is a front of one of them.
+// The children of a node: each is right, and each child of a front is a front of one of them.
 pub fn children_right(
     s: &[u8],
-    table: usize,
-    children: usize,
-    depth: usize,
+    below: Siblings,
     fronts: &mut [usize],
     count: usize,
     lists: &mut [usize],
-    left: usize,
 ) -> bool
-    requires { ⌜ ChildrenAsked (now s) table children depth (now fronts) count (now lists) left ⌝ }
-    ensures { λ r. ⌜ ChildrenSays (now (s .entry)) table children depth (now (fronts .entry)) count left (now (fronts .exit)) r ⌝ }
+    requires { ⌜ ChildrenAsked (now s) (below .table) (below .children) (below .depth) (now fronts) count (now lists) (below .left) ⌝ }
+    ensures { λ r. ⌜ ChildrenSays (now (s .entry)) (below .table) (below .children) (below .depth) (now (fronts .entry)) count (below .left) (now (fronts .exit)) r ⌝ }
 {
-    let run = lone_run(s, table, children, depth, fronts, count, lists, left);
+    let run = run_below(s, below, fronts, count, lists);
     if run.ended {
         return run.right;
     }
     if !run.right {
         return false;
     }
-    let levels = left - run.levels;
+    let levels = below.left - run.levels;
     if levels == 0 {
         return true;
     }
-    let here = depth + run.levels;
+    let here = below.depth + run.levels;
     let mut j = 0;
-    while j < children {
-        let slot = image_walk::slot_in(s, run.table, children, j);
+    while j < below.children {
+        let slot = image_walk::slot_in(s, run.table, below.children, j);
         j += 1;
         if let Slot::Taken { byte, at } = slot {
-            if !child_right(s, byte, at, here, fronts, count, lists, levels - 1) {
+            let child = Place {
+                byte,
+                at,
+                depth: here,
+            };
+            if !child_right(s, child, fronts, count, lists, levels - 1) {
                 return false;
             }
         }
     }
-    fronts::fronts_within(s, run.table, children, fronts, here * 768, count)
+    fronts::fronts_within(
+        s,
+        run.table,
+        below.children,
+        fronts,
+        here * fronts::LEVEL_SIZE,
+        count,
+    )
 }

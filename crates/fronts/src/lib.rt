@@ -19,6 +19,9 @@ ghost use Rattle.fronts.specs.Marks.{Unmarked, SaysMarks, SaysMarked, Sa
 // The nodes whose path has one byte more in front are a node's fronts. Each is three numbers on a stack of 256 for each
 // depth: its table, how many entries that has, and a mask of their bytes.
 
+// The numbers of a depth on the stack: 256 fronts of three.
+pub const LEVEL_SIZE: usize = 768;
+
 // Adds the chunks and prefixes of a front to count lists; how many there are then.
 pub fn add_front(lists: &mut [usize], count: usize, n: Node) -> usize
     requires { ⌜ (count * 2 + 4 ≤ length (now lists)) × (n .chunks + n .«chunk_count» * 24 < 2 ^ 64) × (n .prefixes + n .«prefix_count» * 24 < 2 ^ 64) ⌝ }
@@ -82,8 +85,8 @@ fn fronts_by(
     requires { ⌜ HasFronts (now s) (now fronts) (depth * 768) count × (depth ≤ 15) × (13056 ≤ length (now fronts)) × (1025 ≤ length (now lists)) ⌝ }
     ensures { λ r. ⌜ NextFronts (now (s .entry)) byte depth (now (fronts .entry)) count (now (fronts .exit)) (r .fronts) (now (lists .exit)) (r .lists) ⌝ }
 {
-    let from = depth * 768;
-    let to = (depth + 1) * 768;
+    let from = depth * LEVEL_SIZE;
+    let to = (depth + 1) * LEVEL_SIZE;
     let mut met = 0;
     let mut listed = 0;
     let mut i = 0;
@@ -107,21 +110,26 @@ fn fronts_by(
     }
 }
 
-// The fronts of the child by byte at index at. Below the root they are many, and are read ahead with all below them.
+// The child by byte at index at, of a node at depth.
+pub struct Place {
+    pub byte: u8,
+    pub at: usize,
+    pub depth: usize,
+}
+
+// The fronts of a child. Below the root they are many, and are read ahead with all below them.
 pub fn next_fronts(
     s: &[u8],
-    byte: u8,
-    depth: usize,
+    child: Place,
     fronts: &mut [usize],
     count: usize,
     lists: &mut [usize],
-    at: usize,
 ) -> Found
-    requires { ⌜ HasFronts (now s) (now fronts) (depth * 768) count × (depth ≤ 15) × (13056 ≤ length (now fronts)) × (1025 ≤ length (now lists)) ⌝ }
-    ensures { λ r. ⌜ NextFronts (now (s .entry)) byte depth (now (fronts .entry)) count (now (fronts .exit)) (r .fronts) (now (lists .exit)) (r .lists) ⌝ }
+    requires { ⌜ HasFronts (now s) (now fronts) (child .depth * 768) count × (child .depth ≤ 15) × (13056 ≤ length (now fronts)) × (1025 ≤ length (now lists)) ⌝ }
+    ensures { λ r. ⌜ NextFronts (now (s .entry)) (child .byte) (child .depth) (now (fronts .entry)) count (now (fronts .exit)) (r .fronts) (now (lists .exit)) (r .lists) ⌝ }
 {
-    look_ahead(s, byte, depth, fronts, count, at, lists);
-    fronts_by(s, byte, depth, fronts, count, lists)
+    look_ahead(s, child, fronts, count, lists);
+    fronts_by(s, child.byte, child.depth, fronts, count, lists)
 }
 
 // How many parts of 64 bytes of n bytes are among room bytes.
@@ -175,23 +183,18 @@ fn read_ahead(s: &[u8], byte: u8, fronts: &[usize], count: usize, at: usize) -> 
     sum
 }
 
-// Reads ahead for a child of the root; depth is its parent's. The number has a place of its own behind the lists.
-fn look_ahead(
-    s: &[u8],
-    byte: u8,
-    depth: usize,
-    fronts: &[usize],
-    count: usize,
-    at: usize,
-    lists: &mut [usize],
-)
-    requires { ⌜ HasFronts (now s) (now fronts) (depth * 768) count × (13056 ≤ length (now fronts)) × (1025 ≤ length (now lists)) ⌝ }
-    ensures { λ _. ⌜ now (lists .exit) ≡ cond (eqb depth 0) (set (now (lists .entry)) 1024 (shares-read (now (s .entry)) byte (now (fronts .entry)) count at)) (now (lists .entry)) ⌝ }
+// The place behind the lists for the number that is read ahead.
+const AHEAD: usize = 1024;
+
+// Reads ahead for a child of the root.
+fn look_ahead(s: &[u8], child: Place, fronts: &[usize], count: usize, lists: &mut [usize])
+    requires { ⌜ HasFronts (now s) (now fronts) (child .depth * 768) count × (13056 ≤ length (now fronts)) × (1025 ≤ length (now lists)) ⌝ }
+    ensures { λ _. ⌜ now (lists .exit) ≡ cond (eqb (child .depth) 0) (set (now (lists .entry)) 1024 (shares-read (now (s .entry)) (child .byte) (now (fronts .entry)) count (child .at))) (now (lists .entry)) ⌝ }
 {
-    if depth != 0 {
+    if child.depth != 0 {
         return;
     }
-    lists[1024] = read_ahead(s, byte, fronts, count, at) as usize;
+    lists[AHEAD] = read_ahead(s, child.byte, fronts, count, child.at) as usize;
 }
 
 // Whether a mask tells that a byte is not among its bytes.

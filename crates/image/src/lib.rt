@@ -44,12 +44,12 @@ fn read_table(s: &[u8], c: Children, left: usize) -> Past
 }
 
 // The node at an index, with as many levels yet allowed as left says: where there is none, the flag before it is wrong.
-// It steps over thin nodes first, which are most of them.
+// It steps over nodes with one child and no lists first, which are most of them.
 fn read_node(s: &[u8], at: usize, left: usize) -> Past
     requires { ⌜ at ≤ length (now s) ⌝ }
     ensures { λ r. ⌜ step-of r ≡ read-node (now (s .entry)) left at ⌝ }
 {
-    let thin = fields::thin_run(s, at, left);
+    let thin = fields::singles_below(s, at, left);
     let levels = left - thin;
     if levels == 0 {
         return fields::refuse(definitions::IMAGE_BROKEN);

@@ -7,6 +7,12 @@ ghost use Rattle.fields.specs.Answers.{layout-of};
 ghost use Rattle.image_format.specs.Reading.{RightImage};
 ghost use Rattle.index_rule.specs.Check.{check-image};
 
+// The numbers of the stack of fronts: 17 depths of 256 fronts of three.
+const STACK_SIZE: usize = 13056;
+
+// The numbers of the lists: 512 lists of two, and one that is read ahead.
+const LISTS_SIZE: usize = 1025;
+
 // Whether the finished index rule holds of an image whose layout is right.
 pub fn index_rule(s: &[u8]) -> bool
     requires { ⌜ RightImage (now s) ⌝ }
@@ -15,23 +21,20 @@ pub fn index_rule(s: &[u8]) -> bool
     if s[0] == 0 {
         return true;
     }
-    let mut fronts = [0usize; 13056];
-    let mut lists = [0usize; 1025];
+    let mut fronts = [0usize; STACK_SIZE];
+    let mut lists = [0usize; LISTS_SIZE];
     let root = image_walk::node_at(s, 0);
     if !node_rule::node_right(s, root, 0, &mut lists) {
         return false;
     }
     let count = fronts::root_fronts(s, root.table, root.children, &mut fronts);
-    forest_rule::children_right(
-        s,
-        root.table,
-        root.children,
-        0,
-        &mut fronts,
-        count,
-        &mut lists,
-        16,
-    )
+    let below = forest_rule::Siblings {
+        table: root.table,
+        children: root.children,
+        depth: 0,
+        left: 16,
+    };
+    forest_rule::children_right(s, below, &mut fronts, count, &mut lists)
 }
 
 // An image: its layout, and then the index rule of what it holds.

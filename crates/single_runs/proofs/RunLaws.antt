@@ -17,7 +17,7 @@ use Rattle.trie.specs.Test.{all-ended, and-list, child-lists, front-lists, is-u
 use Rattle.trie.proofs.Union.{both}
 use Rattle.location_lists.specs.Lists.{Lists as ListsIn, lists-in, count-with}
 use Rattle.image_format.specs.Held.{Entry}
-use Rattle.fields.specs.Thin.{Bare, SingleWithoutLists}
+use Rattle.fields.specs.Singles.{Bare, SingleWithoutLists}
 use Rattle.image_walk.specs.Parts.{parts-at}
 use Rattle.image_walk.specs.Tables.{slot-in}
 use Rattle.image_walk.specs.Here.{Laid}
@@ -25,7 +25,7 @@ use Rattle.image_walk.proofs.Parts.{parts-are, room-last}
 use Rattle.node_rule.specs.Parts.{TableOf, PartsOf, HasTable}
 use Rattle.single_runs.specs.Says.{children-right}
 use Rattle.node_rule.specs.OneNode.{ChildLists, with-two}
-use Rattle.single_runs.specs.Runs.{LoneTable, BareSingle, byte-behind, Down, RunAt, RunTo, SaysNone, is-leaf, LeafSays}
+use Rattle.single_runs.specs.Runs.{SingleTable, BareSingle, byte-behind, Down, RunAt, RunTo, SaysNone, is-leaf, LeafSays}
 use Rattle.node_rule.proofs.Tables.{Next, slot-taken, slots-end}
 use Rattle.node_rule.proofs.Parts.{parts-of}
 use Rattle.node_rule.proofs.Children.{next-laid}
@@ -91,13 +91,13 @@ module _ (s : List ℕ) (at : ℕ) (b : Bare s at) where
       let y : at + 1 + 8 + 24 * 0 + 8 + 24 * 0 + 8 ≡ at + 25 = omega arith in
       sym (ap (λ (y : Parts). y .suffixes) p) ∙ y
 
-  pub bare-some : (u r : ℕ) → u ≡ le64 s (at + 17) → LoneTable s (at + 25 + 24 * u) r → BareSingle (parts-at s at) r
+  pub bare-some : (u r : ℕ) → u ≡ le64 s (at + 17) → SingleTable s (at + 25 + 24 * u) r → BareSingle (parts-at s at) r
   bare-some u r e l = subst (BareSingle (parts-at s at)) (l .table-is) (bare-parts u e (sym (l .one)) .0)
 
-  pub bare-none : (u r : ℕ) → u ≡ le64 s (at + 17) → u ≡ 0 → LoneTable s (at + 25) r → BareSingle (parts-at s at) r
+  pub bare-none : (u r : ℕ) → u ≡ le64 s (at + 17) → u ≡ 0 → SingleTable s (at + 25) r → BareSingle (parts-at s at) r
   bare-none u r e z l =
       let x : at + 25 ≡ at + 25 + 24 * u = omega arith in
-      bare-some u r e (subst (λ (y : ℕ). LoneTable s y r) x l)
+      bare-some u r e (subst (λ (y : ℕ). SingleTable s y r) x l)
 
 pub without-lists : (s : List ℕ) (at : ℕ) → SingleWithoutLists s at → BareSingle (parts-at s at) (at + 33) × (parts-at s at .«suffix_count» ≡ 0)
 without-lists s at h =

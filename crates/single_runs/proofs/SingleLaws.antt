@@ -16,22 +16,22 @@ use Rattle.trie.specs.Trie.{Lists, Forest, leaf, more, Node}
 use Rattle.trie.specs.Test.{is-union, moved-back}
 use Rattle.trie.proofs.Union.{true-same}
 use Rattle.image_format.specs.Held.{Entry}
-use Rattle.fields.specs.Thin.{Bare}
+use Rattle.fields.specs.Singles.{Bare}
 use Rattle.image_walk.specs.Parts.{parts-at}
 use Rattle.image_walk.specs.Tables.{slot-in}
 use Rattle.image_walk.specs.Here.{Laid}
 use Rattle.node_rule.specs.Parts.{TableOf, PartsOf, HasTable}
 use Rattle.fronts.specs.Fronts.{FrontsHere}
 use Rattle.single_runs.specs.Says.{children-right}
-use Rattle.single_runs.specs.Runs.{BareSingle, Further, LoneSays}
-use Rattle.single_runs.specs.Singles.{Single, SingleTo, SingleIn, SinglesAt, SinglesTo, SinglesSay}
+use Rattle.single_runs.specs.Runs.{BareSingle, Further, RunSays}
+use Rattle.single_runs.specs.Singles.{SingleWithSuffix, SingleTo, SingleIn, SinglesAt, SinglesTo, SinglesSay}
 use Rattle.fronts.proofs.Fronts.{kept-none}
 use Rattle.single_runs.proofs.RunLaws.{bare-parts, bare-place, bare-room, no-locations, not-so, one-location, only, only-is, only-leads, only-parts}
 use Rattle.image_walk.specs.declared.Node.{Node as Parts}
 
 -- ── one node ──
 
-pub single-parts : (s : List ℕ) (at : ℕ) → Bare s at → Laid s at → 1 ≡ le64 s (at + 17) → 1 ≡ le64 s (at + 49) → Single s at
+pub single-parts : (s : List ℕ) (at : ℕ) → Bare s at → Laid s at → 1 ≡ le64 s (at + 17) → 1 ≡ le64 s (at + 49) → SingleWithSuffix s at
 single-parts s at b h e f =
     let x : at + 49 ≡ at + 25 + 24 * 1 = omega arith in
     let y : at + 25 + 24 * 1 + 8 ≡ at + 57 = omega arith in
@@ -42,10 +42,10 @@ single-parts s at b h e f =
 -- ── a table that leads to one ──
 
 module _ (s : List ℕ) (table : ℕ) (e : Entry) (q : some e ≡ slot-in s table 1 0) where
-  single-at : (at : ℕ) → e .node ≡ at → Single s at → (d : ℕ) (g : Forest) → TableOf s d table 1 g → (place to : ℕ) → at + 25 ≡ place → at + 57 ≡ to → (byte : ℕ) × (lists : Lists) × (below : Forest) ×
+  single-at : (at : ℕ) → e .node ≡ at → SingleWithSuffix s at → (d : ℕ) (g : Forest) → TableOf s d table 1 g → (place to : ℕ) → at + 25 ≡ place → at + 57 ≡ to → (byte : ℕ) × (lists : Lists) × (below : Forest) ×
       (g ≡ more byte lists below leaf) × ([] ≡ lists .prefixes) × ([] ≡ lists .chunks) × (location-at s place ∷ [] ≡ lists .suffixes) × TableOf s (d - 1) to 1 below
   single-at at z x d g t place to i j =
-      let w : Single s (e .node) = subst (Single s) (sym z) x in
+      let w : SingleWithSuffix s (e .node) = subst (SingleWithSuffix s) (sym z) x in
       let a = only s table e q d g t in
       let p = only-parts s table e q d g t in
       let u : parts-at s (e .node) .suffixes ≡ place = w .place ∙ ap (λ (y : ℕ). y + 25) z ∙ i in
@@ -60,7 +60,7 @@ module _ (s : List ℕ) (table : ℕ) (e : Entry) (q : some e ≡ slot-in s tabl
         subst (λ (y : ℕ). TableOf s (d - 1) y 1 (a .below)) v (only-leads s table e q d g t (e .node + 57) (w .bare)),
       )
 
-  pub single-in : e .node ≡ table + 10 → Single s (table + 10) → SingleIn s table
+  pub single-in : e .node ≡ table + 10 → SingleWithSuffix s (table + 10) → SingleIn s table
   single-in z x = record { room = omega (arith, x .room); is = is }
     where
       is : (d : ℕ) (g : Forest) → TableOf s d table 1 g → SingleTo s d table g
@@ -142,8 +142,8 @@ module _ (s : List ℕ) (table children left : ℕ) where
   says-run k t c r = subst (λ (n : ℕ). SinglesSay s table n left k t true false) (sym c) (record { few = r .few; right-is = refl; ended-is = refl; is = r .is })
 
 -- with an empty stack
-pub singles-lone : (s : List ℕ) (table children depth : ℕ) (old : List ℕ) (count left k t : ℕ) (right ended : Bool) → count ≡ 0 → SinglesSay s table children left k t right ended → LoneSays s table children depth old count left old k t right ended
-singles-lone s table children depth old count left k t right ended z r =
+pub singles-below : (s : List ℕ) (table children depth : ℕ) (old : List ℕ) (count left k t : ℕ) (right ended : Bool) → count ≡ 0 → SinglesSay s table children left k t right ended → RunSays s table children depth old count left old k t right ended
+singles-below s table children depth old count left k t right ended z r =
     record { few = r .few; kept = kept-none ((depth + 1) * 768) old; is = λ _. is; end = λ e. not-so (sym (r .ended-is) ∙ e) }
   where
     no-fronts : (fs : List Node) → length fs ≡ count → fs ≡ []

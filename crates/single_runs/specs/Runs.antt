@@ -15,7 +15,7 @@ use Rattle.single_runs.specs.Says.{children-right}
 use Rattle.image_walk.specs.declared.Node.{Node as Parts}
 
 -- a table of one entry behind its count at an index
-pub record LoneTable (s : List ℕ) (behind table : ℕ) : Type 0 where
+pub record SingleTable (s : List ℕ) (behind table : ℕ) : Type 0 where
   pub one : le64 s behind ≡ 1
   pub table-is : behind + 8 ≡ table
 
@@ -76,7 +76,7 @@ pub record Further (s : List ℕ) (depth children : ℕ) (count left : ℕ) (fro
   pub same : (right && children-right (depth + k) nodes below) ≡ children-right depth fs g
 
 -- where the run ends at leaves, it is all that there is to say
-pub record LoneSays (s : List ℕ) (table children depth : ℕ) (old : List ℕ) (count left : ℕ) (fronts : List ℕ) (k t : ℕ) (right ended : Bool) : Type 0 where
+pub record RunSays (s : List ℕ) (table children depth : ℕ) (old : List ℕ) (count left : ℕ) (fronts : List ℕ) (k t : ℕ) (right ended : Bool) : Type 0 where
   pub few : k ≤ left
   pub kept : KeptBelow ((depth + 1) * 768) old fronts
   pub is : ended ≡ false → (g : Forest) (fs : List Node) → TableOf s left table children g → FrontsHere s (left - 1) old (depth * 768) count fs → Further s depth children count left fronts k t right g fs

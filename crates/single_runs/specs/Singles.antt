@@ -12,7 +12,7 @@ use Rattle.single_runs.specs.Runs.{BareSingle}
 use Rattle.single_runs.specs.Says.{children-right}
 
 -- the node at an index has one child, one suffix, and neither prefix nor chunk
-pub record Single (s : List ℕ) (at : ℕ) : Type 0 where
+pub record SingleWithSuffix (s : List ℕ) (at : ℕ) : Type 0 where
   pub bare : BareSingle (parts-at s at) (at + 57)
   pub one : parts-at s at .«suffix_count» ≡ 1
   pub place : parts-at s at .suffixes ≡ at + 25

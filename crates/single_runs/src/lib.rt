@@ -3,7 +3,7 @@ use image_walk::Node;
 use image_walk::Slot;
 ghost use mathlib.Core.Path.{_≡_};
 ghost use mathlib.Core.Bool.{false, true};
-ghost use Rattle.single_runs.specs.Runs.{is-leaf, LoneTable, BareSingle, byte-behind, Down, RunTo};
+ghost use Rattle.single_runs.specs.Runs.{is-leaf, SingleTable, BareSingle, byte-behind, Down, RunTo};
 ghost use Prim.Native.Nat.{_+_, _≤_};
 ghost use lib.ListN.{length};
 ghost use Rattle.image_walk.specs.Parts.{parts-at};
@@ -11,7 +11,7 @@ ghost use Rattle.image_walk.specs.Tables.{slot-in};
 ghost use Rattle.image_walk.specs.Here.{Laid};
 ghost use Rattle.node_rule.specs.Parts.{HasTable};
 ghost use Rattle.definitions.specs.Location.{location-at};
-ghost use Rattle.single_runs.specs.Singles.{Single, SingleIn, SinglesTo};
+ghost use Rattle.single_runs.specs.Singles.{SingleWithSuffix, SingleIn, SinglesTo};
 
 // Whether a node is a leaf with one prefix, and neither chunk nor suffix.
 pub fn is_leaf(n: Node) -> bool
@@ -30,9 +30,9 @@ pub fn is_leaf(n: Node) -> bool
 }
 
 // The table behind its count at an index, if that is 1, or else 0.
-fn lone_table(s: &[u8], behind: usize) -> usize
+fn single_table(s: &[u8], behind: usize) -> usize
     requires { ⌜ behind + 8 ≤ length (now s) ⌝ }
-    ensures { λ r. ⌜ ((r ≡ 0 → ⊥) → LoneTable (now (s .entry)) behind r) ⌝ }
+    ensures { λ r. ⌜ ((r ≡ 0 → ⊥) → SingleTable (now (s .entry)) behind r) ⌝ }
 {
     if words::get64(s, behind) != 1 {
         return 0;
@@ -41,7 +41,7 @@ fn lone_table(s: &[u8], behind: usize) -> usize
 }
 
 // The table of the node at an index, if that has one child and neither prefix nor chunk, or else 0.
-fn bare_table(s: &[u8], at: usize) -> usize
+fn bare_single_table(s: &[u8], at: usize) -> usize
     requires { ⌜ Laid (now s) at ⌝ }
     ensures { λ r. ⌜ ((r ≡ 0 → ⊥) → BareSingle (parts-at (now (s .entry)) at) r) ⌝ }
 {
@@ -50,9 +50,9 @@ fn bare_table(s: &[u8], at: usize) -> usize
     }
     let n = words::get64(s, at + 17) as usize;
     if n == 0 {
-        return lone_table(s, at + 25);
+        return single_table(s, at + 25);
     }
-    lone_table(s, at + 25 + 24 * n)
+    single_table(s, at + 25 + 24 * n)
 }
 
 // No byte.
@@ -72,6 +72,9 @@ fn byte_behind(s: &[u8], table: usize) -> usize
     }
     byte as usize
 }
+
+// The bytes of a node without lists up to its table.
+const HEAD_SIZE: usize = 33;
 
 // The tables of two nodes, if both is true.
 struct Pair {
@@ -108,12 +111,12 @@ fn both_down(s: &[u8], table: usize, other: usize) -> Pair
     if !fields::is_single_without_lists(s, due) {
         return apart();
     }
-    let next = bare_table(s, front_due);
+    let next = bare_single_table(s, front_due);
     if next == 0 {
         return apart();
     }
     Pair {
-        table: due + 33,
+        table: due + HEAD_SIZE,
         other: next,
         both: true,
     }
@@ -155,9 +158,9 @@ pub fn common_run(s: &[u8], table: usize, other: usize, most: usize) -> Run
 }
 
 // Whether the node at an index is of kind 3 and has one suffix, one child, and neither prefix nor chunk.
-fn is_single(s: &[u8], at: usize) -> bool
+fn is_single_with_suffix(s: &[u8], at: usize) -> bool
     requires { ⌜ Laid (now s) at ⌝ }
-    ensures { λ r. ⌜ (r ≡ true → Single (now (s .entry)) at) ⌝ }
+    ensures { λ r. ⌜ (r ≡ true → SingleWithSuffix (now (s .entry)) at) ⌝ }
 {
     if !fields::is_bare(s, at) {
         return false;
@@ -169,14 +172,14 @@ fn is_single(s: &[u8], at: usize) -> bool
 }
 
 // Whether the child in a table of one entry stands behind it and is such a node.
-fn has_single(s: &[u8], table: usize) -> bool
+fn has_single_with_suffix(s: &[u8], table: usize) -> bool
     requires { ⌜ HasTable (now s) table 1 ⌝ }
     ensures { λ r. ⌜ (r ≡ true → SingleIn (now (s .entry)) table) ⌝ }
 {
     if byte_behind(s, table) == NO_BYTE {
         return false;
     }
-    is_single(s, table + 10)
+    is_single_with_suffix(s, table + 10)
 }
 
 // Whether the node in a table, which is such a node, has a child that is one too, with the same suffix.
@@ -184,7 +187,7 @@ fn goes_on(s: &[u8], table: usize) -> bool
     requires { ⌜ HasTable (now s) table 1 × SingleIn (now s) table ⌝ }
     ensures { λ r. ⌜ (r ≡ true → SingleIn (now (s .entry)) (table + 67) × (location-at (now (s .entry)) (table + 35) ≡ location-at (now (s .entry)) (table + 102))) ⌝ }
 {
-    if !has_single(s, table + 67) {
+    if !has_single_with_suffix(s, table + 67) {
         return false;
     }
     location_lists::is_at(s, table + 102, location::location_at(s, table + 35))
@@ -201,7 +204,7 @@ pub fn single_run(s: &[u8], table: usize, most: usize) -> SingleRun
     requires { ⌜ HasTable (now s) table 1 ⌝ }
     ensures { λ r. ⌜ SinglesTo (now (s .entry)) table most (r .levels) (r .table) ⌝ }
 {
-    if !has_single(s, table) {
+    if !has_single_with_suffix(s, table) {
         return SingleRun { levels: 0, table };
     }
     let mut levels = 0;

@@ -2,7 +2,7 @@
 use native.Mathlib.Omega.{arith}
 use lib.ListN.{getD}
 use denote.Ref.{now}
-use Rattle.fields.proofs.ThinNodes.{by-test, not-true}
+use Rattle.fields.proofs.Singles.{by-test, not-true}
 use borrow.Author.Needs.{needs}
 use Rattle.fields.proofs.is_bare.Statement.{statement}
 use Rattle.fields.proofs.is_bare.Tie as tie

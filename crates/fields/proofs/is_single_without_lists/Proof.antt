@@ -1,7 +1,7 @@
 -- `fields::is_single_without_lists` meets its contract. Assumes nothing.
 use native.Mathlib.Omega.{arith}
 use borrow.Author.Tests.{not-false}
-use Rattle.fields.proofs.ThinNodes.{by-test, not-true}
+use Rattle.fields.proofs.Singles.{by-test, not-true}
 use borrow.Author.Needs.{needs}
 use Rattle.fields.proofs.is_single_without_lists.Statement.{statement}
 use Rattle.fields.proofs.is_single_without_lists.Tie as tie

@@ -5,59 +5,59 @@ use mathlib.Core.Bool.{false}
 use mathlib.Core.Path.{subst, sym}
 use mathlib.Core.List.{List}
 use denote.Ref.{now}
-use Rattle.single_runs.specs.Runs.{LoneSays}
-use Rattle.forest_rule.proofs.LoneLaws.{lone-front, lone-leaves, lone-none, lone-run, lone-table}
+use Rattle.single_runs.specs.Runs.{RunSays}
+use Rattle.forest_rule.proofs.RunBelow.{below-front, below-leaves, below-none, below-run, below-table}
 use Rattle.single_runs.proofs.RunLaws.{run-other, run-table}
 use borrow.Author.Needs.{needs}
 use Rattle.forest_rule.proofs.run_with_front.Statement.{statement}
 use Rattle.forest_rule.proofs.run_with_front.Tie as tie
 
 returns : tie.Need-returns
-returns c = let a = c .before .before .before .before .before .args in lone-none (now (a .s)) (a .table) (a .children) (a .depth) (now (a .fronts)) (a .count) (a .left) _ _ _ _ (c .no-run .ensures)
+returns c = let a = c .before .before .before .before .before .args in below-none (now (a .s)) (a .below .table) (a .below .children) (a .below .depth) (now (a .fronts)) (a .count) (a .below .left) _ _ _ _ (c .no-run .ensures)
 
 returns-2 : tie.Need-returns-2
-returns-2 c = let a = c .before .before .before .before .before .before .args in lone-none (now (a .s)) (a .table) (a .children) (a .depth) (now (a .fronts)) (a .count) (a .left) _ _ _ _ (c .no-run2 .ensures)
+returns-2 c = let a = c .before .before .before .before .before .before .before .args in below-none (now (a .s)) (a .below .table) (a .below .children) (a .below .depth) (now (a .fronts)) (a .count) (a .below .left) _ _ _ _ (c .no-run2 .ensures)
 
 returns-3 : tie.Need-returns-3
-returns-3 c = let a = c .before .before .before .before .before .before .before .before .args in lone-none (now (a .s)) (a .table) (a .children) (a .depth) (now (a .fronts)) (a .count) (a .left) _ _ _ _ (c .no-run3 .ensures)
+returns-3 c = let a = c .before .before .before .before .before .before .before .before .before .before .args in below-none (now (a .s)) (a .below .table) (a .below .children) (a .below .depth) (now (a .fronts)) (a .count) (a .below .left) _ _ _ _ (c .no-run3 .ensures)
 
 common-run-requires : tie.Need-common-run-requires
 common-run-requires c κs =
-    let a = c .before .before .before .before .before .before .before .before .args in
-    let p = c .before .before .before .before .before .before .before .before .pre in
-    (lone-table (now (a .s)) (a .table) (a .children) (a .depth) (now (a .fronts)) (a .count) (a .left) (now (a .lists)) p (c .before .before .before .if2 .left), lone-front (now (a .s)) (a .table) (a .children) (a .depth) (now (a .fronts)) (a .count) (a .left) (now (a .lists)) p (c .before .before .before .before .if1 .left) (c .before .if3 .left))
+    let a = c .before .before .before .before .before .before .before .before .before .before .args in
+    let p = c .before .before .before .before .before .before .before .before .before .before .pre in
+    (below-table (now (a .s)) (a .below .table) (a .below .children) (a .below .depth) (now (a .fronts)) (a .count) (a .below .left) (now (a .lists)) p (c .before .before .before .before .if2 .left), below-front (now (a .s)) (a .below .table) (a .below .children) (a .below .depth) (now (a .fronts)) (a .count) (a .below .left) (now (a .lists)) p (c .before .before .before .before .before .before .if1 .left) (c .before .if3 .left))
 
 leaf-right-requires : tie.Need-leaf-right-requires
 leaf-right-requires c κs =
-    let a = c .before .before .before .before .before .before .before .before .before .before .args in
-    let p = c .before .before .before .before .before .before .before .before .before .before .pre in
+    let a = c .before .before .before .before .before .before .before .before .before .before .before .before .args in
+    let p = c .before .before .before .before .before .before .before .before .before .before .before .before .pre in
     let r = c .before .common-run in
-    (run-table _ _ _ _ _ _ _ (r .ensures) (lone-table (now (a .s)) (a .table) (a .children) (a .depth) (now (a .fronts)) (a .count) (a .left) (now (a .lists)) p (c .before .before .before .before .before .if2 .left)) (lone-front (now (a .s)) (a .table) (a .children) (a .depth) (now (a .fronts)) (a .count) (a .left) (now (a .lists)) p (c .before .before .before .before .before .before .if1 .left) (c .before .before .before .if3 .left)), run-other _ _ _ _ _ _ _ (r .ensures) (lone-table (now (a .s)) (a .table) (a .children) (a .depth) (now (a .fronts)) (a .count) (a .left) (now (a .lists)) p (c .before .before .before .before .before .if2 .left)) (lone-front (now (a .s)) (a .table) (a .children) (a .depth) (now (a .fronts)) (a .count) (a .left) (now (a .lists)) p (c .before .before .before .before .before .before .if1 .left) (c .before .before .before .if3 .left)), p .lists-room)
+    (run-table _ _ _ _ _ _ _ (r .ensures) (below-table (now (a .s)) (a .below .table) (a .below .children) (a .below .depth) (now (a .fronts)) (a .count) (a .below .left) (now (a .lists)) p (c .before .before .before .before .before .before .if2 .left)) (below-front (now (a .s)) (a .below .table) (a .below .children) (a .below .depth) (now (a .fronts)) (a .count) (a .below .left) (now (a .lists)) p (c .before .before .before .before .before .before .before .before .if1 .left) (c .before .before .before .if3 .left)), run-other _ _ _ _ _ _ _ (r .ensures) (below-table (now (a .s)) (a .below .table) (a .below .children) (a .below .depth) (now (a .fronts)) (a .count) (a .below .left) (now (a .lists)) p (c .before .before .before .before .before .before .if2 .left)) (below-front (now (a .s)) (a .below .table) (a .below .children) (a .below .depth) (now (a .fronts)) (a .count) (a .below .left) (now (a .lists)) p (c .before .before .before .before .before .before .before .before .if1 .left) (c .before .before .before .if3 .left)), p .lists-room)
 
 returns-4 : tie.Need-returns-4
 returns-4 c =
-    let a = c .before .before .before .before .before .before .before .before .before .before .before .before .before .before .before .args in
+    let a = c .before .before .before .before .before .before .before .before .before .before .before .before .before .before .before .before .before .args in
     let r = c .before .before .before .before .before .before .common-run in
     let l = c .before .before .before .before .leaf-right in
-    lone-leaves (now (a .s)) (a .table) (a .children) (a .depth) (now (a .fronts)) (a .count) (a .left) (r .result .levels) (r .result .table) (r .result .other) (r .ensures) (c .before .before .before .before .before .before .before .before .before .before .if2 .left) (c .before .before .before .before .before .before .before .before .before .before .before .if1 .left) (c .before .before .before .before .before .before .before .before .if3 .left) (l .result .right) (l .ensures (c .before .if4 .taken)) _ _ _ _ (c .leaf-run .ensures)
+    below-leaves (now (a .s)) (a .below .table) (a .below .children) (a .below .depth) (now (a .fronts)) (a .count) (a .below .left) (r .result .levels) (r .result .table) (r .result .other) (r .ensures) (c .before .before .before .before .before .before .before .before .before .before .before .if2 .left) (c .before .before .before .before .before .before .before .before .before .before .before .before .before .if1 .left) (c .before .before .before .before .before .before .before .before .if3 .left) (l .result .right) (l .ensures (c .before .if4 .taken)) _ _ _ _ (c .leaf-run .ensures)
 
 returns-5 : tie.Need-returns-5
-returns-5 c = let a = c .before .before .before .before .before .before .before .before .before .before .before .before .before .before .before .before .before .args in lone-none (now (a .s)) (a .table) (a .children) (a .depth) (now (a .fronts)) (a .count) (a .left) _ _ _ _ (c .no-run4 .ensures)
+returns-5 c = let a = c .before .before .before .before .before .before .before .before .before .before .before .before .before .before .before .before .before .before .before .args in below-none (now (a .s)) (a .below .table) (a .below .children) (a .below .depth) (now (a .fronts)) (a .count) (a .below .left) _ _ _ _ (c .no-run4 .ensures)
 
 owes-none-requires : tie.Need-owes-none-requires
 owes-none-requires c κs =
-    let a = c .before .before .before .before .before .before .before .before .before .before .before .before .before .before .before .before .before .before .before .before .before .before .args in
-    let p = c .before .before .before .before .before .before .before .before .before .before .before .before .before .before .before .before .before .before .before .before .before .before .pre in
-    (run-table _ _ _ _ _ _ _ (c .before .before .before .before .before .before .before .before .before .before .before .before .before .common-run .ensures) (lone-table (now (a .s)) (a .table) (a .children) (a .depth) (now (a .fronts)) (a .count) (a .left) (now (a .lists)) p (c .before .before .before .before .before .before .before .before .before .before .before .before .before .before .before .before .before .if2 .left)) (lone-front (now (a .s)) (a .table) (a .children) (a .depth) (now (a .fronts)) (a .count) (a .left) (now (a .lists)) p (c .before .before .before .before .before .before .before .before .before .before .before .before .before .before .before .before .before .before .if1 .left) (c .before .before .before .before .before .before .before .before .before .before .before .before .before .before .before .if3 .left)), omega (arith, p .lists-room, c .before .before .before .before .before .before .before .before .before .before .before .leaf-right .kept .1 .1 .1 .0))
+    let a = c .before .before .before .before .before .before .before .before .before .before .before .before .before .before .before .before .before .before .before .before .before .before .before .before .before .args in
+    let p = c .before .before .before .before .before .before .before .before .before .before .before .before .before .before .before .before .before .before .before .before .before .before .before .before .before .pre in
+    (run-table _ _ _ _ _ _ _ (c .before .before .before .before .before .before .before .before .before .before .before .before .before .before .common-run .ensures) (below-table (now (a .s)) (a .below .table) (a .below .children) (a .below .depth) (now (a .fronts)) (a .count) (a .below .left) (now (a .lists)) p (c .before .before .before .before .before .before .before .before .before .before .before .before .before .before .before .before .before .before .before .if2 .left)) (below-front (now (a .s)) (a .below .table) (a .below .children) (a .below .depth) (now (a .fronts)) (a .count) (a .below .left) (now (a .lists)) p (c .before .before .before .before .before .before .before .before .before .before .before .before .before .before .before .before .before .before .before .before .before .if1 .left) (c .before .before .before .before .before .before .before .before .before .before .before .before .before .before .before .before .if3 .left)), omega (arith, p .lists-room, c .before .before .before .before .before .before .before .before .before .before .before .before .leaf-right .kept .1 .1 .1 .0))
 
 returns-6 : tie.Need-returns-6
 returns-6 c =
-    let a = c .before .before .before .before .before .before .before .before .before .before .before .before .before .before .before .before .before .before .before .before .before .before .before .before .before .args in
-    let p = c .before .before .before .before .before .before .before .before .before .before .before .before .before .before .before .before .before .before .before .before .before .before .before .before .before .pre in
-    let r = c .before .before .before .before .before .before .before .before .before .before .before .before .before .before .before .before .common-run in
+    let a = c .before .before .before .before .before .before .before .before .before .before .before .before .before .before .before .before .before .before .before .before .before .before .before .before .before .before .before .before .args in
+    let p = c .before .before .before .before .before .before .before .before .before .before .before .before .before .before .before .before .before .before .before .before .before .before .before .before .before .before .before .before .pre in
+    let r = c .before .before .before .before .before .before .before .before .before .before .before .before .before .before .before .before .before .common-run in
     let o = c .before .before .owes-none in
-    subst (λ (x : List ℕ). LoneSays (now (a .s)) (a .table) (a .children) (a .depth) (now (a .fronts)) (a .count) (a .left) x (r .result .levels) (r .result .table) (o .result) false) (sym (c .before .before .before .before .before .before .put-front .ensures))
-    (lone-run (now (a .s)) (a .table) (a .children) (a .depth) (now (a .fronts)) (a .count) (a .left) (r .result .levels) (r .result .table) (r .result .other) (r .ensures) (c .before .before .before .before .before .before .before .before .before .if5 .left) (c .before .before .before .before .before .before .before .before .before .before .before .before .before .before .before .before .before .before .before .before .if2 .left) (c .before .before .before .before .before .before .before .before .before .before .before .before .before .before .before .before .before .before .before .before .before .if1 .left) (c .before .before .before .before .before .before .before .before .before .before .before .before .before .before .before .before .before .before .if3 .left) (omega (arith, p .room, p .levels, r .ensures .few)) (o .result) (o .ensures))
+    subst (λ (x : List ℕ). RunSays (now (a .s)) (a .below .table) (a .below .children) (a .below .depth) (now (a .fronts)) (a .count) (a .below .left) x (r .result .levels) (r .result .table) (o .result) false) (sym (c .before .before .before .before .before .before .put-front .ensures))
+    (below-run (now (a .s)) (a .below .table) (a .below .children) (a .below .depth) (now (a .fronts)) (a .count) (a .below .left) (r .result .levels) (r .result .table) (r .result .other) (r .ensures) (c .before .before .before .before .before .before .before .before .before .before .if5 .left) (c .before .before .before .before .before .before .before .before .before .before .before .before .before .before .before .before .before .before .before .before .before .before .if2 .left) (c .before .before .before .before .before .before .before .before .before .before .before .before .before .before .before .before .before .before .before .before .before .before .before .before .if1 .left) (c .before .before .before .before .before .before .before .before .before .before .before .before .before .before .before .before .before .before .before .if3 .left) (omega (arith, p .room, p .levels, r .ensures .few)) (o .result) (o .ensures))
 
 pub run-with-front-spec : {M : Type 1} → statement M
 run-with-front-spec =

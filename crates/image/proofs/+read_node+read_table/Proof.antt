@@ -24,7 +24,7 @@ use Rattle.fields.proofs.next_turn.Reads as next-turn-reads
 use Rattle.fields.proofs.open_table.Reads as open-table-reads
 use Rattle.fields.proofs.read_head.Reads as read-head-reads
 use Rattle.fields.proofs.refuse.Reads as refuse-reads
-use Rattle.fields.proofs.thin_run.Reads as thin-run-reads
+use Rattle.fields.proofs.singles_below.Reads as singles-below-reads
 use Rattle.fields.proofs.turn_at.Reads as turn-at-reads
 use Rattle.image.proofs.+read_node+read_table.{statement}
 use Rattle.image.proofs.+read_node+read_table.Tie.{close}
@@ -51,18 +51,18 @@ read-table-below t =
     and 1 read-table-kinds.ps (falls 1 read-table-kinds.ps _<_ μ-read-table t) read-table.Pre
 
 abbrev read-node-claims : ℕ → read-node-lts.Claims
-read-node-claims t = (thin-run-reads.Asked, thin-run-reads.Learnt, refuse-reads.Asked, refuse-reads.Learnt, read-head-reads.Asked, read-head-reads.Learnt, open-table-reads.Asked, open-table-reads.Learnt, read-table-below t, read-table.Post)
+read-node-claims t = (singles-below-reads.Asked, singles-below-reads.Learnt, refuse-reads.Asked, refuse-reads.Learnt, read-head-reads.Asked, read-head-reads.Learnt, open-table-reads.Asked, open-table-reads.Learnt, read-table-below t, read-table.Post)
 
 read-node-returns : (t : ℕ) → read-node-lts.Need-returns (read-node-claims t) (read-node-at t) read-node.Post
-read-node-returns t c = step-with _ 15 (c .refuse .ensures) (omega arith) ∙ c .before .before .thin-run .ensures .refused 15 (node-zero _ _ _ (c .before .if1 .taken))
+read-node-returns t c = step-with _ 15 (c .refuse .ensures) (omega arith) ∙ c .before .before .singles-below .ensures .refused 15 (node-zero _ _ _ (c .before .if1 .taken))
 
 read-node-read-head-requires : (t : ℕ) → read-node-lts.Need-read-head-requires (read-node-claims t) (read-node-at t) read-node.Post
-read-node-read-head-requires t c κs = c .before .thin-run .ensures .within
+read-node-read-head-requires t c κs = c .before .singles-below .ensures .within
 
 read-node-returns-2 : (t : ℕ) → read-node-lts.Need-returns-2 (read-node-claims t) (read-node-at t) read-node.Post
 read-node-returns-2 t c =
     step-with _ _ (c .refuse2 .ensures) (c .before .if2 .taken) ∙
-    c .before .before .before .before .before .thin-run .ensures .refused _
+    c .before .before .before .before .before .singles-below .ensures .refused _
     (node-head _ _ _ (c .before .before .before .before .if1 .left) _ (sym (head-refused _ (c .before .if2 .taken)) ∙ c .before .before .before .read-head .ensures))
 
 read-node-open-table-requires : (t : ℕ) → read-node-lts.Need-open-table-requires (read-node-claims t) (read-node-at t) read-node.Post
@@ -73,7 +73,7 @@ read-node-open-table-requires t c κs =
 read-node-returns-3 : (t : ℕ) → read-node-lts.Need-returns-3 (read-node-claims t) (read-node-at t) read-node.Post
 read-node-returns-3 t c =
     step-with _ _ (c .refuse3 .ensures) (c .before .if3 .taken) ∙
-    c .before .before .before .before .before .before .before .before .thin-run .ensures .refused _
+    c .before .before .before .before .before .before .before .before .singles-below .ensures .refused _
     (node-open _ _ _ (c .before .before .before .before .before .before .before .if1 .left) _ _ _ _ (sym (head-right _ (c .before .before .before .before .if2 .left)) ∙ c .before .before .before .before .before .before .read-head .ensures)
     (sym (table-refused _ (c .before .if3 .taken)) ∙ c .before .before .before .open-table .ensures))
 
@@ -83,7 +83,7 @@ read-node-read-table-requires t c κs = (omega arith, open-within _ _ _ _ (sym (
 read-node-returns-4 : (t : ℕ) → read-node-lts.Need-returns-4 (read-node-claims t) (read-node-at t) read-node.Post
 read-node-returns-4 t c =
     step-refused _ (c .if4 .taken) ∙
-    c .before .before .before .before .before .before .before .before .before .before .thin-run .ensures .refused _
+    c .before .before .before .before .before .before .before .before .before .before .singles-below .ensures .refused _
     (node-table _ _ _ (c .before .before .before .before .before .before .before .before .before .if1 .left) _ _ _ _ _ (sym (head-right _ (c .before .before .before .before .before .before .if2 .left)) ∙ c .before .before .before .before .before .before .before .before .read-head .ensures)
     (sym (table-right _ (c .before .before .before .if3 .left)) ∙ c .before .before .before .before .before .open-table .ensures)
     (sym (step-refused _ (c .if4 .taken)) ∙ c .before .before .read-table .ensures))
@@ -112,7 +112,7 @@ read-node-add-t12 t c =
 read-node-returns-5 : (t : ℕ) → read-node-lts.Need-returns-5 (read-node-claims t) (read-node-at t) read-node.Post
 read-node-returns-5 t c =
     step-right _ refl ∙
-    c .before .before .before .before .before .before .before .before .before .before .before .before .before .thin-run .ensures .right _ _ _
+    c .before .before .before .before .before .before .before .before .before .before .before .before .before .singles-below .ensures .right _ _ _
     (node-done _ _ _ (c .before .before .before .before .before .before .before .before .before .before .before .before .if1 .left) _ _ _ _ _ _ _ _ (sym (head-right _ (c .before .before .before .before .before .before .before .before .before .if2 .left)) ∙ c .before .before .before .before .before .before .before .before .before .before .before .read-head .ensures)
     (sym (table-right _ (c .before .before .before .before .before .before .if3 .left)) ∙ c .before .before .before .before .before .before .before .before .open-table .ensures)
     (sym (step-right _ (c .before .before .before .if4 .left)) ∙ c .before .before .before .before .before .read-table .ensures))

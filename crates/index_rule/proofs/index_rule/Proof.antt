@@ -59,7 +59,7 @@ returns-3 c =
     let f = c .before .before .before .before .before .before .root-fronts in
     let v = c .before .before .before .before .before .before .before .before .before .before .node-right in
     let x = c .before .before .children-right in
-    rule-by-children (now (a .s)) h (n .result) (n .ensures) (v .result) (v .ensures) (not-false (v .result) (c .before .before .before .before .before .before .before .before .if2 .left)) (f .last .1 .1 .1 .0) (f .result) (f .ensures) (x .last .1 .1 .1 .1 .0) (x .result) (x .ensures)
+    rule-by-children (now (a .s)) h (n .result) (n .ensures) (v .result) (v .ensures) (not-false (v .result) (c .before .before .before .before .before .before .before .before .if2 .left)) (f .last .1 .1 .1 .0) (f .result) (f .ensures) (x .last .1 .1 .0) (x .result) (x .ensures)
 
 pub index-rule-spec : {M : Type 1} → statement M
 index-rule-spec =

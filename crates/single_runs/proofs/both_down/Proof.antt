@@ -26,8 +26,8 @@ is-single-without-lists-requires c κs = let u = c .before .before .before .befo
 returns-3 : tie.Need-returns-3
 returns-3 c = λ e. not-so (sym (c .apart3 .ensures .0) ∙ e)
 
-bare-table-requires : tie.Need-bare-table-requires
-bare-table-requires c κs = let u = c .before .before .before .before .before .before .before in let x = c .before .before .before .byte-behind2 in laid-behind (now (u .args .s)) (u .args .other) (x .result) (x .ensures) (λ e. c .before .before .before .before .if1 .left (sym (c .before .before .if2 .left) ∙ e)) (u .pre .1)
+bare-single-table-requires : tie.Need-bare-single-table-requires
+bare-single-table-requires c κs = let u = c .before .before .before .before .before .before .before in let x = c .before .before .before .byte-behind2 in laid-behind (now (u .args .s)) (u .args .other) (x .result) (x .ensures) (λ e. c .before .before .before .before .if1 .left (sym (c .before .before .if2 .left) ∙ e)) (u .pre .1)
 
 returns-4 : tie.Need-returns-4
 returns-4 c = λ e. not-so (sym (c .apart4 .ensures .0) ∙ e)
@@ -36,7 +36,7 @@ add-t9 : tie.Need-add-t9
 add-t9 c = let u = c .before .before .before .before .before .before .before .before .before in let x = c .before .before .before .before .before .before .before .byte-behind in let r = laid-room _ _ (laid-behind (now (u .args .s)) (u .args .table) (x .result) (x .ensures) (c .before .before .before .before .before .before .if1 .left) (u .pre .0)) in omega arith
 
 returns-5 : tie.Need-returns-5
-returns-5 c = λ _. let a = c .before .before .before .before .before .before .before .before .before .args in let x = c .before .before .before .before .before .before .before .byte-behind in let y = c .before .before .before .before .before .byte-behind2 in goes-behind (now (a .s)) (a .table) (a .other) _ _ (x .result) (y .result) (x .ensures) (c .before .before .before .before .before .before .if1 .left) (y .ensures) (c .before .before .before .before .if2 .left) (without-lists _ _ (c .before .before .before .is-single-without-lists .ensures (not-false _ (c .before .before .if3 .left)))) (c .before .bare-table .ensures (c .if4 .left))
+returns-5 c = λ _. let a = c .before .before .before .before .before .before .before .before .before .args in let x = c .before .before .before .before .before .before .before .byte-behind in let y = c .before .before .before .before .before .byte-behind2 in goes-behind (now (a .s)) (a .table) (a .other) _ _ (x .result) (y .result) (x .ensures) (c .before .before .before .before .before .before .if1 .left) (y .ensures) (c .before .before .before .before .if2 .left) (without-lists _ _ (c .before .before .before .is-single-without-lists .ensures (not-false _ (c .before .before .if3 .left)))) (c .before .bare-single-table .ensures (c .if4 .left))
 
 pub both-down-spec : {M : Type 1} → statement M
 both-down-spec =
@@ -53,7 +53,7 @@ both-down-spec =
     is-single-without-lists-requires
     (λ c κs. search needs)
     returns-3
-    bare-table-requires
+    bare-single-table-requires
     (λ c κs. search needs)
     returns-4
     add-t9

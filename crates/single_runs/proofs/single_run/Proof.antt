@@ -18,7 +18,7 @@ returns : tie.Need-returns Inv-loop μ-loop
 returns c = singles-none _ _ _
 
 loop-holds : tie.Need-loop-holds Inv-loop μ-loop
-loop-holds c = (singles-none _ _ _, c .before .has-single .ensures (not-false _ (c .if1 .left)))
+loop-holds c = (singles-none _ _ _, c .before .has-single-with-suffix .ensures (not-false _ (c .if1 .left)))
 
 goes-on-requires : tie.Need-goes-on-requires Inv-loop μ-loop
 goes-on-requires c κs = let o = c .before .loop in (singles-table _ _ _ _ _ (o .inv .0) (c .before .before .before .before .before .pre), o .inv .1)

@@ -11,7 +11,7 @@ use Rattle.trie.specs.Trie.{Forest, Node}
 use Rattle.node_rule.specs.Parts.{TableOf, HasTable}
 use Rattle.fronts.specs.Fronts.{FrontsFrom, FrontsHere, with-front}
 use Rattle.single_runs.specs.Says.{children-right, ChildrenAsked, ChildrenSays}
-use Rattle.single_runs.specs.Runs.{RunTo, Further, LoneSays, LeafSays, SaysNone}
+use Rattle.single_runs.specs.Runs.{RunTo, Further, RunSays, LeafSays, SaysNone}
 use Rattle.fronts.proofs.MaskLaws.{no-mask}
 use Rattle.fronts.proofs.Fronts.{fronts-put, kept-front, kept-none, kept-then}
 use Rattle.single_runs.proofs.RunLaws.{not-so}
@@ -30,7 +30,7 @@ one-front s d fronts p (f ∷ (g ∷ fs)) e h = absurd (omega arith)
 module _ (s : List ℕ) (table children depth : ℕ) (old : List ℕ) (count left : ℕ) where
   -- ── no run ──
 
-  none-at-all : LoneSays s table children depth old count left old 0 table true false
+  none-at-all : RunSays s table children depth old count left old 0 table true false
   none-at-all = record { few = omega arith; kept = kept-none ((depth + 1) * 768) old; is = λ _. is; end = λ e. not-so e }
     where
       is : (g : Forest) (fs : List Node) → TableOf s left table children g → FrontsHere s (left - 1) old (depth * 768) count fs → Further s depth children count left old 0 table true g fs
@@ -45,17 +45,17 @@ module _ (s : List ℕ) (table children depth : ℕ) (old : List ℕ) (count lef
             same = ap (λ (x : ℕ). children-right x fs g) (sym b);
           }
 
-  pub lone-none : (k t : ℕ) (right ended : Bool) → (k ≡ 0) × (t ≡ table) × (right ≡ true) × (ended ≡ false) → LoneSays s table children depth old count left old k t right ended
-  lone-none k t right ended e = rw (e .0, e .1, e .2, e .3) none-at-all
+  pub below-none : (k t : ℕ) (right ended : Bool) → (k ≡ 0) × (t ≡ table) × (right ≡ true) × (ended ≡ false) → RunSays s table children depth old count left old k t right ended
+  below-none k t right ended e = rw (e .0, e .1, e .2, e .3) none-at-all
 
   -- ── what a run asks ──
 
   module _ (lists : List ℕ) (a : ChildrenAsked s table children depth old count lists left) where
-    pub lone-table : children ≡ 1 → HasTable s table 1
-    lone-table e = record { depth = left; forest = a .forest; is = subst (λ (x : ℕ). TableOf s left table x (a .forest)) e (a .is) }
+    pub below-table : children ≡ 1 → HasTable s table 1
+    below-table e = record { depth = left; forest = a .forest; is = subst (λ (x : ℕ). TableOf s left table x (a .forest)) e (a .is) }
 
-    pub lone-front : count ≡ 1 → getD old (depth * 768 + 1) 0 ≡ 1 → HasTable s (getD old (depth * 768) 0) 1
-    lone-front e f =
+    pub below-front : count ≡ 1 → getD old (depth * 768 + 1) 0 ≡ 1 → HasTable s (getD old (depth * 768) 0) 1
+    below-front e f =
         let x = one-front s (left - 1) old (depth * 768) (a .nodes) (a .fronts-here .many ∙ e) (a .fronts-here .each) in
         record { depth = left - 1; forest = x .node .children; is = subst (λ (y : ℕ). TableOf s (left - 1) (getD old (depth * 768) 0) y (x .node .children)) f (x .leads) }
 
@@ -66,8 +66,8 @@ module _ (s : List ℕ) (table children depth : ℕ) (old : List ℕ) (count lef
     abbrev stack : List ℕ
     stack = with-front old ((depth + k) * 768) o 1 0
 
-    pub lone-run : LoneSays s table children depth old count left stack k t right false
-    lone-run = record { few = run .few; kept = kept-front ((depth + 1) * 768) ((depth + k) * 768) o 1 0 old old (omega arith) (kept-none ((depth + 1) * 768) old); is = λ _. is; end = λ e. not-so e }
+    pub below-run : RunSays s table children depth old count left stack k t right false
+    below-run = record { few = run .few; kept = kept-front ((depth + 1) * 768) ((depth + k) * 768) o 1 0 old old (omega arith) (kept-none ((depth + 1) * 768) old); is = λ _. is; end = λ e. not-so e }
       where
         is : (g : Forest) (fs : List Node) → TableOf s left table children g → FrontsHere s (left - 1) old (depth * 768) count fs → Further s depth children count left stack k t right g fs
         is g fs h w =
@@ -89,9 +89,9 @@ module _ (s : List ℕ) (table children depth : ℕ) (old : List ℕ) (count lef
 
   -- ── a run that ends at leaves ──
 
-  lone-leaf : (k t o : ℕ) → RunTo s table (getD old (depth * 768) 0) left k t o → children ≡ 1 → count ≡ 1 → getD old (depth * 768 + 1) 0 ≡ 1 → (right : Bool) → LeafSays s t o right →
-      LoneSays s table children depth old count left old 0 table right true
-  lone-leaf k t o run c n f right r = record { few = omega arith; kept = kept-none ((depth + 1) * 768) old; is = λ e. not-so (sym e); end = λ _. end }
+  below-leaf : (k t o : ℕ) → RunTo s table (getD old (depth * 768) 0) left k t o → children ≡ 1 → count ≡ 1 → getD old (depth * 768 + 1) 0 ≡ 1 → (right : Bool) → LeafSays s t o right →
+      RunSays s table children depth old count left old 0 table right true
+  below-leaf k t o run c n f right r = record { few = omega arith; kept = kept-none ((depth + 1) * 768) old; is = λ e. not-so (sym e); end = λ _. end }
     where
       passed : (b : Bool) {v : Bool} → (k ≡ 0 → b ≡ true) → ((k ≡ 0 → ⊥) → b ≡ v) → v ≡ true → b ≡ true
       passed b f g e = go (eqb k 0) (eq k 0)
@@ -108,19 +108,19 @@ module _ (s : List ℕ) (table children depth : ℕ) (old : List ℕ) (count lef
           let u : y .right ≡ true = passed (y .right) (y .first) (y .after) (l .none) in
           l .says ∙ ap (λ (i : Bool). i && children-right (depth + k) (y .last ∷ []) (y .below)) (sym u) ∙ y .same ∙ ap (λ (i : List Node). children-right depth i g) (x .is)
 
-  pub lone-leaves : (k t o : ℕ) → RunTo s table (getD old (depth * 768) 0) left k t o → children ≡ 1 → count ≡ 1 → getD old (depth * 768 + 1) 0 ≡ 1 → (v : Bool) → LeafSays s t o v →
-      (levels to : ℕ) (right ended : Bool) → (levels ≡ 0) × (to ≡ table) × (right ≡ v) × (ended ≡ true) → LoneSays s table children depth old count left old levels to right ended
-  lone-leaves k t o run c n f v r levels to right ended e = rw (e .0, e .1, e .2, e .3) (lone-leaf k t o run c n f v r)
+  pub below-leaves : (k t o : ℕ) → RunTo s table (getD old (depth * 768) 0) left k t o → children ≡ 1 → count ≡ 1 → getD old (depth * 768 + 1) 0 ≡ 1 → (v : Bool) → LeafSays s t o v →
+      (levels to : ℕ) (right ended : Bool) → (levels ≡ 0) × (to ≡ table) × (right ≡ v) × (ended ≡ true) → RunSays s table children depth old count left old levels to right ended
+  below-leaves k t o run c n f v r levels to right ended e = rw (e .0, e .1, e .2, e .3) (below-leaf k t o run c n f v r)
 
   -- ── behind a run ──
 
-  module _ (fronts : List ℕ) (k t : ℕ) (right ended : Bool) (l : LoneSays s table children depth old count left fronts k t right ended) where
-    pub lone-end : ended ≡ true → ChildrenSays s table children depth old count left fronts right
-    lone-end z = record { kept = l .kept; says = l .end z }
+  module _ (fronts : List ℕ) (k t : ℕ) (right ended : Bool) (l : RunSays s table children depth old count left fronts k t right ended) where
+    pub below-end : ended ≡ true → ChildrenSays s table children depth old count left fronts right
+    below-end z = record { kept = l .kept; says = l .end z }
 
-    pub lone-asked : ended ≡ false → (lists now-lists : List ℕ) → ChildrenAsked s table children depth old count lists left → length now-lists ≡ length lists →
+    pub below-asked : ended ≡ false → (lists now-lists : List ℕ) → ChildrenAsked s table children depth old count lists left → length now-lists ≡ length lists →
         ChildrenAsked s t children (depth + k) fronts count now-lists (left - k)
-    lone-asked y lists now-lists a m =
+    below-asked y lists now-lists a m =
         let x = l .is y (a .forest) (a .nodes) (a .is) (a .fronts-here) in
         record {
           forest = x .below;
@@ -132,14 +132,14 @@ module _ (s : List ℕ) (table children depth : ℕ) (old : List ℕ) (count lef
           lists-room = omega (arith, a .lists-room);
         }
 
-    pub lone-wrong : ended ≡ false → right ≡ false → ChildrenSays s table children depth old count left fronts false
-    lone-wrong i z = record {
+    pub below-wrong : ended ≡ false → right ≡ false → ChildrenSays s table children depth old count left fronts false
+    below-wrong i z = record {
       kept = l .kept;
       says = λ g fs h w. let x = l .is i g fs h w in ap (λ (i : Bool). i && children-right (depth + k) (x .nodes) (x .below)) (sym z) ∙ x .same;
     }
 
-    pub lone-then : ended ≡ false → right ≡ true → (last : List ℕ) (r : Bool) → ChildrenSays s t children (depth + k) fronts count (left - k) last r → ChildrenSays s table children depth old count left last r
-    lone-then i z last r y = record {
+    pub below-then : ended ≡ false → right ≡ true → (last : List ℕ) (r : Bool) → ChildrenSays s t children (depth + k) fronts count (left - k) last r → ChildrenSays s table children depth old count left last r
+    below-then i z last r y = record {
       kept = kept-then ((depth + 1) * 768) ((depth + k + 1) * 768) old fronts last (omega arith) (l .kept) (y .kept);
       says = λ g fs h w.
           let x = l .is i g fs h w in

@@ -1,4 +1,4 @@
--- Thin nodes read one as another. Assumes nothing.
+-- Nodes with one child and no lists read one as another. Assumes nothing.
 use Prim.Native.Nat.{ℕ, _+_, _*_, _-_, _≤_, _<_}
 use native.Mathlib.Omega.{arith}
 use mathlib.Core.Bool.{false, true}
@@ -14,7 +14,7 @@ use Rattle.image_format.proofs.Tables.{open-ready, slot-arrival}
 use Rattle.image_format.proofs.Entries.{fault-end, fault-on}
 use Rattle.kinds.specs.Kinds.{fits}
 use Rattle.image_format.specs.Reading.{Step, Table, done, fault, head, offset, open-table, read-child, read-head, read-node, sparse-table, table}
-use Rattle.fields.specs.Thin.{Thin, ThinRun}
+use Rattle.fields.specs.Singles.{SingleBeforeChild, SinglesBelow}
 
 pub not-true : {P : Type 0} → false ≡ true → P
 not-true e = let z : _≡_ {A = ℕ} 0 1 = cc in absurd (omega arith)
@@ -27,12 +27,12 @@ fits-one : fits 3 1 ≡ true
 unfolding fits
 fits-one = refl
 
-module _ (s : List ℕ) (at : ℕ) (t : Thin s at) where
+module _ (s : List ℕ) (at : ℕ) (t : SingleBeforeChild s at) where
   abbrev the-table : Table
   the-table = sparse-table 3 (at + 25) 1
 
-  thin-head : head 3 (at + 25) 0 ≡ read-head s at
-  thin-head =
+  single-head : head 3 (at + 25) 0 ≡ read-head s at
+  single-head =
       subst (λ (k : ℕ). head k (at + 25) 0 ≡ read-head s at) (t .head .bare .kind)
       (lists-ready s (getD s at 0) (at + 1) (at + 9) 0 (at + 17) 0 (at + 25) 0
       (list-past s (at + 1) (at + 9) 0 (sym (t .head .bare .prefixes)) (omega arith) (omega (arith, t .within)))
@@ -40,13 +40,13 @@ module _ (s : List ℕ) (at : ℕ) (t : Thin s at) where
       (list-past s (at + 17) (at + 25) 0 (sym (t .head .suffixes)) (omega arith) (omega (arith, t .within))) ∙
       head-lists s at (omega (arith, t .within)) (omega (arith, t .head .bare .kind)) (omega (arith, t .head .bare .kind)))
 
-  thin-table : table the-table ≡ open-table s 3 (at + 25)
-  thin-table =
+  single-table : table the-table ≡ open-table s 3 (at + 25)
+  single-table =
       open-ready s 3 (at + 25) (omega arith) 1 0 (sym (t .head .count)) (omega (arith, t .within)) fits-one
       (fault-end s (at + 25 + 8) 1 1 (omega arith) ∙ fault-on s (at + 25 + 8) 1 0 (omega arith) (omega arith) (omega (arith, t .within))) refl
 
-  thin-child : (rd : ℕ → Step) → rd (at + 43) ≡ read-child s rd the-table 0 (at + 42)
-  thin-child rd =
+  single-child : (rd : ℕ → Step) → rd (at + 43) ≡ read-child s rd the-table 0 (at + 42)
+  single-child rd =
       let e : at + 43 ≡ at + 42 + 1 = omega arith in
       let o : at + 25 + 8 + 0 * 9 + 1 ≡ at + 34 = omega arith in
       ap rd e ∙
@@ -54,30 +54,30 @@ module _ (s : List ℕ) (at : ℕ) (t : Thin s at) where
       (ap (le64 s) o ∙ t .offset) (omega (arith, t .within)) (t .flag)
 
   module _ (left : ℕ) (h : left ≡ 0 → ⊥) where
-    pub thin-refused : (c : ℕ) → fault c ≡ read-node s (left - 1) (at + 43) → fault c ≡ read-node s left at
-    thin-refused c e =
+    pub single-refused : (c : ℕ) → fault c ≡ read-node s (left - 1) (at + 43) → fault c ≡ read-node s left at
+    single-refused c e =
         let rd = read-node s (left - 1) in
         let g : at + 42 ≡ the-table .start = omega arith in
-        node-table s left at h c 3 (at + 25) 0 the-table thin-head thin-table
-        (run-refused s rd the-table 1 0 (the-table .start) 0 0 0 c (omega arith) (subst (λ (x : ℕ). fault c ≡ read-child s rd the-table 0 x) g (e ∙ thin-child rd)) ∙
+        node-table s left at h c 3 (at + 25) 0 the-table single-head single-table
+        (run-refused s rd the-table 1 0 (the-table .start) 0 0 0 c (omega arith) (subst (λ (x : ℕ). fault c ≡ read-child s rd the-table 0 x) g (e ∙ single-child rd)) ∙
         run-start s rd the-table)
 
-    pub thin-right : (next nodes entries : ℕ) → done next 1 nodes entries ≡ read-node s (left - 1) (at + 43) → done next 1 (nodes + 1) entries ≡ read-node s left at
-    thin-right next nodes entries e =
+    pub single-right : (next nodes entries : ℕ) → done next 1 nodes entries ≡ read-node s (left - 1) (at + 43) → done next 1 (nodes + 1) entries ≡ read-node s left at
+    single-right next nodes entries e =
         let rd = read-node s (left - 1) in
         let g : at + 42 ≡ the-table .start = omega arith in
         let n : 0 + nodes + 1 ≡ nodes + 1 = omega arith in
         let m : 0 + (0 + entries) ≡ entries = omega arith in
         subst (λ (x : ℕ). done next 1 (nodes + 1) x ≡ read-node s left at) m
         (subst (λ (x : ℕ). done next 1 x (0 + (0 + entries)) ≡ read-node s left at) n
-        (node-done s left at h 3 (at + 25) 0 the-table next 1 (0 + nodes) (0 + entries) thin-head thin-table
+        (node-done s left at h 3 (at + 25) 0 the-table next 1 (0 + nodes) (0 + entries) single-head single-table
         (end-sparse the-table next (0 + 1) (0 + nodes) (0 + entries) (omega arith) ∙
         run-end s rd the-table 1 (0 + 1) next (0 + 1) (0 + nodes) (0 + entries) (omega arith) ∙
-        run-on s rd the-table 1 0 (the-table .start) 0 0 0 next 1 nodes entries (omega arith) (subst (λ (x : ℕ). done next 1 nodes entries ≡ read-child s rd the-table 0 x) g (e ∙ thin-child rd)) ∙
+        run-on s rd the-table 1 0 (the-table .start) 0 0 0 next 1 nodes entries (omega arith) (subst (λ (x : ℕ). done next 1 nodes entries ≡ read-child s rd the-table 0 x) g (e ∙ single-child rd)) ∙
         run-start s rd the-table)))
 
--- no thin nodes
-pub run-none : (s : List ℕ) (at left : ℕ) → at ≤ length s → ThinRun s at left 0
+-- no such nodes
+pub run-none : (s : List ℕ) (at left : ℕ) → at ≤ length s → SinglesBelow s at left 0
 run-none s at left h = record {
   few = omega arith;
   within = omega arith;
@@ -97,13 +97,13 @@ run-none s at left h = record {
     here : (P : Step → Type 0) → P (read-node s (left - 0) (at + 43 * 0)) → P (read-node s left at)
     here P e = subst (λ (x : ℕ). P (read-node s left x)) as-far (subst (λ (x : ℕ). P (read-node s x (at + 43 * 0))) as-many e)
 
--- one thin node more
-pub run-more : (s : List ℕ) (at left k : ℕ) → ThinRun s at left k → k < left → Thin s (at + 43 * k) → ThinRun s at left (k + 1)
+-- one such node more
+pub run-more : (s : List ℕ) (at left k : ℕ) → SinglesBelow s at left k → k < left → SingleBeforeChild s (at + 43 * k) → SinglesBelow s at left (k + 1)
 run-more s at left k r l t = record {
   few = omega arith;
   within = omega (arith, t .within);
-  refused = λ c e. r .refused c (thin-refused s (at + 43 * k) t (left - k) (omega arith) c (there (λ (x : Step). fault c ≡ x) e));
-  right = λ next nodes entries e. subst (λ (x : ℕ). done next 1 x entries ≡ read-node s left at) (sums nodes) (r .right next (nodes + 1) entries (thin-right s (at + 43 * k) t (left - k) (omega arith) next nodes entries (there (λ (x : Step). done next 1 nodes entries ≡ x) e)));
+  refused = λ c e. r .refused c (single-refused s (at + 43 * k) t (left - k) (omega arith) c (there (λ (x : Step). fault c ≡ x) e));
+  right = λ next nodes entries e. subst (λ (x : ℕ). done next 1 x entries ≡ read-node s left at) (sums nodes) (r .right next (nodes + 1) entries (single-right s (at + 43 * k) t (left - k) (omega arith) next nodes entries (there (λ (x : Step). done next 1 nodes entries ≡ x) e)));
 }
   where
     further : at + 43 * (k + 1) ≡ at + 43 * k + 43

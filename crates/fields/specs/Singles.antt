@@ -1,4 +1,4 @@
--- A thin node: of kind 3, with empty lists and one child, whose flag stands behind it. Assumes nothing.
+-- Nodes of kind 3 with empty lists and one child, whose flag stands behind them. Assumes nothing.
 use Prim.Native.Nat.{ℕ, _+_, _*_, _-_, _≤_}
 use mathlib.Core.Path.{_≡_}
 use mathlib.Core.List.{List}
@@ -19,14 +19,14 @@ pub record SingleWithoutLists (s : List ℕ) (at : ℕ) : Type 0 where
   pub count : le64 s (at + 25) ≡ 1
 
 -- such a node stands at an index, and its child 43 bytes further on
-pub record Thin (s : List ℕ) (at : ℕ) : Type 0 where
+pub record SingleBeforeChild (s : List ℕ) (at : ℕ) : Type 0 where
   pub within : at + 43 ≤ length s
   pub head : SingleWithoutLists s at
   pub offset : le64 s (at + 34) ≡ at + 42
   pub flag : getD s (at + 42) 0 ≡ 1
 
--- with so many levels left the node at an index reads as the one k thin nodes further on, with k nodes more
-pub record ThinRun (s : List ℕ) (at left k : ℕ) : Type 0 where
+-- with so many levels left the node at an index reads as the one k such nodes further on, with k nodes more
+pub record SinglesBelow (s : List ℕ) (at left k : ℕ) : Type 0 where
   pub few : k ≤ left
   pub within : at + 43 * k ≤ length s
   pub refused : (c : ℕ) → fault c ≡ read-node s (left - k) (at + 43 * k) → fault c ≡ read-node s left at

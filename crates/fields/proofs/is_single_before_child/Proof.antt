@@ -1,10 +1,10 @@
--- `fields::is_thin` meets its contract. Assumes nothing.
+-- `fields::is_single_before_child` meets its contract. Assumes nothing.
 use native.Mathlib.Omega.{arith}
 use borrow.Author.Needs.{needs}
 use borrow.Author.Tests.{not-false}
-use Rattle.fields.proofs.ThinNodes.{by-test, not-true}
-use Rattle.fields.proofs.is_thin.Statement.{statement}
-use Rattle.fields.proofs.is_thin.Tie as tie
+use Rattle.fields.proofs.Singles.{by-test, not-true}
+use Rattle.fields.proofs.is_single_before_child.Statement.{statement}
+use Rattle.fields.proofs.is_single_before_child.Tie as tie
 
 returns : tie.Need-returns
 returns c = not-true
@@ -18,8 +18,8 @@ returns-3 c = not-true
 returns-4 : tie.Need-returns-4
 returns-4 c = by-test _ 1 λ f. record { within = omega arith; head = c .before .before .before .before .is-single-without-lists .ensures (not-false _ (c .before .before .before .if2 .left)); offset = omega arith; flag = f }
 
-pub is-thin-spec : {M : Type 1} → statement M
-is-thin-spec =
+pub is-single-before-child-spec : {M : Type 1} → statement M
+is-single-before-child-spec =
     tie.close
     (tie.spec
     (λ c. search needs)
