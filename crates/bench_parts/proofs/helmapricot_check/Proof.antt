@@ -5,14 +5,8 @@ use borrow.Author.Needs.{needs}
 use Rattle.bench_parts.proofs.helmapricot_check.Statement.{statement}
 use Rattle.bench_parts.proofs.helmapricot_check.Tie as tie
 
-check-requires : tie.Need-check-requires
-check-requires c κs = search needs
-
-number-requires : tie.Need-number-requires
-number-requires c κs = search needs
-
 returns : tie.Need-returns
 returns c = c .number .ensures ∙ ap refusal-of (c .before .check .ensures)
 
 pub helmapricot-check-spec : {M : Type 1} → statement M
-helmapricot-check-spec = tie.close (tie.spec check-requires number-requires returns)
+helmapricot-check-spec = tie.close (tie.spec (λ c κs. search needs) (λ c κs. search needs) returns)

@@ -15,18 +15,6 @@ use Rattle.bench_parts.proofs.helmapricot_search_image.Lts as lts
 use Rattle.index_rule.proofs.check.Reads as check-reads
 use Rattle.bench_parts.proofs.search_right.Reads as search-right-reads
 
--- src/lib.rt:113:11
-check-requires : tie.Need-check-requires
-check-requires c κs = search needs
-
--- src/lib.rt:114:25
-enum-known-n : tie.Need-enum-known-n
-enum-known-n c = search needs
-
--- src/lib.rt:115:62
-enum-told : tie.Need-enum-told
-enum-told c = search needs
-
 -- src/lib.rt:115:29
 search-right-requires : tie.Need-search-right-requires
 search-right-requires c κs =
@@ -44,10 +32,6 @@ returns c =
     said-refused (now (a .img)) (last-of (now (a .queries)) (a .size)) (length (now (a .scratch))) (a .room) (now (a .count)) (now (a .scratch)) (ap layout-of (sym (c .before .n .given .1)) ∙ run .check .ensures)
 
 -- src/lib.rt:101:1
-same-length : tie.Need-same-length
-same-length c = search needs
-
--- src/lib.rt:101:1
 returns-2 : tie.Need-returns-2
 returns-2 c =
     let told = c .before .before .before .before .before in
@@ -59,10 +43,10 @@ pub helmapricot-search-image-spec : {M : Type 1} → statement M
 helmapricot-search-image-spec =
     tie.close
     (tie.spec
-    check-requires
-    enum-known-n
-    enum-told
+    (λ c κs. search needs)
+    (λ c. search needs)
+    (λ c. search needs)
     search-right-requires
     returns
-    same-length
+    (λ c. search needs)
     returns-2)

@@ -13,10 +13,6 @@ use Rattle.bench_parts.proofs.search_right.Lts as lts
 use Rattle.bench_parts.proofs.query_size.Reads as query-size-reads
 use Rattle.bench_parts.proofs.search_each.Reads as search-each-reads
 
--- src/lib.rt:87:9
-query-size-requires : tie.Need-query-size-requires
-query-size-requires c κs = search needs
-
 -- src/lib.rt:89:9
 returns : tie.Need-returns
 returns c =
@@ -33,23 +29,11 @@ search-each-requires c κs =
     (start .pre .0, start .pre .1, omega (arith, c .before .if1 .left), w .0, w .1)
 
 -- src/lib.rt:93:9
-same-length : tie.Need-same-length
-same-length c = search needs
-
--- src/lib.rt:93:9
 returns-2 : tie.Need-returns-2
 returns-2 c =
     let test = c .before .before .before .before .before .before in
     let a = test .before .before .before .before .before .args in
     says-refused (trie-in (now (a .img))) (now (a .queries)) (a .size) (length (now (a .scratch))) (a .room) _ (test .before .query-size .ensures) (now (a .count)) (now (a .scratch)) _ (omega (arith, test .if1 .left)) (search needs) (c .before .before .before .before .search-each .ensures) (c .if2 .taken)
-
--- src/lib.rt:95:5
-element-write-count : tie.Need-element-write-count
-element-write-count c = search needs
-
--- src/lib.rt:75:1
-same-length-2 : tie.Need-same-length-2
-same-length-2 c = search needs
 
 -- src/lib.rt:75:1
 returns-3 : tie.Need-returns-3
@@ -62,11 +46,11 @@ pub search-right-spec : {M : Type 1} → statement M
 search-right-spec =
     tie.close
     (tie.spec
-    query-size-requires
+    (λ c κs. search needs)
     returns
     search-each-requires
-    same-length
+    (λ c. search needs)
     returns-2
-    element-write-count
-    same-length-2
+    (λ c. search needs)
+    (λ c. search needs)
     returns-3)

@@ -75,22 +75,12 @@ collect-all-substrings-take-list-requires-2 :
     (t : ℕ) → collect-all-substrings-lts.Need-take-list-requires-2 (collect-all-substrings-claims t) (collect-all-substrings-at t) collect-all-substrings.Post
 collect-all-substrings-take-list-requires-2 t c κs = (chunks-within (c .before .before .before .before .before .node-at .ensures) (standing-laid (c .before .before .before .before .before .before .before .before .pre .1 .0)), c .before .before .before .take-list .ensures .valid)
 
-collect-all-substrings-same-length : (t : ℕ) → collect-all-substrings-lts.Need-same-length (collect-all-substrings-claims t) (collect-all-substrings-at t) collect-all-substrings.Post
-collect-all-substrings-same-length t c = search needs
-
 collect-all-substrings-returns : (t : ℕ) → collect-all-substrings-lts.Need-returns (collect-all-substrings-claims t) (collect-all-substrings-at t) collect-all-substrings.Post
 collect-all-substrings-returns t c = collected-leaf (c .before .before .before .before .before .before .before .before .before .node-at .ensures) (c .before .before .before .take-list2 .ensures) (c .if1 .taken) (c .before .before .before .before .before .before .before .take-list .ensures)
-
-collect-all-substrings-sub-collect-children :
-    (t : ℕ) → collect-all-substrings-lts.Need-sub-collect-children (collect-all-substrings-claims t) (collect-all-substrings-at t) collect-all-substrings.Post
-collect-all-substrings-sub-collect-children t c = search needs
 
 collect-all-substrings-collect-children-requires :
     (t : ℕ) → collect-all-substrings-lts.Need-collect-children-requires (collect-all-substrings-claims t) (collect-all-substrings-at t) collect-all-substrings.Post
 collect-all-substrings-collect-children-requires t c κs = (omega arith, (siblings-of (c .before .before .before .before .before .before .before .before .before .before .node-at .ensures) (c .before .before .before .before .before .before .before .before .before .before .before .before .before .pre .1 .0) (c .before .if1 .left), c .before .before .before .before .take-list2 .ensures .valid))
-
-collect-all-substrings-same-length-2 : (t : ℕ) → collect-all-substrings-lts.Need-same-length-2 (collect-all-substrings-claims t) (collect-all-substrings-at t) collect-all-substrings.Post
-collect-all-substrings-same-length-2 t c = search needs
 
 collect-all-substrings-returns-2 : (t : ℕ) → collect-all-substrings-lts.Need-returns-2 (collect-all-substrings-claims t) (collect-all-substrings-at t) collect-all-substrings.Post
 collect-all-substrings-returns-2 t c =
@@ -115,23 +105,14 @@ collect-children-same-length t c = passing-taken (c .before .before .loop .inv) 
 collect-children-returns : (t : ℕ) → collect-children-lts.Need-returns (collect-children-claims t) (collect-children-at t) collect-children.Post collect-children-Inv-loop collect-children-μ-loop
 collect-children-returns t c = passing-refused (c .before .before .loop .inv) (c .if1 .taken)
 
-collect-children-add-i : (t : ℕ) → collect-children-lts.Need-add-i (collect-children-claims t) (collect-children-at t) collect-children.Post collect-children-Inv-loop collect-children-μ-loop
-collect-children-add-i t c = search needs
-
 collect-children-slot-in-requires : (t : ℕ) → collect-children-lts.Need-slot-in-requires (collect-children-claims t) (collect-children-at t) collect-children.Post collect-children-Inv-loop collect-children-μ-loop
 collect-children-slot-in-requires t c κs = (c .before .before .before .before .before .pre .1 .0 .bounds, omega arith)
-
-collect-children-enum-told : (t : ℕ) → collect-children-lts.Need-enum-told (collect-children-claims t) (collect-children-at t) collect-children.Post collect-children-Inv-loop collect-children-μ-loop
-collect-children-enum-told t c = search needs
 
 collect-children-loop-less : (t : ℕ) → collect-children-lts.Need-loop-less (collect-children-claims t) (collect-children-at t) collect-children.Post collect-children-Inv-loop collect-children-μ-loop
 collect-children-loop-less t c = omega arith
 
 collect-children-loop-again : (t : ℕ) → collect-children-lts.Need-loop-again (collect-children-claims t) (collect-children-at t) collect-children.Post collect-children-Inv-loop collect-children-μ-loop
 collect-children-loop-again t c = passing-empty (c .before .before .before .before .before .loop .inv) (omega arith) (ap entry-of-answer (sym (c .enum-told .given .1)) ∙ c .before .before .slot-in .ensures)
-
-collect-children-enum-known-at : (t : ℕ) → collect-children-lts.Need-enum-known-at (collect-children-claims t) (collect-children-at t) collect-children.Post collect-children-Inv-loop collect-children-μ-loop
-collect-children-enum-known-at t c = search needs
 
 collect-children-collect-all-substrings-requires :
     (t : ℕ) → collect-children-lts.Need-collect-all-substrings-requires (collect-children-claims t)
@@ -165,11 +146,11 @@ pub +collect-all-substrings+collect-children-spec : {M : Type 1} → statement M
     (collect-all-substrings-node-at-requires t)
     (collect-all-substrings-take-list-requires t)
     (collect-all-substrings-take-list-requires-2 t)
-    (collect-all-substrings-same-length t)
+    (λ c. search needs)
     (collect-all-substrings-returns t)
-    (collect-all-substrings-sub-collect-children t)
+    (λ c. search needs)
     (collect-all-substrings-collect-children-requires t)
-    (collect-all-substrings-same-length-2 t)
+    (λ c. search needs)
     (collect-all-substrings-returns-2 t))
     λ t. collect-children-lts.spec (collect-children-claims t)
     (collect-children-at t)
@@ -179,12 +160,12 @@ pub +collect-all-substrings+collect-children-spec : {M : Type 1} → statement M
     (collect-children-loop-holds t)
     (collect-children-same-length t)
     (collect-children-returns t)
-    (collect-children-add-i t)
+    (λ c. search needs)
     (collect-children-slot-in-requires t)
-    (collect-children-enum-told t)
+    (λ c. search needs)
     (collect-children-loop-less t)
     (collect-children-loop-again t)
-    (collect-children-enum-known-at t)
+    (λ c. search needs)
     (collect-children-collect-all-substrings-requires t)
     (collect-children-loop-less-2 t)
     (collect-children-loop-again-2 t)

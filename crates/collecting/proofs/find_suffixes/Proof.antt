@@ -4,17 +4,11 @@ use Rattle.collecting.proofs.Nodes.{suffixes-within, chunks-within, end
 use Rattle.collecting.proofs.find_suffixes.Statement.{statement}
 use Rattle.collecting.proofs.find_suffixes.Tie as tie
 
-node-at-requires : tie.Need-node-at-requires
-node-at-requires c κs = search needs
-
 take-list-requires : tie.Need-take-list-requires
 take-list-requires c κs = (suffixes-within (c .before .node-at .ensures) (c .before .before .before .before .pre .0), c .before .before .before .before .pre .1)
 
 take-list-requires-2 : tie.Need-take-list-requires-2
 take-list-requires-2 c κs = (chunks-within (c .before .before .before .before .before .node-at .ensures) (c .before .before .before .before .before .before .before .before .pre .0), c .before .before .before .take-list .ensures .valid)
-
-same-length : tie.Need-same-length
-same-length c = search needs
 
 returns : tie.Need-returns
 returns c = ended (c .before .before .before .before .before .before .before .before .node-at .ensures) (c .before .before .take-list2 .ensures) (c .before .before .before .before .before .before .take-list .ensures)
@@ -22,4 +16,4 @@ returns c = ended (c .before .before .before .before .before .before .before .be
 pub find-suffixes-spec : {M : Type 1} → statement M
 find-suffixes-spec =
     tie.close
-    (tie.spec node-at-requires take-list-requires take-list-requires-2 same-length returns)
+    (tie.spec (λ c κs. search needs) take-list-requires take-list-requires-2 (λ c. search needs) returns)

@@ -4,20 +4,8 @@ use Rattle.node_joining.proofs.Nodes.{reached-front, reached-inside}
 use Rattle.end_places.proofs.find_beyond.Statement.{statement}
 use Rattle.end_places.proofs.find_beyond.Tie as tie
 
-collect-all-substrings-requires : tie.Need-collect-all-substrings-requires
-collect-all-substrings-requires c κs = search needs
-
-same-length : tie.Need-same-length
-same-length c = search needs
-
 returns : tie.Need-returns
 returns c = reached-front _ (c .before .before .before .before .if1 .taken) (c .before .before .collect-all-substrings .ensures)
-
-find-suffixes-requires : tie.Need-find-suffixes-requires
-find-suffixes-requires c κs = search needs
-
-same-length-2 : tie.Need-same-length-2
-same-length-2 c = search needs
 
 returns-2 : tie.Need-returns-2
 returns-2 c = reached-inside _ (c .before .before .before .before .if1 .left) (c .before .before .find-suffixes .ensures)
@@ -26,9 +14,9 @@ pub find-beyond-spec : {M : Type 1} → statement M
 find-beyond-spec =
     tie.close
     (tie.spec
-    collect-all-substrings-requires
-    same-length
+    (λ c κs. search needs)
+    (λ c. search needs)
     returns
-    find-suffixes-requires
-    same-length-2
+    (λ c κs. search needs)
+    (λ c. search needs)
     returns-2)

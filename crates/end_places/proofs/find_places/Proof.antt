@@ -50,12 +50,6 @@ shared-slice-read-child-in c = omega arith
 child-in-requires : tie.Need-child-in-requires Inv-loop μ-loop
 child-in-requires c κs = walked-table (c .before .before .before .before .before .before .before .before .before .pre .0) (c .before .before .loop .inv .2)
 
-enum-known-at : tie.Need-enum-known-at Inv-loop μ-loop
-enum-known-at c = search needs
-
-enum-told : tie.Need-enum-told Inv-loop μ-loop
-enum-told c = search needs
-
 same-length : tie.Need-same-length Inv-loop μ-loop
 same-length c = c .before .before .before .before .before .loop .inv .3 .taken .same-length
 
@@ -110,12 +104,6 @@ shared-slice-read-child-in-2 c = omega arith
 child-in-requires-2 : tie.Need-child-in-requires-2 Inv-loop μ-loop
 child-in-requires-2 c κs = walked-table (c .before .before .before .before .before .before .before .before .before .pre .0) (c .before .before .loop .inv .2)
 
-enum-known-end : tie.Need-enum-known-end Inv-loop μ-loop
-enum-known-end c = search needs
-
-enum-told-2 : tie.Need-enum-told-2 Inv-loop μ-loop
-enum-told-2 c = search needs
-
 same-length-2 : tie.Need-same-length-2 Inv-loop μ-loop
 same-length-2 c = c .before .before .before .before .before .loop .inv .3 .taken .same-length
 
@@ -134,9 +122,6 @@ find-beyond-requires c κs =
     let turn = c .before .before .before .before .before .before .before .loop in
     let e = ap child-of-answer (sym (c .before .before .end .given .1)) ∙ c .before .before .before .before .child-in2 .ensures in
     (standing-found (found-at (start .pre .0) (take (turn .j + 1 - args .i) (drop (args .i) (args .q .now))) (walked-next (start .pre .0) (turn .inv .2) (args .q .now) (args .i) (turn .j) refl (turn .inv .0) (turn .inv .1) e)), turn .inv .3 .taken .valid)
-
-same-length-3 : tie.Need-same-length-3 Inv-loop μ-loop
-same-length-3 c = search needs
 
 returns-3 : tie.Need-returns-3 Inv-loop μ-loop
 returns-3 c =
@@ -160,8 +145,8 @@ find-places-spec =
     add-loop
     shared-slice-read-child-in
     child-in-requires
-    enum-known-at
-    enum-told
+    (λ c. search needs)
+    (λ c. search needs)
     same-length
     returns
     node-at-requires-2
@@ -171,10 +156,10 @@ find-places-spec =
     loop-again
     shared-slice-read-child-in-2
     child-in-requires-2
-    enum-known-end
-    enum-told-2
+    (λ c. search needs)
+    (λ c. search needs)
     same-length-2
     returns-2
     find-beyond-requires
-    same-length-3
+    (λ c. search needs)
     returns-3)

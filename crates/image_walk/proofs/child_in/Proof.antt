@@ -17,12 +17,6 @@ dense-slot-requires c κs =
     let l : b < 256 = omega arith in
     (l, h .offsets z, h .flags z b l, h .empty-or-taken z b l)
 
-enum-known-slot : tie.Need-enum-known-slot
-enum-known-slot c = search needs
-
-enum-told : tie.Need-enum-told
-enum-told c = search needs
-
 returns : tie.Need-returns
 returns c =
     let a = c .before .before .before .before .before .args in
@@ -50,8 +44,8 @@ child-in-spec =
     tie.close
     (tie.spec
     dense-slot-requires
-    enum-known-slot
-    enum-told
+    (λ c. search needs)
+    (λ c. search needs)
     returns
     returns-2
     sparse-child-requires

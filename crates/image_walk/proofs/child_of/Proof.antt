@@ -10,9 +10,6 @@ use Rattle.image_walk.proofs.Entries.{entries-here}
 use Rattle.image_walk.proofs.child_of.Statement.{statement}
 use Rattle.image_walk.proofs.child_of.Tie as tie
 
-node-at-requires : tie.Need-node-at-requires
-node-at-requires c κs = search needs
-
 child-in-requires : tie.Need-child-in-requires
 child-in-requires c κs =
     let b = laid-bounds _ _ (c .before .before .pre) in
@@ -27,4 +24,4 @@ returns c =
     ∙ ap (λ (es : List Entry). node-for es (a .byte)) (entries-here (a .s .now) (a .at) b)
 
 pub child-of-spec : {M : Type 1} → statement M
-child-of-spec = tie.close (tie.spec node-at-requires child-in-requires returns)
+child-of-spec = tie.close (tie.spec (λ c κs. search needs) child-in-requires returns)

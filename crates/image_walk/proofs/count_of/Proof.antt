@@ -4,9 +4,6 @@ use borrow.Author.Needs.{needs}
 use Rattle.image_walk.proofs.count_of.Statement.{statement}
 use Rattle.image_walk.proofs.count_of.Tie as tie
 
-size-at-requires : tie.Need-size-at-requires
-size-at-requires c κs = search needs
-
 returns : tie.Need-returns
 returns c = simp (eq-eqb _ _ (c .if1 .taken))
 
@@ -14,4 +11,4 @@ returns-2 : tie.Need-returns-2
 returns-2 c = simp (ne-eqb _ _ (c .before .if1 .left)) (c .size-at .ensures)
 
 pub count-of-spec : {M : Type 1} → statement M
-count-of-spec = tie.close (tie.spec size-at-requires returns returns-2)
+count-of-spec = tie.close (tie.spec (λ c κs. search needs) returns returns-2)

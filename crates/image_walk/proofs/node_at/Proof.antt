@@ -8,14 +8,8 @@ use Rattle.image_walk.proofs.node_at.Tie as tie
 shared-slice-read-kind : tie.Need-shared-slice-read-kind
 shared-slice-read-kind c = let r = room-first _ _ (c .before .before .pre) in omega arith
 
-add-a : tie.Need-add-a
-add-a c = search needs
-
 size-at-requires : tie.Need-size-at-requires
 size-at-requires c κs = room-first _ _ (c .before .before .pre)
-
-add-b : tie.Need-add-b
-add-b c = search needs
 
 mul-b : tie.Need-mul-b
 mul-b c = let r = room-second _ _ _ (c .before .before .before .pre) (c .size-at .ensures) in omega arith
@@ -53,9 +47,6 @@ add-t-2 c =
     let r = room-last _ _ _ _ _ (c .before .before .before .before .before .pre) (c .before .before .size-at .ensures) (c .before .size-at2 .ensures) (c .size-at3 .ensures) in
     omega arith
 
-add-t13 : tie.Need-add-t13
-add-t13 c = search needs
-
 add-t14 : tie.Need-add-t14
 add-t14 c =
     let r = room-last _ _ _ _ _ (c .before .before .before .before .before .pre) (c .before .before .size-at .ensures) (c .before .size-at2 .ensures) (c .size-at3 .ensures) in
@@ -85,9 +76,9 @@ node-at-spec =
     tie.close
     (tie.spec
     shared-slice-read-kind
-    add-a
+    (λ c. search needs)
     size-at-requires
-    add-b
+    (λ c. search needs)
     mul-b
     add-b-2
     size-at-requires-2
@@ -98,7 +89,7 @@ node-at-spec =
     add-t
     mul-t
     add-t-2
-    add-t13
+    (λ c. search needs)
     add-t14
     add-t15
     table-of-requires

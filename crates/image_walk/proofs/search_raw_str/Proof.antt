@@ -28,12 +28,6 @@ shared-slice-read-child-of c = omega arith
 child-of-requires : tie.Need-child-of-requires Inv-loop μ-loop
 child-of-requires c κs = c .before .before .loop .inv .1
 
-enum-known-next : tie.Need-enum-known-next Inv-loop μ-loop
-enum-known-next c = search needs
-
-enum-told : tie.Need-enum-told Inv-loop μ-loop
-enum-told c = search needs
-
 returns : tie.Need-returns Inv-loop μ-loop
 returns c =
     let more : c .before .before .before .before .before .loop .i < length (c .before .before .before .before .before .before .before .before .args .string .now) = omega arith in
@@ -67,8 +61,8 @@ search-raw-str-spec =
     loop-holds
     shared-slice-read-child-of
     child-of-requires
-    enum-known-next
-    enum-told
+    (λ c. search needs)
+    (λ c. search needs)
     returns
     add-i
     loop-less

@@ -4,9 +4,6 @@ use borrow.Author.Needs.{needs}
 use Rattle.image_walk.proofs.table_of.Statement.{statement}
 use Rattle.image_walk.proofs.table_of.Tie as tie
 
-add-result : tie.Need-add-result
-add-result c = search needs
-
 returns : tie.Need-returns
 returns c = simp (eq-eqb _ _ (c .if1 .taken))
 
@@ -14,4 +11,4 @@ returns-2 : tie.Need-returns-2
 returns-2 c = simp (ne-eqb _ _ (c .if1 .left))
 
 pub table-of-spec : {M : Type 1} → statement M
-table-of-spec = tie.close (tie.spec add-result returns returns-2)
+table-of-spec = tie.close (tie.spec (λ c. search needs) returns returns-2)

@@ -8,19 +8,10 @@ use Rattle.joining.proofs.Lists.{location-far, location-rest}
 use Rattle.joining.proofs.join_location.Statement.{statement}
 use Rattle.joining.proofs.join_location.Tie as tie
 
-sub-if1 : tie.Need-sub-if1
-sub-if1 c = search needs
-
 returns : tie.Need-returns
 returns c =
     let start = c .before .before .before in
     location-far _ _ _ (plain (start .args .l)) _ (λ j. omega (arith, c .before .before .shared-slice-known .given j)) (start .pre .2) (omega arith)
-
-add-key : tie.Need-add-key
-add-key c = search needs
-
-count-below-requires : tie.Need-count-below-requires
-count-below-requires c κs = search needs
 
 mul-join-onward : tie.Need-mul-join-onward
 mul-join-onward c =
@@ -50,9 +41,6 @@ join-onward-requires c κs =
     let parts = parted (args .img .now) (args .n) (args .at) (args .l .address .0 + args .k) _ (start .pre .1) (c .before .count-below .ensures) in
     (omega (arith, parts .le), parts .in-order, parts .behind, start .pre .2)
 
-same-length : tie.Need-same-length
-same-length c = search needs
-
 returns-2 : tie.Need-returns-2
 returns-2 c =
     let count = c .before .before .before .before in
@@ -65,13 +53,13 @@ pub join-location-spec : {M : Type 1} → statement M
 join-location-spec =
     tie.close
     (tie.spec
-    sub-if1
+    (λ c. search needs)
     returns
-    add-key
-    count-below-requires
+    (λ c. search needs)
+    (λ c κs. search needs)
     mul-join-onward
     add-join-onward
     sub-join-onward
     join-onward-requires
-    same-length
+    (λ c. search needs)
     returns-2)

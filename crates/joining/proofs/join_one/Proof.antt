@@ -6,26 +6,11 @@ use Rattle.joining.proofs.Joining.{one-life, one-nothing}
 use Rattle.joining.proofs.join_one.Statement.{statement}
 use Rattle.joining.proofs.join_one.Tie as tie
 
-overlap-requires : tie.Need-overlap-requires
-overlap-requires c κs = search needs
-
-enum-known-both : tie.Need-enum-known-both
-enum-known-both c = search needs
-
-enum-told : tie.Need-enum-told
-enum-told c = search needs
-
 returns : tie.Need-returns
 returns c =
     let overlap = c .before .before in
     let start = overlap .before .before in
     one-nothing (plain (start .args .l)) (plain (start .args .m)) (sym (ap common-of (c .enum-told .given .1)) ∙ overlap .overlap .ensures) (start .pre)
-
-place-requires : tie.Need-place-requires
-place-requires c κs = search needs
-
-same-length : tie.Need-same-length
-same-length c = search needs
 
 returns-2 : tie.Need-returns-2
 returns-2 c =
@@ -39,10 +24,10 @@ pub join-one-spec : {M : Type 1} → statement M
 join-one-spec =
     tie.close
     (tie.spec
-    overlap-requires
-    enum-known-both
-    enum-told
+    (λ c κs. search needs)
+    (λ c. search needs)
+    (λ c. search needs)
     returns
-    place-requires
-    same-length
+    (λ c κs. search needs)
+    (λ c. search needs)
     returns-2)

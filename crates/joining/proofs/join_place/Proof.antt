@@ -13,9 +13,6 @@ returns c =
     let start = c .before .before .before in
     place-low _ _ _ _ (plain (start .args .m)) (start .pre .2) (c .if1 .taken)
 
-count-below-requires : tie.Need-count-below-requires
-count-below-requires c κs = search needs
-
 mul-join-equal : tie.Need-mul-join-equal
 mul-join-equal c =
     let start = c .before .before .before .before in
@@ -44,9 +41,6 @@ join-equal-requires c κs =
     let parts = parted (args .img .now) (args .n) (args .at) (args .m .address .0 - args .k) _ (start .pre .1) (c .before .count-below .ensures) in
     (omega (arith, parts .le), parts .in-order, parts .behind, omega arith, start .pre .2)
 
-same-length : tie.Need-same-length
-same-length c = search needs
-
 returns-2 : tie.Need-returns-2
 returns-2 c =
     let count = c .before .before .before .before in
@@ -60,10 +54,10 @@ join-place-spec =
     tie.close
     (tie.spec
     returns
-    count-below-requires
+    (λ c κs. search needs)
     mul-join-equal
     add-join-equal
     sub-join-equal
     join-equal-requires
-    same-length
+    (λ c. search needs)
     returns-2)

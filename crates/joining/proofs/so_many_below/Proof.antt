@@ -7,9 +7,6 @@ use Rattle.words.specs.Words.{le64}
 use Rattle.joining.proofs.so_many_below.Statement.{statement}
 use Rattle.joining.proofs.so_many_below.Tie as tie
 
-get64-requires : tie.Need-get64-requires
-get64-requires c κs = search needs
-
 returns : tie.Need-returns
 returns c =
     let args = c .before .before .before .args in
@@ -21,4 +18,4 @@ returns-2 c =
     rw (le-ltb (le64 (args .img .now) (args .p)) (args .key) (omega (arith, c .before .get64 .ensures))) refl
 
 pub so-many-below-spec : {M : Type 1} → statement M
-so-many-below-spec = tie.close (tie.spec get64-requires returns returns-2)
+so-many-below-spec = tie.close (tie.spec (λ c κs. search needs) returns returns-2)

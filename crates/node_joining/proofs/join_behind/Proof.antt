@@ -10,26 +10,11 @@ use Rattle.node_joining.proofs.Nodes.{joined-none, joined-with, behind-
 use Rattle.node_joining.proofs.join_behind.Statement.{statement}
 use Rattle.node_joining.proofs.join_behind.Tie as tie
 
-ends-nothing-requires : tie.Need-ends-nothing-requires
-ends-nothing-requires c κs = search needs
-
 returns : tie.Need-returns
 returns c =
     let start = c .before .before .before .before .before .before in
     let args = start .args in
     joined-none (args .img .now) (args .n) (args .j - args .i) _ (eqb (args .i) 0) (c .before .ends-nothing .ensures (c .if1 .taken)) (start .pre .5)
-
-sub-k : tie.Need-sub-k
-sub-k c = search needs
-
-add-if2 : tie.Need-add-if2
-add-if2 c = search needs
-
-join-last-requires : tie.Need-join-last-requires
-join-last-requires c κs = search needs
-
-same-length : tie.Need-same-length
-same-length c = search needs
 
 returns-2 : tie.Need-returns-2
 returns-2 c =
@@ -37,30 +22,12 @@ returns-2 c =
     let args = start .args in
     behind-last (args .j - args .i) (ended-lists (eqb (args .i) 0) (lists-of (args .img .now) (args .n))) (args .img .now) (args .q .now) (args .j) (omega arith) (c .before .before .before .before .if2 .taken) (start .pre .1) (c .before .before .join-last .ensures)
 
-add-join-node : tie.Need-add-join-node
-add-join-node c = search needs
-
-mul-join-node : tie.Need-mul-join-node
-mul-join-node c = search needs
-
-shared-slice-read-join-node : tie.Need-shared-slice-read-join-node
-shared-slice-read-join-node c = search needs
-
-mul-join-node-2 : tie.Need-mul-join-node-2
-mul-join-node-2 c = search needs
-
-shared-slice-read-join-node-2 : tie.Need-shared-slice-read-join-node-2
-shared-slice-read-join-node-2 c = search needs
-
 join-node-requires : tie.Need-join-node-requires
 join-node-requires c κs =
     let start = c .before .before .before .before .before .before .before .before .before .before in
     let args = start .args in
     let more : args .j + 1 < length (args .q .now) = omega arith in
     (start .pre .0, start .pre .5, behind-order (args .i) (args .j) (start .pre .4) (start .pre .2) more, omega (arith, behind-below (args .i) (args .j) (start .pre .4) (start .pre .2) more, start .pre .6))
-
-same-length-2 : tie.Need-same-length-2
-same-length-2 c = search needs
 
 returns-3 : tie.Need-returns-3
 returns-3 c =
@@ -73,18 +40,18 @@ pub join-behind-spec : {M : Type 1} → statement M
 join-behind-spec =
     tie.close
     (tie.spec
-    ends-nothing-requires
+    (λ c κs. search needs)
     returns
-    sub-k
-    add-if2
-    join-last-requires
-    same-length
+    (λ c. search needs)
+    (λ c. search needs)
+    (λ c κs. search needs)
+    (λ c. search needs)
     returns-2
-    add-join-node
-    mul-join-node
-    shared-slice-read-join-node
-    mul-join-node-2
-    shared-slice-read-join-node-2
+    (λ c. search needs)
+    (λ c. search needs)
+    (λ c. search needs)
+    (λ c. search needs)
+    (λ c. search needs)
     join-node-requires
-    same-length-2
+    (λ c. search needs)
     returns-3)

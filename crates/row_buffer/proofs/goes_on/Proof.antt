@@ -4,15 +4,6 @@ use Rattle.row_buffer.proofs.Rows.{goes-there, goes-elsewhere}
 use Rattle.row_buffer.proofs.goes_on.Statement.{statement}
 use Rattle.row_buffer.proofs.goes_on.Tie as tie
 
-get64-requires : tie.Need-get64-requires
-get64-requires c κs = search needs
-
-add-get64 : tie.Need-add-get64
-add-get64 c = search needs
-
-get64-requires-2 : tie.Need-get64-requires-2
-get64-requires-2 c κs = search needs
-
 returns : tie.Need-returns
 returns c = goes-there _ _ _ _ _ (c .before .before .get64 .ensures) _ (c .before .if1 .taken) (c .get642 .ensures)
 
@@ -20,4 +11,4 @@ returns-2 : tie.Need-returns-2
 returns-2 c = goes-elsewhere _ _ _ _ _ (c .before .get64 .ensures) (c .if1 .left)
 
 pub goes-on-spec : {M : Type 1} → statement M
-goes-on-spec = tie.close (tie.spec get64-requires add-get64 get64-requires-2 returns returns-2)
+goes-on-spec = tie.close (tie.spec (λ c κs. search needs) (λ c. search needs) (λ c κs. search needs) returns returns-2)

@@ -8,30 +8,6 @@ use Rattle.definitions.proofs.Order.{location-path}
 use Rattle.row_buffer.proofs.put_row.Statement.{statement}
 use Rattle.row_buffer.proofs.put_row.Tie as tie
 
-get64-requires : tie.Need-get64-requires
-get64-requires c κs = search needs
-
-add-get64 : tie.Need-add-get64
-add-get64 c = search needs
-
-get64-requires-2 : tie.Need-get64-requires-2
-get64-requires-2 c κs = search needs
-
-add-get64-2 : tie.Need-add-get64-2
-add-get64-2 c = search needs
-
-get64-requires-3 : tie.Need-get64-requires-3
-get64-requires-3 c κs = search needs
-
-new-requires : tie.Need-new-requires
-new-requires c κs = search needs
-
-put-location-requires : tie.Need-put-location-requires
-put-location-requires c κs = search needs
-
-same-length : tie.Need-same-length
-same-length c = search needs
-
 returns : tie.Need-returns
 returns c =
     let put = c .before .before in
@@ -47,12 +23,12 @@ pub put-row-spec : {M : Type 1} → statement M
 put-row-spec =
     tie.close
     (tie.spec
-    get64-requires
-    add-get64
-    get64-requires-2
-    add-get64-2
-    get64-requires-3
-    new-requires
-    put-location-requires
-    same-length
+    (λ c κs. search needs)
+    (λ c. search needs)
+    (λ c κs. search needs)
+    (λ c. search needs)
+    (λ c κs. search needs)
+    (λ c κs. search needs)
+    (λ c κs. search needs)
+    (λ c. search needs)
     returns)

@@ -8,12 +8,6 @@ use Rattle.end_places.proofs.Laying.{laid-one, found-one, found-tabled, found-a
 use Rattle.searching.proofs.find_all.Statement.{statement}
 use Rattle.searching.proofs.find_all.Tie as tie
 
-last-node-requires : tie.Need-last-node-requires
-last-node-requires c κs = search needs
-
-slice-write-ends : tie.Need-slice-write-ends
-slice-write-ends c = search needs
-
 find-end-requires : tie.Need-find-end-requires
 find-end-requires c κs =
     let start = c .before .before .before .before .before .before .before .before in
@@ -25,22 +19,10 @@ same-length c =
     let start = c .before .before .before .before .before .before .before .before .before .before .before .before .before in
     omega (arith, length-set (start .args .ends .now) 1 0, c .before .before .before .before .find-end .kept)
 
-same-length-2 : tie.Need-same-length-2
-same-length-2 c = search needs
-
 returns : tie.Need-returns
 returns c =
     let start = c .before .before .before .before .before .before .before .before .before .before .before .before .before in
     found-one (c .before .before .before .before .before .before .before .if1 .taken) (getD-set-same (start .args .ends .now) 1 0 0 (omega arith)) (c .before .before .before .before .find-end .ensures)
-
-find-loosely-requires : tie.Need-find-loosely-requires
-find-loosely-requires c κs = search needs
-
-same-length-3 : tie.Need-same-length-3
-same-length-3 c = search needs
-
-same-length-4 : tie.Need-same-length-4
-same-length-4 c = search needs
 
 returns-2 : tie.Need-returns-2
 returns-2 c = found-tabled (c .before .before .before .before .before .find-loosely .ensures (c .if2 .taken))
@@ -50,12 +32,6 @@ find-exactly-requires c κs =
     let start = c .before .before .before .before .before .before .before .before .before .before .before .before .before .before .before .before in
     (start .pre .0, omega arith, c .before .before .before .before .before .before .before .before .before .before .before .last-node .ensures, omega (arith, c .before .before .before .before .before .before .before .find-loosely .kept))
 
-same-length-5 : tie.Need-same-length-5
-same-length-5 c = search needs
-
-same-length-6 : tie.Need-same-length-6
-same-length-6 c = search needs
-
 returns-3 : tie.Need-returns-3
 returns-3 c = found-after (c .before .before .before .before .find-exactly .ensures) (search needs)
 
@@ -63,17 +39,17 @@ pub find-all-spec : {M : Type 1} → statement M
 find-all-spec =
     tie.close
     (tie.spec
-    last-node-requires
-    slice-write-ends
+    (λ c κs. search needs)
+    (λ c. search needs)
     find-end-requires
     same-length
-    same-length-2
+    (λ c. search needs)
     returns
-    find-loosely-requires
-    same-length-3
-    same-length-4
+    (λ c κs. search needs)
+    (λ c. search needs)
+    (λ c. search needs)
     returns-2
     find-exactly-requires
-    same-length-5
-    same-length-6
+    (λ c. search needs)
+    (λ c. search needs)
     returns-3)

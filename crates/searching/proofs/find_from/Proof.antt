@@ -17,23 +17,11 @@ Inv-loop img q last count ends₀ scratch₀ i₀ ends scratch i = (1 ≤ i) × 
 abbrev μ-loop : tie.MeasureT-loop
 μ-loop img q last count ends₀ scratch₀ i₀ ends scratch i = i
 
-sub-i : tie.Need-sub-i Inv-loop μ-loop
-sub-i c = search needs
-
-mul-ends : tie.Need-mul-ends Inv-loop μ-loop
-mul-ends c = search needs
-
-slice-write-ends : tie.Need-slice-write-ends Inv-loop μ-loop
-slice-write-ends c = search needs
-
 loop-holds : tie.Need-loop-holds Inv-loop μ-loop
 loop-holds c =
     let start = c .before .before .before .before in
     let args = start .args in
     (omega arith, omega arith, laid-last (rooted (args .img .now)) (args .q .now) (args .ends .now) (args .scratch .now) (args .count) (start .pre .1) (start .pre .3) (start .pre .4), kept-last (rooted (args .img .now)) (args .q .now) (args .ends .now) (args .count) (start .pre .1) (start .pre .3), refl, refl)
-
-sub-i-2 : tie.Need-sub-i-2 Inv-loop μ-loop
-sub-i-2 c = search needs
 
 find-end-requires : tie.Need-find-end-requires Inv-loop μ-loop
 find-end-requires c κs =
@@ -46,16 +34,10 @@ same-length c =
     let start = c .before .before .before .before .before .before .before .before .before .before .before .before .before .before in
     omega (arith, c .before .before .before .before .before .before .before .before .before .loop .inv .5, length-set (start .args .ends .now) (length (start .args .q .now) - 1) (start .args .count), c .before .before .before .before .before .find-end .kept)
 
-same-length-2 : tie.Need-same-length-2 Inv-loop μ-loop
-same-length-2 c = search needs
-
 returns : tie.Need-returns Inv-loop μ-loop
 returns c =
     let turn = c .before .before .before .before .before .before .before .before .before .loop in
     all-over (c .before .before .before .before .before .before .before .before .before .before .before .before .before .before .args .count) (turn .i - 1) (turn .i) (omega arith) (omega arith) (c .before .before .before .before .before .find-end .ensures) (turn .inv .3) (c .if1 .taken) (turn .inv .4)
-
-loop-less : tie.Need-loop-less Inv-loop μ-loop
-loop-less c = search needs
 
 loop-again : tie.Need-loop-again Inv-loop μ-loop
 loop-again c =
@@ -74,9 +56,6 @@ same-length-3 c =
     let start = c .before .before .before .before .before .before .before .before .before .before .before .before .before in
     omega (arith, c .before .before .before .before .before .before .before .before .loop .inv .5, length-set (start .args .ends .now) (length (start .args .q .now) - 1) (start .args .count), c .before .before .before .before .find-end2 .kept)
 
-same-length-4 : tie.Need-same-length-4 Inv-loop μ-loop
-same-length-4 c = search needs
-
 returns-2 : tie.Need-returns-2 Inv-loop μ-loop
 returns-2 c =
     let turn = c .before .before .before .before .before .before .before .before .loop in
@@ -88,18 +67,18 @@ find-from-spec =
     (tie.spec
     Inv-loop
     μ-loop
-    sub-i
-    mul-ends
-    slice-write-ends
+    (λ c. search needs)
+    (λ c. search needs)
+    (λ c. search needs)
     loop-holds
-    sub-i-2
+    (λ c. search needs)
     find-end-requires
     same-length
-    same-length-2
+    (λ c. search needs)
     returns
-    loop-less
+    (λ c. search needs)
     loop-again
     find-end-requires-2
     same-length-3
-    same-length-4
+    (λ c. search needs)
     returns-2)

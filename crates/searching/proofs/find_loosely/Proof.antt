@@ -12,26 +12,8 @@ returns c = λ e. clash (sym e)
 returns-2 : tie.Need-returns-2
 returns-2 c = λ e. clash (sym e)
 
-add-most : tie.Need-add-most
-add-most c = search needs
-
-find-from-requires : tie.Need-find-from-requires
-find-from-requires c κs = search needs
-
-same-length : tie.Need-same-length
-same-length c = search needs
-
-same-length-2 : tie.Need-same-length-2
-same-length-2 c = search needs
-
 returns-3 : tie.Need-returns-3
 returns-3 c = λ e. clash (sym e)
-
-same-length-3 : tie.Need-same-length-3
-same-length-3 c = search needs
-
-same-length-4 : tie.Need-same-length-4
-same-length-4 c = search needs
 
 returns-4 : tie.Need-returns-4
 returns-4 c =
@@ -44,11 +26,11 @@ find-loosely-spec =
     (tie.spec
     returns
     returns-2
-    add-most
-    find-from-requires
-    same-length
-    same-length-2
+    (λ c. search needs)
+    (λ c κs. search needs)
+    (λ c. search needs)
+    (λ c. search needs)
     returns-3
-    same-length-3
-    same-length-4
+    (λ c. search needs)
+    (λ c. search needs)
     returns-4)

@@ -9,26 +9,8 @@ use Rattle.end_places.proofs.Progress.{sound-laid, found-laid, walked-ending, n
 use Rattle.searching.proofs.last_node.Statement.{statement}
 use Rattle.searching.proofs.last_node.Tie as tie
 
-sub-i : tie.Need-sub-i
-sub-i c = search needs
-
-sub-search-raw-str : tie.Need-sub-search-raw-str
-sub-search-raw-str c = search needs
-
-part-search-raw-str-start : tie.Need-part-search-raw-str-start
-part-search-raw-str-start c = search needs
-
-part-search-raw-str-end : tie.Need-part-search-raw-str-end
-part-search-raw-str-end c = search needs
-
 search-raw-str-requires : tie.Need-search-raw-str-requires
 search-raw-str-requires c κs = sound-laid (c .before .before .before .pre .0)
-
-enum-known-at : tie.Need-enum-known-at
-enum-known-at c = search needs
-
-enum-told : tie.Need-enum-told
-enum-told c = search needs
 
 returns : tie.Need-returns
 returns c =
@@ -55,13 +37,13 @@ pub last-node-spec : {M : Type 1} → statement M
 last-node-spec =
     tie.close
     (tie.spec
-    sub-i
-    sub-search-raw-str
-    part-search-raw-str-start
-    part-search-raw-str-end
+    (λ c. search needs)
+    (λ c. search needs)
+    (λ c. search needs)
+    (λ c. search needs)
     search-raw-str-requires
-    enum-known-at
-    enum-told
+    (λ c. search needs)
+    (λ c. search needs)
     returns
     node-at-requires
     returns-2)

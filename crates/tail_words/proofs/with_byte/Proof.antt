@@ -4,14 +4,8 @@ use borrow.Author.Needs.{needs}
 use Rattle.tail_words.proofs.with_byte.Statement.{statement}
 use Rattle.tail_words.proofs.with_byte.Tie as tie
 
-mul-result : tie.Need-mul-result
-mul-result c = search needs
-
-add-result : tie.Need-add-result
-add-result c = search needs
-
 returns : tie.Need-returns
 returns c = refl
 
 pub with-byte-spec : {M : Type 1} → statement M
-with-byte-spec = tie.close (tie.spec mul-result add-result returns)
+with-byte-spec = tie.close (tie.spec (λ c. search needs) (λ c. search needs) returns)
