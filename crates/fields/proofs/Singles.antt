@@ -16,8 +16,8 @@ use Rattle.kinds.specs.Kinds.{fits}
 use Rattle.image_format.specs.Reading.{Step, Table, done, fault, head, offset, open-table, read-child, read-head, read-node, sparse-table, table}
 use Rattle.fields.specs.Singles.{SingleBeforeChild, SinglesBelow}
 
-pub not-true : {P : Type 0} → false ≡ true → P
-not-true e = let z : _≡_ {A = ℕ} 0 1 = cc in absurd (omega arith)
+pub not-so : {P : Type 0} → false ≡ true → P
+not-so e = let z : _≡_ {A = ℕ} 0 1 = cc in absurd (omega arith)
 
 -- with a test that holds
 pub by-test : {P : Type 0} (n m : ℕ) → (n ≡ m → P) → eqb n m ≡ true → P

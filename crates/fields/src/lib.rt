@@ -56,6 +56,7 @@ pub enum Due {
     Wrong(u64),
 }
 
+// A part that is refused.
 pub fn refuse(n: u64) -> Past
     ensures { λ r. ⌜ r .refusal ≡ n ⌝ }
 {

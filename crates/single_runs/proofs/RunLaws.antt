@@ -17,6 +17,7 @@ use Rattle.trie.specs.Test.{all-ended, and-list, child-lists, front-lists, is-u
 use Rattle.trie.proofs.Union.{both}
 use Rattle.location_lists.specs.Lists.{Lists as ListsIn, lists-in, count-with}
 use Rattle.image_format.specs.Held.{Entry}
+pub use Rattle.fields.proofs.Singles.{by-test, not-so}
 use Rattle.fields.specs.Singles.{Bare, SingleWithoutLists}
 use Rattle.image_walk.specs.Parts.{parts-at}
 use Rattle.image_walk.specs.Tables.{slot-in}
@@ -33,12 +34,6 @@ use Rattle.node_rule.proofs.Owed.{table-none}
 use Rattle.node_rule.proofs.TwoLists.{two-among, two-valid}
 use Rattle.location_lists.proofs.Buffers.{no-lists}
 use Rattle.image_walk.specs.declared.Node.{Node as Parts}
-
-pub not-so : {P : Type 0} → false ≡ true → P
-not-so e = let z : _≡_ {A = ℕ} 0 1 = cc in absurd (omega arith)
-
-pub by-test : {P : Type 0} (n m : ℕ) → (n ≡ m → P) → eqb n m ≡ true → P
-by-test n m f e = f (eqb-true n m e)
 
 -- ── one node ──
 

@@ -1,16 +1,16 @@
 -- `fields::is_single_without_lists` meets its contract. Assumes nothing.
 use native.Mathlib.Omega.{arith}
 use borrow.Author.Tests.{not-false}
-use Rattle.fields.proofs.Singles.{by-test, not-true}
+use Rattle.fields.proofs.Singles.{by-test, not-so}
 use borrow.Author.Needs.{needs}
 use Rattle.fields.proofs.is_single_without_lists.Statement.{statement}
 use Rattle.fields.proofs.is_single_without_lists.Tie as tie
 
 returns : tie.Need-returns
-returns c = not-true
+returns c = not-so
 
 returns-2 : tie.Need-returns-2
-returns-2 c = not-true
+returns-2 c = not-so
 
 returns-3 : tie.Need-returns-3
 returns-3 c = by-test (c .before .get642 .result) 1 λ e. record { bare = c .before .before .before .before .is-bare .ensures (not-false _ (c .before .before .before .if1 .left)); suffixes = omega (arith, e); count = omega (arith, e) }
