@@ -18,7 +18,7 @@ use Rattle.image_format.specs.Held.{trie-in}
 use Rattle.image_format.specs.Reading.{Layout, right, RightImage}
 use Rattle.image_format.specs.Reading as R
 use Rattle.image_format.specs.Savable.{AllBytes}
-use Rattle.index_rule.specs.Check.{check-image}
+use Rattle.image_format.specs.Check.{check-image}
 use Rattle.index_rule.proofs.Theorems.{check-image-is}
 use Rattle.row_buffer.specs.declared.Finding.{Finding}
 use Rattle.row_buffer.specs.Answer.{Rows-found, finding-of, rows-answer, refused}

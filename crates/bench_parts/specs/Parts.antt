@@ -10,7 +10,7 @@ use Rattle.definitions.specs.Calls.{query-limit}
 use Rattle.trie.specs.Trie.{Trie}
 use Rattle.image_format.specs.Held.{trie-in}
 use Rattle.image_format.specs.Reading.{Layout, right, refused}
-use Rattle.index_rule.specs.Check.{check-image}
+use Rattle.image_format.specs.Check.{check-image}
 use Rattle.row_buffer.specs.Answer as S
 use Rattle.searching.specs.Search.{search-answer}
 

@@ -8,7 +8,7 @@ ghost use Rattle.trie.specs.Rule.{Rule};
 ghost use Rattle.fields.specs.Answers.{layout-of};
 ghost use Rattle.image_format.specs.Held.{trie-in};
 ghost use Rattle.image_format.specs.Reading.{read-image, RightImage};
-ghost use Rattle.index_rule.specs.Check.{check-image};
+ghost use Rattle.image_format.specs.Check.{check-image};
 ghost use Rattle.definitions.specs.Causes.{ScratchAfter};
 ghost use Rattle.row_buffer.specs.Answer.{finding-of};
 ghost use Rattle.searching.specs.Search.{search-answer};

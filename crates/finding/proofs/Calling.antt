@@ -11,7 +11,7 @@ use Rattle.index_rule.proofs.Theorems.{check-image-is}
 use Rattle.memory_header.specs.Layout.{Header}
 use Rattle.index_memory.specs.Index.{finished, image-part}
 use Rattle.finished_memory.proofs.Holds.{part-bytes, part-small}
-use Rattle.inspecting.specs.Held.{RightImage as Tested, ImageIn}
+use Rattle.inspecting.specs.Held.{AcceptedImage, ImageIn}
 use Rattle.inspecting.proofs.Facts.{same-part}
 use Rattle.searching.specs.Search.{search-answer}
 use Rattle.row_buffer.specs.declared.Finding.{Finding}
@@ -23,7 +23,7 @@ use Rattle.finding.proofs.FindCall.{by-pieces, Finds, searched}
 
 -- ── the image ──
 
-module _ (s : List ℕ) (a : AllBytes s) (l : length s < 2 ^ 64) (t : Tested s) where
+module _ (s : List ℕ) (a : AllBytes s) (l : length s < 2 ^ 64) (t : AcceptedImage s) where
   both : (read-image s ≡ right (t .nodes) (t .entries)) × Rule (trie-in s)
   both = check-image-is s a l (t .nodes) (t .entries) .0 (sym (t .is))
 

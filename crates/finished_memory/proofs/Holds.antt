@@ -21,6 +21,8 @@ use Rattle.image_format.specs.Held.{trie-in}
 use Rattle.image_format.specs.Savable.{AllBytes, Savable}
 use Rattle.image_format.proofs.Sizes.{image-size}
 use Rattle.image_format.proofs.Theorems.{image-read, read-image-is}
+use Rattle.image_format.specs.Check.{check-image}
+use Rattle.image_format.proofs.Verdict.{check-accepts, image-passes}
 use Rattle.memory_header.specs.Layout.{Room, Header, header-at, header-bytes, header-right}
 use Rattle.memory_header.specs.Answers.{heading-at}
 use Rattle.index_memory.specs.Log.{log-in}
@@ -122,13 +124,11 @@ module _ (m : List ℕ) (c : Capacity) (t : Trie) (r : Room m c) (w : Within c t
   by-image : read-index memory ≡ finished-index memory h
   by-image = index-by-image memory h (sym (subst (λ (x : Header). some x ≡ heading-at memory) header (heading-some memory (subst (HeaderFacts memory) (sym header) facts)))) (λ e. omega arith)
 
-  right-image : (s : List ℕ) → s ≡ image t → if-right (read-image s) h s ≡ finished c t
+  right-image : (s : List ℕ) → s ≡ image t → if-right (check-image s) h s ≡ finished c t
   right-image s e =
-      let r = image-read t v in
-      let i : if-right (read-image (image t)) h (image t) ≡ cond (eqb (nodes t) (nodes t) && (eqb (entries t) (entries t) && index-rule (trie-in (image t)))) (finished c (trie-in (image t))) broken = ap (λ (x : Layout). if-right x h (image t)) (r .0) in
-      ap (λ (x : List ℕ). if-right (read-image x) h x) e ∙ i
-      ∙ ap (λ (u : Trie). cond (eqb (nodes t) (nodes t) && (eqb (entries t) (entries t) && index-rule u)) (finished c u) broken) (r .1)
-      ∙ rw (eq-eqb (nodes t) (nodes t) refl, eq-eqb (entries t) (entries t) refl, rule)
+      ap (λ (x : List ℕ). if-right (check-image x) h x) e ∙ ap (λ (l : Layout). if-right l h (image t)) (image-passes t v rule)
+      ∙ ap (λ (u : Trie). cond (eqb (nodes t) (nodes t) && eqb (entries t) (entries t)) (finished c u) broken) (image-read t v .1)
+      ∙ rw (eq-eqb (nodes t) (nodes t) refl, eq-eqb (entries t) (entries t) refl) refl
 
   pub finished-holds : read-index (finished-memory m c t) ≡ finished c t
   finished-holds = by-image ∙ right-image (take (length (image t)) (drop 64 memory)) part
@@ -155,21 +155,18 @@ record Passed (h : Header) (s : List ℕ) (c : Capacity) (t : Trie) : Type 0 whe
   read : read-image s ≡ right (h .nodes) (h .entries)
   rule : index-rule t ≡ true
 
-passed : (l : Layout) (h : Header) (s : List ℕ) → read-image s ≡ l → (c : Capacity) (t : Trie) → if-right l h s ≡ finished c t → Passed h s c t
+passed : (l : Layout) (h : Header) (s : List ℕ) → check-image s ≡ l → (c : Capacity) (t : Trie) → if-right l h s ≡ finished c t → Passed h s c t
 passed (refused n) h s q c t e = absurd (let z : _≡_ {A = ℕ} 0 1 = cc in omega arith)
-passed (right k j) h s q c t e = go (eqb (h .nodes) k && (eqb (h .entries) j && index-rule (trie-in s))) refl e
+passed (right k j) h s q c t e = go (eqb (h .nodes) k && eqb (h .entries) j) refl e
   where
-    go : (o : Bool) → (eqb (h .nodes) k && (eqb (h .entries) j && index-rule (trie-in s))) ≡ o → cond o (finished (h .capacity) (trie-in s)) broken ≡ finished c t → Passed h s c t
+    go : (o : Bool) → (eqb (h .nodes) k && eqb (h .entries) j) ≡ o → cond o (finished (h .capacity) (trie-in s)) broken ≡ finished c t → Passed h s c t
     go false p f = absurd (let z : _≡_ {A = ℕ} 0 1 = cc in omega arith)
     go true p f =
-        let a : Bool = eqb (h .nodes) k in
-        let b : Bool = eqb (h .entries) j in
-        let d : Bool = index-rule (trie-in s) in
-        let p′ : (b && d) ≡ true = and-right a (b && d) p in
-        let n : h .nodes ≡ k = eqb-true (h .nodes) k (and-left a (b && d) p) in
-        let i : h .entries ≡ j = eqb-true (h .entries) j (and-left b d p′) in
+        let x = check-accepts s k j q in
+        let n : h .nodes ≡ k = eqb-true (h .nodes) k (and-left (eqb (h .nodes) k) (eqb (h .entries) j) p) in
+        let i : h .entries ≡ j = eqb-true (h .entries) j (and-right (eqb (h .nodes) k) (eqb (h .entries) j) p) in
         let u : trie-in s ≡ t = cc in
-        record { capacity = cc; trie = u; read = q ∙ sym (rw (n, i) refl); rule = subst (λ (x : Trie). index-rule x ≡ true) u (and-right b d p′) }
+        record { capacity = cc; trie = u; read = x .0 ∙ sym (rw (n, i) refl); rule = subst (λ (y : Trie). index-rule y ≡ true) u (x .1) }
 
 -- what is known of a finished index: it can be saved, and is within its capacity
 pub record FinishedIs (m : List ℕ) (c : Capacity) (t : Trie) : Type 0 where
@@ -224,5 +221,5 @@ module _ (m : List ℕ) where
 
       go : (o : Bool) → header-right m ≡ o → (p : Bool) → cond o (cond p (open-index m there) (finished-index m there)) broken ≡ finished c t → FinishedIs m c t
       go true r true f = absurd (never-open (log-right m there) f)
-      go true r false f = from r (passed (read-image (image-part m there)) there (image-part m there) refl c t f)
+      go true r false f = from r (passed (check-image (image-part m there)) there (image-part m there) refl c t f)
       go false r p f = absurd (let z : _≡_ {A = ℕ} 0 1 = cc in omega arith)

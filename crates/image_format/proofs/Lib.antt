@@ -1,5 +1,5 @@
 -- `Entries`, `Heads`, `Tables`, `Nodes` have a law for each field; `ReadBack` and what it cites say that what is written is read
--- back, `Sound` and what it cites that what is read was so written; `Sizes` bounds an image; `Theorems` has the promises;
+-- back, `Sound` and what it cites that what is read was so written; `Sizes` bounds an image; `Theorems` has the promises; `Verdict` what accepting an image tells;
 -- `Recording` computes recording 13. Assumes nothing.
 pub mod Entries
 pub mod Heads
@@ -26,4 +26,5 @@ pub mod NodeSound
 pub mod Shapes
 pub mod Sizes
 pub mod Theorems
+pub mod Verdict
 pub mod Recording

@@ -11,8 +11,8 @@ use lib.Dec.{eqb}
 use borrow.Author.Tests.{eqb-true, eq-eqb, ne-eqb}
 use Rattle.definitions.specs.Blocks.{Piece, nodes-tallied, entries-tallied}
 use Rattle.definitions.specs.Calls.{Capacity}
-use Rattle.trie.specs.Test.{index-rule}
-use Rattle.image_format.specs.Reading.{Layout, right, refused, read-image}
+use Rattle.image_format.specs.Reading.{Layout, right, refused}
+use Rattle.image_format.specs.Check.{check-image}
 use Rattle.image_format.specs.Held.{trie-in}
 use Rattle.memory_header.specs.Layout.{Room, Header, header-at, header-bytes, with-header, header-right}
 use Rattle.memory_header.specs.Opening.{open-memory}
@@ -85,7 +85,7 @@ open-room m h f z = omega (arith, open-payload m h f z, f .held)
 -- a finished index is not open
 not-finished : (l : Layout) (h : Header) (s : List ℕ) (c : Capacity) (ps : List Piece) → if-right l h s ≡ opened c ps → ⊥
 not-finished (refused n) h s c ps e = let z : _≡_ {A = ℕ} 0 1 = cc in omega arith
-not-finished (right nodes entries) h s c ps e = go (eqb (h .nodes) nodes && (eqb (h .entries) entries && index-rule (trie-in s))) e
+not-finished (right nodes entries) h s c ps e = go (eqb (h .nodes) nodes && eqb (h .entries) entries) e
   where
     go : (o : Bool) → cond o (finished (h .capacity) (trie-in s)) broken ≡ opened c ps → ⊥
     go true f = let z : _≡_ {A = ℕ} 0 1 = cc in omega arith
@@ -134,7 +134,7 @@ module _ (m : List ℕ) (c : Capacity) (ps : List Piece) where
           → OpenIs m c ps
       go true r true p true t f = from-tests r (eqb-true (header-at m .phase) 0 p) t f
       go true r true p false t f = absurd (let z : _≡_ {A = ℕ} 0 1 = cc in omega arith)
-      go true r false p o₃ t f = absurd (not-finished (read-image (image-part m (header-at m))) (header-at m) (image-part m (header-at m)) c ps f)
+      go true r false p o₃ t f = absurd (not-finished (check-image (image-part m (header-at m))) (header-at m) (image-part m (header-at m)) c ps f)
       go false r o₂ p o₃ t f = absurd (let z : _≡_ {A = ℕ} 0 1 = cc in omega arith)
 
 -- the pieces of an open index in a memory of bytes

@@ -8,8 +8,8 @@ use lib.Dec.{eqb}
 use Rattle.definitions.specs.Blocks.{Piece, nodes-tallied, entries-tallied}
 use Rattle.definitions.specs.Calls.{Capacity, Standing, header-size}
 use Rattle.trie.specs.Trie.{Trie, trie-pieces}
-use Rattle.trie.specs.Test.{index-rule}
-use Rattle.image_format.specs.Reading.{Layout, right, refused, read-image}
+use Rattle.image_format.specs.Reading.{Layout, right, refused}
+use Rattle.image_format.specs.Check.{check-image}
 use Rattle.image_format.specs.Held.{trie-in}
 use Rattle.memory_header.specs.Layout.{Header, header-at, header-right}
 use Rattle.index_memory.specs.Log.{log-in, log-sound}
@@ -42,14 +42,14 @@ open-index m h = cond (log-right m h) (opened (h .capacity) (log-in m (h .payloa
 abbrev pub image-part : List ℕ → Header → List ℕ
 image-part m h = take (h .payload) (drop header-size m)
 
--- the layout is right, the tally is what finish sets, and the finished index rule holds
+-- the image is right, and the tally is what finish sets
 abbrev pub if-right : Layout → Header → List ℕ → Index
 if-right (refused n) h s = broken
-if-right (right nodes entries) h s = cond (eqb (h .nodes) nodes && (eqb (h .entries) entries && index-rule (trie-in s))) (finished (h .capacity) (trie-in s)) broken
+if-right (right nodes entries) h s = cond (eqb (h .nodes) nodes && eqb (h .entries) entries) (finished (h .capacity) (trie-in s)) broken
 
 -- phase 1: the image decides
 abbrev pub finished-index : List ℕ → Header → Index
-finished-index m h = if-right (read-image (image-part m h)) h (image-part m h)
+finished-index m h = if-right (check-image (image-part m h)) h (image-part m h)
 
 -- what a memory holds; one without room for a header breaks the rule
 unfoldable pub read-index : List ℕ → Index

@@ -17,8 +17,9 @@ use Rattle.image_format.proofs.Theorems.{read-image-is}
 use Rattle.image_format.specs.Held.{trie-in}
 use Rattle.image_format.specs.Reading.{Layout, right, refused, read-image}
 use Rattle.image_format.specs.Savable.{AllBytes, Shaped, Short}
-use Rattle.index_rule.specs.Check.{and-rule, check-image}
+use Rattle.image_format.specs.Check.{and-rule, check-image}
 use Rattle.index_rule.specs.Promises.{IndexRuleIs, CheckImageIs}
+use Rattle.image_format.proofs.Verdict.{accepted}
 
 -- ── no path exceeds the levels ──
 
@@ -55,21 +56,6 @@ index-rule-is empty v = ((λ e. tt), λ r. refl)
 index-rule-is (root n) v = rule-test-is n (λ path h. short-path path 16 n (h .node) (v .short) (h .there)) (v .apart)
 
 -- ── the whole check ──
-
--- accepted is what is right and meets the rule
-accepted : (o : Bool) (l : Layout) (k e : ℕ) → (and-rule o l ≡ right k e) ↔ ((l ≡ right k e) × (o ≡ true))
-accepted o (refused n) k e = ((λ f. absurd (clash f)), λ f. f .0)
-  where
-    clash : refused n ≡ right k e → ⊥
-    clash f = let z : _≡_ {A = ℕ} 0 1 = cc in omega arith
-accepted true (right m n) k e = ((λ f. (f, refl)), λ f. f .0)
-accepted false (right m n) k e = ((λ f. absurd (clash f)), λ f. absurd (never (f .1)))
-  where
-    clash : refused 15 ≡ right k e → ⊥
-    clash f = let z : _≡_ {A = ℕ} 0 1 = cc in omega arith
-
-    never : false ≡ true → ⊥
-    never f = let z : _≡_ {A = ℕ} 0 1 = cc in omega arith
 
 pub check-image-is : CheckImageIs
 unfolding check-image

@@ -17,7 +17,7 @@ use Rattle.node_rule.specs.Parts.{PartsOf, HasParts, HasTable}
 use Rattle.single_runs.specs.Says.{children-right, ChildrenAsked, ChildrenSays}
 use Rattle.fronts.specs.FrontRule.{RootFronts}
 use Rattle.node_rule.specs.OneNode.{SaysNode}
-use Rattle.index_rule.specs.Check.{and-rule, check-image}
+use Rattle.image_format.specs.Check.{and-rule, check-image}
 use Rattle.node_rule.proofs.Parts.{parts-of}
 use Rattle.node_rule.proofs.Owed.{and-not, and-so}
 use Rattle.image_walk.specs.declared.Node.{Node as Parts}

@@ -1,3 +1,2 @@
--- `Check` has the verdict on an image, `Promises` what a reader may conclude. Assumes nothing.
-pub mod Check
+-- `Promises` has what a reader may conclude. Assumes nothing.
 pub mod Promises

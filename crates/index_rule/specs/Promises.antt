@@ -11,7 +11,7 @@ use Rattle.trie.specs.Test.{index-rule}
 use Rattle.image_format.specs.Held.{trie-in}
 use Rattle.image_format.specs.Reading.{right, read-image}
 use Rattle.image_format.specs.Savable.{AllBytes, Shaped}
-use Rattle.index_rule.specs.Check.{check-image}
+use Rattle.image_format.specs.Check.{check-image}
 
 -- the test that is computed is the index rule in the document's words
 abbrev pub IndexRuleIs : Type 0

@@ -5,7 +5,7 @@ ghost use Rattle.trie.specs.Test.{index-rule};
 ghost use Rattle.image_format.specs.Held.{trie-in};
 ghost use Rattle.fields.specs.Answers.{layout-of};
 ghost use Rattle.image_format.specs.Reading.{RightImage};
-ghost use Rattle.index_rule.specs.Check.{check-image};
+ghost use Rattle.image_format.specs.Check.{check-image};
 
 // The numbers of the stack of fronts: 17 depths of 256 fronts of three.
 const STACK_SIZE: usize = 13056;

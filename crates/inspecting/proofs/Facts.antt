@@ -9,10 +9,9 @@ use lib.ListN.{length, take, drop}
 use lib.Dec.{eqb}
 use borrow.Author.Tests.{eq-eqb, ne-eqb}
 use Rattle.definitions.specs.Calls.{needed}
-use Rattle.trie.specs.Test.{index-rule}
 use Rattle.image_format.specs.Held.{trie-in}
-use Rattle.image_format.specs.Reading.{Layout, right, refused, read-image}
-use Rattle.index_rule.specs.Check.{and-rule, check-image}
+use Rattle.image_format.specs.Reading.{Layout, right, refused}
+use Rattle.image_format.specs.Check.{check-image}
 use Rattle.memory_header.specs.Layout.{Header, header-at, payload-size}
 use Rattle.memory_header.specs.Answers.{header-of, heading-at}
 use Rattle.index_memory.specs.Log.{log-in}
@@ -50,60 +49,21 @@ other-nodes a b c d h = rw (ne-eqb a b h) refl
 pub same-nodes : (a b c d : ℕ) → a ≡ b → eqb c d ≡ (eqb a b && eqb c d)
 same-nodes a b c d h = rw (eq-eqb a b h) refl
 
--- what the layout and the rule make of an image
-abbrev judged : Layout → Bool → Header → List ℕ → Index
-judged (refused n) o h s = broken
-judged (right k j) o h s = cond (eqb (h .nodes) k && (eqb (h .entries) j && o)) (finished (h .capacity) (trie-in s)) broken
-
-and-none : (a b : Bool) → (a && (b && false)) ≡ false
-and-none true true = refl
-and-none true false = refl
-and-none false b = refl
-
-and-last : (a b : Bool) → (a && (b && true)) ≡ (a && b)
-and-last true true = refl
-and-last true false = refl
-and-last false b = refl
-
 true-false : false ≡ true → ⊥
 true-false f = let z : _≡_ {A = ℕ} 0 1 = cc in omega arith
 
-clash : {n k e : ℕ} → refused n ≡ right k e → ⊥
-clash f = let z : _≡_ {A = ℕ} 0 1 = cc in omega arith
-
 module _ (m : List ℕ) (h : Header) (s : List ℕ) (part : s ≡ image-part m h) where
-  judged-is : finished-index m h ≡ judged (read-image (image-part m h)) (index-rule (trie-in (image-part m h))) h (image-part m h)
-  judged-is = go (read-image (image-part m h))
-    where
-      go : (l : Layout) → if-right l h (image-part m h) ≡ judged l (index-rule (trie-in (image-part m h))) h (image-part m h)
-      go (refused n) = refl
-      go (right k j) = refl
+  by-verdict : (l : Layout) → l ≡ check-image s → finished-index m h ≡ if-right l h (image-part m h)
+  by-verdict l e = ap (λ (x : Layout). if-right x h (image-part m h)) (sym (e ∙ ap check-image part))
 
   -- refused by its layout or by the rule
   pub image-refused : (n : ℕ) → refused n ≡ check-image s → SaysImage m h false
-  unfolding check-image
-  image-refused n e = record { is = judged-is ∙ go (read-image (image-part m h)) (index-rule (trie-in (image-part m h))) (e ∙ ap check-image part); tested = λ t. absurd (true-false t) }
-    where
-      go : (l : Layout) (o : Bool) → refused n ≡ and-rule o l → judged l o h (image-part m h) ≡ broken
-      go (refused k) o e = refl
-      go (right k j) true e = absurd (clash e)
-      go (right k j) false e = rw (and-none (eqb (h .nodes) k) (eqb (h .entries) j)) refl
+  image-refused n e = record { is = by-verdict (refused n) e; tested = λ t. absurd (true-false t) }
 
   -- right by both: the tally decides
   pub image-right : (k j : ℕ) → right k j ≡ check-image s → (r : Bool) → r ≡ (eqb (h .nodes) k && eqb (h .entries) j) → SaysImage m h r
-  unfolding check-image
-  image-right k j e r q = record { is = judged-is ∙ go (read-image (image-part m h)) (index-rule (trie-in (image-part m h))) (e ∙ ap check-image part); tested = λ t. record { nodes = k; entries = j; is = e ∙ ap check-image part } }
-    where
-      fin : Index
-      fin = finished (h .capacity) (trie-in (image-part m h))
-
-      go : (l : Layout) (o : Bool) → right k j ≡ and-rule o l → judged l o h (image-part m h) ≡ cond r fin broken
-      go (refused n) o e = absurd (clash (sym e))
-      go (right k′ j′) false e = absurd (clash (sym e))
-      go (right k′ j′) true e =
-          let a : k ≡ k′ = cc in
-          let b : j ≡ j′ = cc in
-          rw (and-last (eqb (h .nodes) k′) (eqb (h .entries) j′), q, a, b) refl
+  image-right k j e r q =
+      record { is = by-verdict (right k j) e ∙ ap (λ (o : Bool). cond o (finished (h .capacity) (trie-in (image-part m h))) broken) (sym q); tested = λ t. record { nodes = k; entries = j; is = e ∙ ap check-image part } }
 
 -- ── the whole memory ──
 

@@ -7,7 +7,7 @@ use lib.ListN.{length}
 use Rattle.definitions.specs.Calls.{header-size}
 use Rattle.image_format.specs.Held.{trie-in}
 use Rattle.image_format.specs.Reading.{right}
-use Rattle.index_rule.specs.Check.{check-image}
+use Rattle.image_format.specs.Check.{check-image}
 use Rattle.memory_header.specs.Layout.{Header, header-at}
 use Rattle.memory_header.specs.Answers.{header-of}
 use Rattle.index_memory.specs.Log.{log-in}
@@ -16,7 +16,7 @@ use Rattle.inspecting.specs.declared.Held.{Held}
 use Rattle.inspecting.specs.declared.Held.the-variants.{Broken, Open, Finished}
 
 -- an image that passes the whole test
-pub record RightImage (s : List ℕ) : Type 0 where
+pub record AcceptedImage (s : List ℕ) : Type 0 where
   pub nodes : ℕ
   pub entries : ℕ
   pub is : right nodes entries ≡ check-image s
@@ -24,7 +24,7 @@ pub record RightImage (s : List ℕ) : Type 0 where
 -- a finished index that is right has the trie of its image
 pub record SaysImage (m : List ℕ) (h : Header) (r : Bool) : Type 0 where
   pub is : finished-index m h ≡ cond r (finished (h .capacity) (trie-in (image-part m h))) broken
-  pub tested : r ≡ true → RightImage (image-part m h)
+  pub tested : r ≡ true → AcceptedImage (image-part m h)
 
 -- the index that an answer stands for
 abbrev pub held-in : List ℕ → Held → Index
@@ -35,7 +35,7 @@ held-in m (Finished h) = finished (header-of h .capacity) (trie-in (image-part m
 -- the header is that of the memory, and the image behind it passed the test and lies within the memory
 pub record ImageIn (m : List ℕ) (h : Header) : Type 0 where
   pub header : header-at m ≡ h
-  pub tested : RightImage (image-part m h)
+  pub tested : AcceptedImage (image-part m h)
   pub within : header-size + h .payload ≤ length m
 
 -- the header is that of the memory, in both cases

@@ -13,7 +13,7 @@ use Rattle.trie.specs.Test.{index-rule}
 use Rattle.kinds.specs.Kinds.{fits}
 use Rattle.image_format.specs.Held.{trie-in}
 use Rattle.image_format.specs.Reading.{ListRead, past, cut, HeadRead, head, no-head, behind-list, read-list, read-lists, read-head, Table, find-byte, table-fault, sparse-table, TableRead, table, no-table, unless-fault, open-table, Slot, offset, skip, slot-at, Step, done, fault, behind, Turn, child, gap, none-due, wrong, slot-turn, turn-at, by-turn, read-child, all-met, read-turns, read-table, behind-table, behind-head, read-node, read-counts, read-root, Layout, right, refused, to-the-end, read-image}
-use Rattle.index_rule.specs.Check.{and-rule, check-image}
+use Rattle.image_format.specs.Check.{and-rule, check-image}
 
 -- the numbers of an image's faults
 abbrev pub Number : ℕ → Type 0

@@ -20,7 +20,7 @@ use Rattle.image_format.specs.Reading.{Layout, right, refused, fault-of, nodes-
 use Rattle.image_format.specs.Savable.{AllBytes, Savable}
 use Rattle.image_format.proofs.Sizes.{image-size}
 use Rattle.image_format.proofs.Theorems.{read-image-is}
-use Rattle.index_rule.specs.Check.{check-image}
+use Rattle.image_format.specs.Check.{check-image}
 use Rattle.index_rule.proofs.Theorems.{check-image-is}
 use Rattle.memory_header.specs.Layout.{Room, Header}
 use Rattle.memory_header.specs.Opening.{Done, unless-refused}

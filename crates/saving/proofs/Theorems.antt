@@ -19,7 +19,7 @@ use Rattle.image_format.specs.Held.{trie-in}
 use Rattle.image_format.specs.Reading.{Layout, right, refused, fault-of, nodes-in, entries-in}
 use Rattle.image_format.specs.Savable.{Savable}
 use Rattle.image_format.proofs.Theorems.{image-read}
-use Rattle.index_rule.specs.Check.{and-rule, check-image}
+use Rattle.image_format.specs.Check.{and-rule, check-image}
 use Rattle.index_rule.proofs.Theorems.{check-image-is, index-rule-is}
 use Rattle.memory_header.specs.Opening.{Done, unless-refused}
 use Rattle.index_memory.specs.Index.{Index, broken, opened, finished, standing-of, read-index}
@@ -31,6 +31,7 @@ use Rattle.saving.specs.Saving.{Saving, saved-or-refused, image-of, save
 use Rattle.saving.specs.Promises.{Lent, LoadHolds, SaveOfLoaded, bytes-of, SaveIsImage, LoadOfSaved, ImageRefusal}
 use Rattle.saving.proofs.Laws.{accepted, save-as, saved, load-image, fault-over, load-as, both-within}
 use Rattle.saving.proofs.Faults.{Number, InLayout, check-in}
+use Rattle.image_format.proofs.Verdict.{image-passes}
 
 -- ── a load that is not refused ──
 
@@ -123,13 +124,6 @@ pub save-is-image : SaveIsImage
 save-is-image m buffer c t e r =
     let q : save-by (finished c t) buffer ≡ save-memory m buffer = save-as m buffer (finished c t) e in
     ap bytes-of (sym q) ∙ handed c t buffer (ap (λ (x : Saving). x .refusal) q ∙ r)
-
--- the image of what can be saved and meets the rule passes the test
-image-passes : (t : Trie) → Savable t → index-rule t ≡ true → check-image (image t) ≡ right (nodes t) (entries t)
-unfolding check-image
-image-passes t v rule =
-    let r = image-read t v in
-    ap (and-rule (index-rule (trie-in (image t)))) (r .0) ∙ ap (λ (o : Bool). and-rule o (right (nodes t) (entries t))) (ap index-rule (r .1) ∙ rule)
 
 pub load-of-saved : LoadOfSaved
 load-of-saved m m′ buffer c c′ t l e r h w =

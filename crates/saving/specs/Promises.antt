@@ -13,7 +13,7 @@ use Rattle.image_format.specs.Image.{image}
 use Rattle.image_format.specs.Held.{trie-in}
 use Rattle.image_format.specs.Reading.{refused}
 use Rattle.image_format.specs.Savable.{AllBytes}
-use Rattle.index_rule.specs.Check.{check-image}
+use Rattle.image_format.specs.Check.{check-image}
 use Rattle.index_memory.specs.Index.{finished, read-index}
 use Rattle.finished_memory.specs.Room.{capacity-of, Within}
 use Rattle.saving.specs.Saving.{Saving, save-memory, load-memory}

@@ -9,7 +9,7 @@ use Rattle.definitions.specs.Calls.{save-checks, load-checks}
 use Rattle.image_format.specs.Image.{image}
 use Rattle.image_format.specs.Held.{trie-in}
 use Rattle.image_format.specs.Reading.{fault-of, nodes-in, entries-in}
-use Rattle.index_rule.specs.Check.{check-image}
+use Rattle.image_format.specs.Check.{check-image}
 use Rattle.memory_header.specs.Opening.{Done, unless-refused}
 use Rattle.index_memory.specs.Index.{Index, broken, opened, finished, standing-of, read-index}
 use Rattle.finished_memory.specs.Finished.{finished-memory}

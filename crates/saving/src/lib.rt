@@ -8,7 +8,7 @@ ghost use mathlib.Core.Path.{_≡_};
 ghost use mathlib.Core.Option.{some};
 ghost use Rattle.image_format.specs.Held.{trie-in};
 ghost use Rattle.image_format.specs.Reading.{right};
-ghost use Rattle.index_rule.specs.Check.{check-image};
+ghost use Rattle.image_format.specs.Check.{check-image};
 ghost use Rattle.index_memory.specs.Index.{finished, image-part, read-index};
 ghost use Rattle.memory_header.specs.Answers.{header-of, outcome-as};
 ghost use Rattle.inspecting.specs.Held.{ImageIn};

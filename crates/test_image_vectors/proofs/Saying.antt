@@ -8,7 +8,7 @@ use lib.ListN.{length, take}
 use lib.Dec.{ltb, eqb}
 use borrow.Author.Tests.{eq-eqb, ne-eqb, lt-ltb, le-ltb}
 use Rattle.image_format.specs.Reading.{Layout}
-use Rattle.index_rule.specs.Check.{check-image}
+use Rattle.image_format.specs.Check.{check-image}
 use Rattle.test_image_vectors.specs.Said.{said-of, said-image, same-said, again, said-after, said-parts, said-whole}
 use Rattle.test_image_vectors.specs.declared.Said.{Said}
 

@@ -5,7 +5,7 @@ use mathlib.Core.List.{List}
 use lib.ListN.{length, take}
 use lib.Dec.{ltb, eqb}
 use Rattle.image_format.specs.Reading.{Layout, fault-of, nodes-in, entries-in}
-use Rattle.index_rule.specs.Check.{check-image}
+use Rattle.image_format.specs.Check.{check-image}
 use Rattle.test_image_vectors.specs.declared.Said.{Said}
 
 -- said once: a refusal's number, or 0 with the nodes and entries
