@@ -18,6 +18,7 @@ use Rattle.kinds.specs.Kinds.{kind-of}
 use Rattle.image_format.specs.Image.{Child, nodes-in, entries-in, children-size, children-bytes, size-below, ascending, table-by-arrival, table-by-byte, slot-offsets, slots-bytes, slots-size, table-bytes, table-size}
 use Rattle.image_format.proofs.ByByte.{total-nodes, total-entries}
 use Rattle.image_format.proofs.KindOne.{offsets-length}
+use Rattle.image_format.proofs.KindTwo.{offs-length}
 use Rattle.image_format.proofs.KindThree.{table-length}
 use Rattle.kinds.proofs.KindRule.{kind-one, kind-two, kind-three}
 use Rattle.tails.specs.Weights.{group-weights}
@@ -29,12 +30,11 @@ use Rattle.slot_writer.specs.declared.Table.{Table}
 use Rattle.single_writer.specs.Kids.{kid, kids, sizes, no-child}
 use Rattle.slot_writer.specs.Turns.{Opened, groups-in}
 use Rattle.single_writer.specs.Nodes.{child-node, children-in, TableAsked, TableWritten}
-use Rattle.single_writer.proofs.Sized.{by-byte-length}
 use Rattle.single_writer.proofs.Orders.{Climbs, getD-kids, length-kids, ascending-climbs, ascending-by-arrival, below-climbs, below-by-arrival}
 use Rattle.single_writer.proofs.Places.{rising-climbs, rising-apart, order-three, order-other, order-total, kept-length, kept-total, kept-few, kept-many, place-of, costs}
 use Rattle.node_writer.proofs.Sparse.{entry-bytes, table-three, table-two}
 use Rattle.node_writer.proofs.Walking.{TableOpen, in-order, kids-in, asked-count, asked-costs, kind-large, opened, OnTurns, first-end, where-is, later-groups}
-use Rattle.node_writer.proofs.Stepping.{size-sum}
+use Rattle.node_writer.proofs.Stepping.{size-sum, kids-length}
 
 -- ── the bytes, by the kind ──
 
@@ -74,9 +74,6 @@ record Ended (s : List ℕ) (at n : ℕ) (ks : List Child) (end : ℕ) : Type 0 
 
 module _ {s₀ : List ℕ} {work lo hi d n : ℕ} {t : Table} {e : End} {buf₀ : List ℕ} {left : ℕ} (o : TableOpen s₀ work lo hi d n t e buf₀ left)
     {s : List ℕ} {end : End} {buf : List ℕ} {j met : ℕ} (w : OnTurns s₀ s work lo hi d n t (first-end t e) end buf₀ buf left j met) (over : t .turns ≤ j) where
-  ws-length : length (kids-in s₀ work lo hi d n left) ≡ n
-  ws-length = length-kids (child-node left d) (in-order s₀ work lo hi d n) ∙ asked-count (o .asked)
-
   all-met : met ≡ n
   all-met = go (eqb (kind-of n) 1) (eq (kind-of n) 1)
     where
@@ -84,11 +81,11 @@ module _ {s₀ : List ℕ} {work lo hi d n : ℕ} {t : Table} {e : End} {buf₀ 
       go true h =
           let u : j ≡ 256 = omega (arith, w .upto, o .dense h .2) in
           let c : Climbs 256 (drop met (kids-in s₀ work lo hi d n left)) = subst (λ (x : ℕ). Climbs x (drop met (kids-in s₀ work lo hi d n left))) u (w .dense h .rest) in
-          omega (arith, climbs-all (drop met (kids-in s₀ work lo hi d n left)) c, length-drop met (kids-in s₀ work lo hi d n left), ws-length, w .met-upto)
+          omega (arith, climbs-all (drop met (kids-in s₀ work lo hi d n left)) c, length-drop met (kids-in s₀ work lo hi d n left), kids-length o, w .met-upto)
       go false h = omega (arith, w .sparse h .0, o .sparse h .2, w .upto)
 
   all-taken : take met (kids-in s₀ work lo hi d n left) ≡ kids-in s₀ work lo hi d n left
-  all-taken = take-all met (kids-in s₀ work lo hi d n left) (omega (arith, ws-length, all-met))
+  all-taken = take-all met (kids-in s₀ work lo hi d n left) (omega (arith, kids-length o, all-met))
 
   all-groups : take met (in-order s₀ work lo hi d n) ≡ in-order s₀ work lo hi d n
   all-groups = take-all met (in-order s₀ work lo hi d n) (omega (arith, asked-count (o .asked), all-met))
@@ -131,14 +128,14 @@ module _ {s₀ : List ℕ} {work lo hi d n : ℕ} {t : Table} {e : End} {buf₀ 
       ∙ arrival-rank (groups-in s₀ work lo hi d) (o .asked .different) i (omega (arith, count)) in
       let table : Holds s (t .base) (table-by-arrival (t .start - 64) (kids-in s₀ work lo hi d n left)) = table-three s (t .base) (t .start - 64) (kids-in s₀ work lo hi d n left)
       (λ i l. subst (λ (p : ℕ). Holds s (t .base + p * 9) (entry-bytes (getD (kids-in s₀ work lo hi d n left) i no-child) (t .start - 64 + children-size (take i (kids-in s₀ work lo hi d n left)))))
-      (place i (omega (arith, ws-length))) (w .sparse h .1 .entries i (omega (arith, ws-length, all-met, w .sparse h .0)))) in
-      let long : length (table-by-arrival (t .start - 64) (kids-in s₀ work lo hi d n left)) ≡ n * 9 = table-length (t .start - 64) (kids-in s₀ work lo hi d n left) ∙ ap (λ (x : ℕ). x * 9) ws-length in
+      (place i (omega (arith, kids-length o))) (w .sparse h .1 .entries i (omega (arith, kids-length o, all-met, w .sparse h .0)))) in
+      let long : length (table-by-arrival (t .start - 64) (kids-in s₀ work lo hi d n left)) ≡ n * 9 = table-length (t .start - 64) (kids-in s₀ work lo hi d n left) ∙ ap (λ (x : ℕ). x * 9) (kids-length o) in
       let all = put-together h (table-by-arrival (t .start - 64) (kids-in s₀ work lo hi d n left)) (children-bytes (t .start - 64) (kids-in s₀ work lo hi d n left)) long table (all-children h) in
       record {
         bytes = subst (λ (l : List ℕ). Holds s (e .at) l) (sym (bytes-three (kind-of n) (e .at - 64) ks k))
             (subst (λ (x : ℕ). Holds s (e .at) (bytes64 (length ks) ++ (table-by-arrival x ks ++ children-bytes x ks))) (offset h)
             (subst (λ (l : List Child). Holds s (e .at) (bytes64 (length ks) ++ (table-by-arrival (t .start - 64) l ++ children-bytes (t .start - 64) l))) same all));
-        ends = omega (arith, ended-at, w .sparse h .0, all-met, o .sparse h .1, size-three (kind-of n) 0 ks k, size-sum (kids-in s₀ work lo hi d n left), ws-length, ap children-size same, ks-length);
+        ends = omega (arith, ended-at, w .sparse h .0, all-met, o .sparse h .1, size-three (kind-of n) 0 ks k, size-sum (kids-in s₀ work lo hi d n left), kids-length o, ap children-size same, ks-length);
       }
 
   ended-two : kind-of n ≡ 2 → n ≤ 96 → Ended s (e .at) n (children-in s₀ work lo hi d left) (end .at)
@@ -153,13 +150,13 @@ module _ {s₀ : List ℕ} {work lo hi d n : ℕ} {t : Table} {e : End} {buf₀ 
       ap (ascending 256 0) kept ∙ ascending-by-arrival (child-node left d) 256 0 (groups-in s₀ work lo hi d) (rising-apart (groups-in s₀ work lo hi d) (o .asked .rising))
       ∙ ascending-climbs 256 0 (kids (child-node left d) (groups-in s₀ work lo hi d)) refl climbs ∙ sym order in
       let table : Holds s (t .base) (table-by-byte (t .start - 64) ks ks) = table-two s (t .base) (t .start - 64) ks ks (λ i l. entry h h₃ kept order climbs i (omega (arith, ks-length))) in
-      let long : length (table-by-byte (t .start - 64) ks ks) ≡ n * 9 = by-byte-length (t .start - 64) ks ks ∙ ap (λ (x : ℕ). x * 9) ks-length in
+      let long : length (table-by-byte (t .start - 64) ks ks) ≡ n * 9 = offs-length (t .start - 64) ks ks ∙ ap (λ (x : ℕ). x * 9) ks-length in
       let all = put-together h (table-by-byte (t .start - 64) ks ks) (children-bytes (t .start - 64) (kids-in s₀ work lo hi d n left)) long table (all-children h) in
       record {
         bytes = subst (λ (l : List ℕ). Holds s (e .at) l) (sym (bytes-two (kind-of n) (e .at - 64) ks k))
             (subst (λ (x : ℕ). Holds s (e .at) (bytes64 (length ks) ++ (table-by-byte x ks ks ++ children-bytes x (ascending 256 0 ks)))) (offset h)
             (subst (λ (l : List Child). Holds s (e .at) (bytes64 (length ks) ++ (table-by-byte (t .start - 64) ks ks ++ children-bytes (t .start - 64) l))) (sym asc) all));
-        ends = omega (arith, ended-at, w .sparse h .0, all-met, o .sparse h .1, size-two (kind-of n) 0 ks k, size-sum (kids-in s₀ work lo hi d n left), ws-length, ap children-size asc, ks-length);
+        ends = omega (arith, ended-at, w .sparse h .0, all-met, o .sparse h .1, size-two (kind-of n) 0 ks k, size-sum (kids-in s₀ work lo hi d n left), kids-length o, ap children-size asc, ks-length);
       }
     where
       entry : (h : ¬ (kind-of n ≡ 1)) → ¬ (kind-of n ≡ 3) → children-in s₀ work lo hi d left ≡ kids (child-node left d) (by-arrival (groups-in s₀ work lo hi d))

@@ -23,7 +23,7 @@ use Rattle.tail_words.specs.Tail.{tails-in}
 use Rattle.tail_groups.specs.Found.{no-group}
 use Rattle.tail_groups.specs.Ranks.{Apart, rank-of, firsts}
 use Rattle.tail_groups.proofs.Memory.{tails-ext, held-part, held-ext}
-use Rattle.tail_groups.proofs.Arrival.{rank-inside}
+use Rattle.tail_groups.proofs.Arrival.{getD-in, rank-inside}
 use Rattle.tail_groups.proofs.Distinct.{apart-part}
 use Rattle.list_writer.specs.declared.End.{End}
 use Rattle.slot_writer.specs.declared.Table.{Table}
@@ -34,7 +34,7 @@ use Rattle.slot_writer.specs.Turns.{groups-in, group-in, group-bytes, GroupEntr
 use Rattle.single_writer.specs.Nodes.{child-node, node-of, Stands, NodeAsked, NodeWritten}
 use Rattle.single_writer.proofs.Sized.{Sized}
 use Rattle.single_writer.proofs.Orders.{Climbs, getD-kids, kid-byte, length-kids}
-use Rattle.single_writer.proofs.Places.{kid-nodes, kid-entries, kid-size, kid-bytes, kids-sized, getD-in, rising-climbs, order-other, place-of, place-inside, place-apart, cost, costs, costs-more}
+use Rattle.single_writer.proofs.Places.{kid-nodes, kid-entries, kid-size, kid-bytes, kids-sized, rising-climbs, order-other, place-of, place-inside, place-apart, cost, costs, costs-more}
 use Rattle.node_writer.proofs.Sparse.{entry-bytes, Sparse, sparse-start, sparse-child}
 use Rattle.node_writer.proofs.Dense.{Dense, dense-start, dense-none, dense-child, sizes-snoc}
 use Rattle.node_writer.proofs.Walking.{TableOpen, in-order, kids-in, asked-count, OnTurns, first-end, where-is, flag-room, node-room, now-asked, now-groups, now-grouped, levels, next-group}
@@ -102,7 +102,7 @@ module _ {s₀ : List ℕ} {work lo hi d n : ℕ} {t : Table} {e : End} {buf₀ 
         dense = λ h. dense-start (t .base) (t .start) (t .start - 64) (kids-in s₀ work lo hi d n left) s₀ (all-climb h);
       }
 
-  kids-length : length (kids-in s₀ work lo hi d n left) ≡ n
+  pub kids-length : length (kids-in s₀ work lo hi d n left) ≡ n
   kids-length = length-kids (child-node left d) (in-order s₀ work lo hi d n) ∙ asked-count (o .asked)
 
   sized : Sized (kids-in s₀ work lo hi d n left)

@@ -15,7 +15,7 @@ use Rattle.words.proofs.Holding.{holds-sets}
 use Rattle.definitions.proofs.Views.{Eq, eq, lt-or-le}
 use Rattle.trie.specs.Build.{Rising}
 use Rattle.tails.specs.Tails.{Tail}
-use Rattle.tails.specs.Groups.{Group, groups, bytes-of}
+use Rattle.tails.specs.Groups.{Group, groups, bytes-of, Different}
 use Rattle.kinds.specs.Kinds.{kind-of}
 use Rattle.image_format.specs.Image.{Child, nodes-in, entries-in}
 use Rattle.kinds.proofs.KindRule.{kind-one, kind-two, kind-three}
@@ -23,16 +23,16 @@ use Rattle.tails.specs.Runs.{Run}
 use Rattle.tails.specs.Weights.{group-weights}
 use Rattle.tail_words.specs.Tail.{tail-in, tails-in}
 use Rattle.tail_groups.specs.Found.{no-group, Grouped}
-use Rattle.tail_groups.specs.Ranks.{Different, Apart, with-rank, firsts}
+use Rattle.tail_groups.specs.Ranks.{Apart, with-rank, firsts}
 use Rattle.tail_groups.proofs.Memory.{tails-ext, tails-mem, held-ext}
 use Rattle.tail_groups.proofs.Buffer.{grouped-buffer, grouped-memory}
-use Rattle.tail_groups.proofs.Arrival.{with-rank-place}
+use Rattle.tail_groups.proofs.Arrival.{getD-in, with-rank-place}
 use Rattle.list_writer.specs.declared.End.{End}
 use Rattle.slot_writer.specs.declared.Table.{Table}
 use Rattle.single_writer.specs.Kids.{kids, sizes}
 use Rattle.slot_writer.specs.Turns.{Opened, groups-in, group-in, TurnAsked, Picked}
 use Rattle.single_writer.specs.Nodes.{child-node, TableAsked}
-use Rattle.single_writer.proofs.Places.{written-order, order-three, order-other, order-length, place-of, cost, costs, costs-are, costs-order, costs-more, costs-left, getD-in}
+use Rattle.single_writer.proofs.Places.{written-order, order-three, order-other, order-length, place-of, cost, costs, costs-are, costs-order, costs-more, costs-left}
 use Rattle.node_writer.proofs.Sparse.{Sparse}
 use Rattle.node_writer.proofs.Dense.{Dense}
 

@@ -2,7 +2,7 @@
 use Prim.Native.Nat.{ℕ, suc, _+_, _-_, _≤_, _<_}
 use native.Mathlib.Omega.{arith}
 use mathlib.Core.Path.{_≡_, refl, sym, ap, subst, _∙_}
-use mathlib.Core.Bool.{Bool, true, false, cond}
+use mathlib.Core.Bool.{Bool, true, false}
 use mathlib.Core.List.{List, [], _∷_, _++_, List·Memᴰ as Mem}
 use lib.ListN.{length, getD, set, length-set, length-append}
 use lib.Seq.{getD-set-same, getD-set-other}
@@ -23,20 +23,13 @@ use Rattle.tails.specs.Weights.{weights, group-weights}
 use Rattle.tail_words.specs.Tail.{tails-in, Held}
 use Rattle.tail_groups.specs.Found.{Longer, Found}
 use Rattle.tail_groups.proofs.Memory.{tails-split, tails-length, tails-ext, held-part}
+use Rattle.tail_groups.proofs.Front.{run-after}
 use Rattle.tail_groups.proofs.Buffer.{grouped-memory}
 use Rattle.tail_groups.proofs.Distinct.{ByByte, few-groups}
 use Rattle.list_writer.specs.declared.End.{End}
 use Rattle.single_writer.specs.Heads.{copies, cut-lists, ListsAsked, ListsWritten, HeadAsked, Front, HeadWritten}
 
 -- ── runs as parts of the tails in memory ──
-
-run-after : (f : Tail → Bool) (ts : List Tail) → run f ts ++ after-run f ts ≡ ts
-run-after f [] = refl
-run-after f (t ∷ ts) = go (f t) (run-after f ts)
-  where
-    go : (o : Bool) → run f ts ++ after-run f ts ≡ ts → cond o (t ∷ run f ts) [] ++ cond o (after-run f ts) (t ∷ ts) ≡ t ∷ ts
-    go true e = ap (λ (l : List Tail). t ∷ l) e
-    go false e = refl
 
 same-parts : (xs us ys vs : List Tail) → xs ++ ys ≡ us ++ vs → length xs ≡ length us → (xs ≡ us) × (ys ≡ vs)
 same-parts [] [] ys vs e l = (refl, e)

@@ -14,7 +14,7 @@ use Rattle.tails.specs.Tails.{Tail}
 use Rattle.tails.specs.Groups.{Group, arrive, by-arrival, group-forest}
 use Rattle.image_format.specs.Image.{Child, as-child, children-of, with-byte, ascending, size-below, children-size}
 use Rattle.image_format.proofs.ByByte.{total}
-use Rattle.tails.proofs.Children.{by-arrival-mem}
+use Rattle.tails.proofs.ByArrival.{by-arrival-mem, sum, sum-either}
 use Rattle.tail_groups.specs.Found.{no-group}
 use Rattle.single_writer.specs.Kids.{kid, kids, no-child}
 
@@ -40,22 +40,14 @@ kid-byte f g = refl
 
 -- ── sums ──
 
-module _ (f : List Tail → Node) (m : Child → ℕ) where
-  total-arrive : (g : Group) (hs : List Group) → total m (kids f (arrive g hs)) ≡ m (kid f g) + total m (kids f hs)
-  unfolding total
-  total-arrive g [] = refl
-  total-arrive g (h ∷ hs) = go (leb (g .first) (h .first)) (total-arrive g hs)
-    where
-      go : (o : Bool) → total m (kids f (arrive g hs)) ≡ m (kid f g) + total m (kids f hs)
-          → total m (kids f (cond o (g ∷ h ∷ hs) (h ∷ arrive g hs))) ≡ m (kid f g) + (m (kid f h) + total m (kids f hs))
-      go true e = refl
-      go false e = omega arith
+total-sum : (f : List Tail → Node) (m : Child → ℕ) (gs : List Group) → total m (kids f gs) ≡ sum (λ g. m (kid f g)) gs
+unfolding total
+total-sum f m [] = refl
+total-sum f m (g ∷ gs) = ap (λ (n : ℕ). m (kid f g) + n) (total-sum f m gs)
 
-  -- by arrival
-  pub total-by-arrival : (gs : List Group) → total m (kids f (by-arrival gs)) ≡ total m (kids f gs)
-  unfolding total
-  total-by-arrival [] = refl
-  total-by-arrival (g ∷ gs) = omega (arith, total-arrive g (by-arrival gs), total-by-arrival gs)
+-- by arrival, or as they stand
+pub total-either : (f : List Tail → Node) (m : Child → ℕ) (o : Bool) (gs : List Group) → total m (kids f (cond o (by-arrival gs) gs)) ≡ total m (kids f gs)
+total-either f m o gs = total-sum f m (cond o (by-arrival gs) gs) ∙ sum-either (λ g. m (kid f g)) o gs ∙ sym (total-sum f m gs)
 
 pub below-total : (b : ℕ) (ks : List Child) → size-below b ks ≡ total (λ k. cond (ltb (k .byte) b) (1 + k .size) 0) ks
 unfolding total size-below
@@ -64,7 +56,7 @@ below-total b (k ∷ ks) = ap (λ (n : ℕ). cond (ltb (k .byte) b) (1 + k .size
 
 pub below-by-arrival : (f : List Tail → Node) (b : ℕ) (gs : List Group) → size-below b (kids f (by-arrival gs)) ≡ size-below b (kids f gs)
 below-by-arrival f b gs =
-    below-total b (kids f (by-arrival gs)) ∙ total-by-arrival f (λ k. cond (ltb (k .byte) b) (1 + k .size) 0) gs ∙ sym (below-total b (kids f gs))
+    below-total b (kids f (by-arrival gs)) ∙ total-either f (λ k. cond (ltb (k .byte) b) (1 + k .size) 0) true gs ∙ sym (below-total b (kids f gs))
 
 -- ── by ascending byte ──
 

@@ -12,18 +12,19 @@ use borrow.Author.Tests.{eq-eqb, ne-eqb, le-leb, lt-leb}
 use Rattle.trie.specs.Trie.{Node, entries-of, forest-nodes, forest-entries}
 use Rattle.trie.specs.Build.{Rising}
 use Rattle.tails.specs.Tails.{Tail}
-use Rattle.tails.specs.Groups.{Group, arrive, by-arrival, kept-groups, bytes-of}
+use Rattle.tails.specs.Groups.{Group, by-arrival, kept-groups, bytes-of, Different}
 use Rattle.tails.proofs.Groups.{mem-bytes}
+use Rattle.tails.proofs.ByArrival.{sum, sum-either, length-either}
 use Rattle.image_format.specs.Image.{Child, as-child, children-of, nodes-in, node-bytes, node-size}
 use Rattle.image_format.proofs.ByByte.{total}
 use Rattle.image_format.proofs.Shapes.{count-nodes, count-entries}
 use Rattle.tails.specs.Weights.{weights, group-weights}
 use Rattle.tail_groups.specs.Found.{no-group}
-use Rattle.tail_groups.specs.Ranks.{rank-of, firsts, Different}
-use Rattle.tail_groups.proofs.Arrival.{length-by-arrival, arrival-rank, rank-place, rank-inside}
+use Rattle.tail_groups.specs.Ranks.{rank-of, firsts}
+use Rattle.tail_groups.proofs.Arrival.{getD-in, arrival-rank, rank-place, rank-inside}
 use Rattle.single_writer.specs.Kids.{kid, kids}
 use Rattle.single_writer.proofs.Sized.{Sized, node-long, all-sized}
-use Rattle.single_writer.proofs.Orders.{Climbs, Apart, total-by-arrival}
+use Rattle.single_writer.proofs.Orders.{Climbs, Apart, total-either}
 
 -- ── a kid ──
 
@@ -48,11 +49,6 @@ pub kids-sized : (f : List Tail → Node) (gs : List Group) → Sized (kids f gs
 unfolding as-child
 kids-sized f [] = tt
 kids-sized f (g ∷ gs) = ((λ at. node-long at (f (g .tails) .lists) (children-of (f (g .tails) .children)) (all-sized (f (g .tails) .children))), kids-sized f gs)
-
-pub getD-in : (gs : List Group) (i : ℕ) → i < length gs → Mem (getD gs i no-group) gs
-getD-in [] i h = absurd (not-suc-le-zero h)
-getD-in (g ∷ gs) zero h = here refl
-getD-in (g ∷ gs) (suc i) h = later (getD-in gs i (omega arith))
 
 -- ── rising bytes ──
 
@@ -79,32 +75,16 @@ pub order-other : (kind : ℕ) (gs : List Group) → ¬ (kind ≡ 3) → written
 order-other kind gs e = rw (ne-eqb kind 3 e)
 
 pub order-length : (kind : ℕ) (gs : List Group) → length (written-order kind gs) ≡ length gs
-order-length kind gs = go (eqb kind 3)
-  where
-    go : (o : Bool) → length (cond o (by-arrival gs) gs) ≡ length gs
-    go true = length-by-arrival gs
-    go false = refl
+order-length kind gs = length-either (eqb kind 3) gs
 
 pub order-total : (f : List Tail → Node) (m : Child → ℕ) (kind : ℕ) (gs : List Group) → total m (kids f (written-order kind gs)) ≡ total m (kids f gs)
-order-total f m kind gs = go (eqb kind 3)
-  where
-    go : (o : Bool) → total m (kids f (cond o (by-arrival gs) gs)) ≡ total m (kids f gs)
-    go true = total-by-arrival f m gs
-    go false = refl
+order-total f m kind gs = total-either f m (eqb kind 3) gs
 
 pub kept-length : (gs : List Group) → length (kept-groups gs) ≡ length gs
-kept-length gs = go (leb (length gs) 96)
-  where
-    go : (o : Bool) → length (cond o (by-arrival gs) gs) ≡ length gs
-    go true = length-by-arrival gs
-    go false = refl
+kept-length gs = length-either (leb (length gs) 96) gs
 
 pub kept-total : (f : List Tail → Node) (m : Child → ℕ) (gs : List Group) → total m (kids f (kept-groups gs)) ≡ total m (kids f gs)
-kept-total f m gs = go (leb (length gs) 96)
-  where
-    go : (o : Bool) → total m (kids f (cond o (by-arrival gs) gs)) ≡ total m (kids f gs)
-    go true = total-by-arrival f m gs
-    go false = refl
+kept-total f m gs = total-either f m (leb (length gs) 96) gs
 
 pub kept-few : (gs : List Group) → length gs ≤ 96 → kept-groups gs ≡ by-arrival gs
 kept-few gs h = rw (le-leb (length gs) 96 h)
@@ -151,32 +131,15 @@ module _ (f : List Tail → Node) (d : ℕ) where
   cost g = 64 * kid f g .nodes + 24 * weights d (g .tails)
 
   abbrev pub costs : List Group → ℕ
-  costs [] = 0
-  costs (g ∷ gs) = cost g + costs gs
+  costs gs = sum cost gs
 
   pub costs-are : (gs : List Group) → costs gs ≡ 64 * nodes-in (kids f gs) + 24 * group-weights d gs
   unfolding nodes-in
   costs-are [] = refl
   costs-are (g ∷ gs) = omega (arith, costs-are gs)
 
-  costs-arrive : (g : Group) (hs : List Group) → costs (arrive g hs) ≡ cost g + costs hs
-  costs-arrive g [] = refl
-  costs-arrive g (h ∷ hs) = go (leb (g .first) (h .first)) (costs-arrive g hs)
-    where
-      go : (o : Bool) → costs (arrive g hs) ≡ cost g + costs hs → costs (cond o (g ∷ h ∷ hs) (h ∷ arrive g hs)) ≡ cost g + (cost h + costs hs)
-      go true e = refl
-      go false e = omega arith
-
-  costs-by-arrival : (gs : List Group) → costs (by-arrival gs) ≡ costs gs
-  costs-by-arrival [] = refl
-  costs-by-arrival (g ∷ gs) = omega (arith, costs-arrive g (by-arrival gs), costs-by-arrival gs)
-
   pub costs-order : (kind : ℕ) (gs : List Group) → costs (written-order kind gs) ≡ costs gs
-  costs-order kind gs = go (eqb kind 3)
-    where
-      go : (o : Bool) → costs (cond o (by-arrival gs) gs) ≡ costs gs
-      go true = costs-by-arrival gs
-      go false = refl
+  costs-order kind gs = sum-either cost (eqb kind 3) gs
 
   costs-snoc : (gs : List Group) (g : Group) → costs (gs ++ (g ∷ [])) ≡ costs gs + cost g
   costs-snoc [] g = omega arith

@@ -10,10 +10,11 @@ use Rattle.words.specs.Words.{bytes64}
 use Rattle.words.proofs.Parts.{length-bytes64}
 use Rattle.trie.specs.Trie.{Lists, Forest, leaf, more}
 use Rattle.kinds.specs.Kinds.{kind-of}
-use Rattle.image_format.specs.Image.{Child, children-bytes, children-size, table-by-arrival, table-by-byte, size-below, with-byte, ascending, slot-size, slot-bytes, slot-offsets, slots-bytes, slots-size, table-bytes, table-size, lists-bytes, lists-size, node-bytes, node-size, as-child, children-of}
+use Rattle.image_format.specs.Image.{Child, children-bytes, children-size, table-by-arrival, table-by-byte, with-byte, ascending, slot-size, slot-bytes, slot-offsets, slots-bytes, slots-size, table-bytes, table-size, lists-bytes, lists-size, node-bytes, node-size, as-child, children-of}
 use Rattle.image_format.proofs.Holding.{head-length}
 use Rattle.image_format.proofs.KindThree.{table-length}
 use Rattle.image_format.proofs.KindOne.{offsets-length}
+use Rattle.image_format.proofs.KindTwo.{offs-length}
 
 abbrev pub Sized : List Child → Type 0
 Sized [] = Unit {0}
@@ -48,12 +49,6 @@ children-length at [] h = refl
 children-length at (k ∷ ks) h =
     omega (arith, length-append (k .bytes (at + 1)) (children-bytes (at + (1 + k .size)) ks), h .0 (at + 1), children-length (at + (1 + k .size)) ks (h .1))
 
-pub by-byte-length : (at : ℕ) (every ks : List Child) → length (table-by-byte at every ks) ≡ length ks * 9
-unfolding table-by-byte
-by-byte-length at every [] = refl
-by-byte-length at every (k ∷ ks) =
-    omega (arith, length-append (bytes64 (at + size-below (k .byte) every)) (table-by-byte at every ks), length-bytes64 (at + size-below (k .byte) every), by-byte-length at every ks)
-
 pub slot-length : (at : ℕ) (ks : List Child) → Sized ks → length (slot-bytes at ks) ≡ slot-size ks
 unfolding slot-bytes slot-size
 slot-length at [] h = refl
@@ -85,7 +80,7 @@ table-long kind at ks h = go (eqb kind 1) (eqb kind 2)
           length-append (bytes64 (length ks)) (table-by-byte start ks ks ++ children-bytes start (ascending 256 0 ks)),
           length-bytes64 (length ks),
           length-append (table-by-byte start ks ks) (children-bytes start (ascending 256 0 ks)),
-          by-byte-length start ks ks,
+          offs-length start ks ks,
           children-length start (ascending 256 0 ks) (sized-ascending 256 0 ks h),
         )
     go false false =

@@ -7,14 +7,14 @@ use Rattle.words.specs.Holding.{Holds}
 use Rattle.trie.specs.Trie.{Node, entries-of, forest-nodes, forest-entries}
 use Rattle.trie.specs.Build.{Rising}
 use Rattle.tails.specs.Tails.{Tail}
-use Rattle.tails.specs.Groups.{Group, kept-groups, group-node, bytes-of}
+use Rattle.tails.specs.Groups.{Group, kept-groups, group-node, bytes-of, Different}
 use Rattle.kinds.specs.Kinds.{kind-of}
 use Rattle.image_format.specs.Image.{Child, children-of, nodes-in, entries-in, table-bytes, table-size, node-bytes, node-size}
 use Rattle.tails.specs.Runs.{Run}
 use Rattle.tails.specs.Weights.{weights, group-weights}
 use Rattle.tail_words.specs.Tail.{tails-in, Held}
 use Rattle.tail_groups.specs.Found.{Grouped}
-use Rattle.tail_groups.specs.Ranks.{Different, Apart}
+use Rattle.tail_groups.specs.Ranks.{Apart}
 use Rattle.list_writer.specs.declared.End.{End}
 use Rattle.single_writer.specs.Kids.{kids}
 use Rattle.slot_writer.specs.Turns.{groups-in}

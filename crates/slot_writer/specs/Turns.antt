@@ -5,11 +5,11 @@ use mathlib.Core.List.{List, _∷_}
 use lib.ListN.{length, getD, set}
 use lib.Seq.{sets}
 use Rattle.words.specs.Words.{bytes64}
-use Rattle.tails.specs.Groups.{Group, groups}
+use Rattle.tails.specs.Groups.{Group, groups, Different}
 use Rattle.kinds.specs.Kinds.{kind-of}
 use Rattle.tail_words.specs.Tail.{tails-in, Held}
 use Rattle.tail_groups.specs.Found.{no-group, Grouped}
-use Rattle.tail_groups.specs.Ranks.{rank-of, with-rank, firsts, Different}
+use Rattle.tail_groups.specs.Ranks.{rank-of, with-rank, firsts}
 use Rattle.slot_writer.specs.declared.Table.{Table}
 use Rattle.slot_writer.specs.declared.Turn.{Turn}
 use Rattle.slot_writer.specs.declared.Span.{Span}

@@ -14,9 +14,10 @@ use Rattle.trie.specs.Build.{Entry}
 use Rattle.records.specs.Records.{sorted}
 use Rattle.records.proofs.Lists.{sumOf, sorted-same}
 use Rattle.tails.specs.Tails.{Tail, numbered, tail-record, tail-records}
-use Rattle.tails.specs.Groups.{byte-at, Group, into-group, groups}
+use Rattle.tails.specs.Groups.{byte-at, Group, into-group, groups, Different}
+use Rattle.tails.proofs.Grouped.{numbered-from}
 use Rattle.tail_words.specs.Tail.{tails-in}
-use Rattle.tail_groups.specs.Ranks.{Different, Apart}
+use Rattle.tail_groups.specs.Ranks.{Apart}
 use Rattle.tail_groups.proofs.Memory.{tails-split}
 
 -- ── arrival numbers ──
@@ -101,10 +102,6 @@ pub apart-part : (s : List ℕ) (work lo hi lo′ hi′ : ℕ) → Apart (tails-
 apart-part s work lo hi lo′ hi′ a p q r =
     let b = apart-right (tails-in s work lo lo′) (tails-in s work lo′ hi) (subst Apart (tails-split s work lo lo′ hi p (omega arith)) a) in
     apart-left (tails-in s work lo′ hi′) (tails-in s work hi′ hi) (subst Apart (tails-split s work lo′ hi′ hi q r) b)
-
-numbered-from : {t : Tail} (n : ℕ) (es : List Entry) → Mem t (numbered n es) → n ≤ t .arrival
-numbered-from n (e ∷ es) (here p) = omega (arith, ap (λ (u : Tail). u .arrival) p)
-numbered-from n (e ∷ es) (later m) = omega (arith, numbered-from (suc n) es m)
 
 pub numbered-apart : (n : ℕ) (es : List Entry) → Apart (numbered n es)
 numbered-apart n [] = tt

@@ -13,8 +13,9 @@ use Rattle.words.proofs.Laws.{top}
 use Rattle.words.proofs.Parts.{lt-or-ge}
 use Rattle.records.proofs.Bytes.{Bytes, Fits}
 use Rattle.tails.specs.Tails.{Tail, mark-of, tail-record, tail-records}
+use Rattle.tails.proofs.High.{high-lt}
 use Rattle.tail_words.specs.Tail.{high-bytes, sixteen, tail-of-record, tails-of, ValidTail, ValidRecord}
-use Rattle.tail_words.proofs.High.{high-small, length-high-bytes, high-bytes-high}
+use Rattle.tail_words.proofs.High.{length-high-bytes, high-bytes-high}
 
 -- ── the 16 bytes ──
 
@@ -106,8 +107,8 @@ tail-fits t v = record { size = refl; small = small }
     rest k = rw (getD-drop 8 path k 0) (v .bytes (8 + k))
 
     small : (k : ℕ) → getD (tail-record t) k 0 < 2 ^ 64
-    small zero = high-small 8 path (v .bytes)
-    small (suc zero) = high-small 8 (drop 8 path) rest
+    small zero = high-lt 8 path (v .bytes)
+    small (suc zero) = high-lt 8 (drop 8 path) rest
     small (suc (suc zero)) = omega (arith, mark-small (t .entry .whole), v .short)
     small (suc (suc (suc zero))) = v .location .address
     small (suc (suc (suc (suc zero)))) = v .location .created

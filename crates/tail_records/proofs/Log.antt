@@ -16,6 +16,7 @@ use Rattle.definitions.specs.Blocks.{Piece}
 use Rattle.definitions.specs.Calls.{last-number}
 use Rattle.definitions.proofs.Order.{location-path}
 use Rattle.trie.specs.Build.{Entry, parts, entered}
+use Rattle.memory_header.proofs.Tests.{and-left, and-right}
 use Rattle.index_memory.specs.Log.{piece-in, log-in, piece-sound, log-sound}
 use Rattle.tail_records.specs.Log.{SoundPiece, SoundLog, tail-from}
 use Rattle.tail_words.proofs.Part.{part-ext}
@@ -107,14 +108,6 @@ module _ (s : List ℕ) (n p : ℕ) where
       let e : n - j ≡ suc (n - (j + 1)) = omega arith in
       let f : p + 48 * j + 48 ≡ p + 48 * (j + 1) = omega arith in
       rw e (ap (λ (q : ℕ). piece-in s (p + 48 * j) ∷ log-in s (n - (j + 1)) q) f)
-
-and-left : (a b : Bool) → (a && b) ≡ true → a ≡ true
-and-left true b e = refl
-and-left false b e = e
-
-and-right : (a b : Bool) → (a && b) ≡ true → b ≡ true
-and-right true b e = e
-and-right false b e = absurd (let z : _≡_ {A = ℕ} 0 1 = cc in omega arith)
 
 piece-is-sound : (m : List ℕ) (p : ℕ) → piece-sound m p ≡ true → SoundPiece m p
 piece-is-sound m p e =

@@ -14,6 +14,7 @@ use Rattle.words.proofs.Laws.{top}
 use Rattle.words.proofs.Parts.{lt-or-ge, bytes64-le64}
 use Rattle.records.proofs.Bytes.{Bytes}
 use Rattle.tails.specs.Tails.{high}
+use Rattle.tails.proofs.High.{high-lt}
 use Rattle.tail_words.specs.Tail.{high-bytes}
 
 -- ── the number of some bytes ──
@@ -25,11 +26,6 @@ high-last zero [] x = omega arith
 high-last zero (b ∷ bs) x = refl
 high-last (suc n) [] x = high-last n [] (x * 256)
 high-last (suc n) (b ∷ bs) x = high-last n bs (x * 256 + b)
-
-pub high-small : (n : ℕ) (bs : List ℕ) → Bytes bs → high n bs 0 < top n
-unfolding high top
-high-small zero bs b = omega arith
-high-small (suc n) bs b = omega (arith, high-last n bs 0, high-small n bs b, b n)
 
 -- seven bytes and one more are a number of 64 bits
 top-small : (k : ℕ) → k < 8 → 256 * top k ≤ 2 ^ 64
@@ -47,7 +43,7 @@ top-small k l = go k 8 l
 
 -- there is room for an eighth byte
 pub high-room : (k : ℕ) (bs : List ℕ) (x : ℕ) → Bytes bs → k < 8 → x ≡ high k bs 0 → x * 256 + 256 ≤ 2 ^ 64
-high-room k bs x b l e = omega (arith, high-small k bs b, top-small k l)
+high-room k bs x b l e = omega (arith, high-lt k bs b, top-small k l)
 
 pub high-turn : (k : ℕ) (bs : List ℕ) (x b : ℕ) → x ≡ high k bs 0 → b ≡ getD bs k 0 → x * 256 + b ≡ high (k + 1) bs 0
 high-turn k bs x b e f = rw (add-one k) (omega (arith, high-last k bs 0))

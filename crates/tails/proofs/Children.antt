@@ -1,110 +1,24 @@
 -- The children of sorted tails stand as those by arrival do: by first arrival, and more than 96 by byte. Assumes nothing.
-use Prim.Native.Nat.{ℕ, suc, _≤_, _<_}
+use Prim.Native.Nat.{ℕ, suc, _<_}
 use native.Mathlib.Omega.{arith}
 use mathlib.Core.Path.{_≡_, refl, sym, ap, _∙_, subst}
 use mathlib.Core.Bool.{Bool, true, false, cond}
 use mathlib.Core.Logic.{_⊎_, inl, inr}
-use mathlib.Core.List.{List, [], _∷_, List·Memᴰ as Mem, List·Memᴰ·head as here, List·Memᴰ·tail as later, List·Memᴰ·cases-cons as split, List·Memᴰ·not-nil as not-nil, Memᴰ·cast as cast}
+use mathlib.Core.List.{List, [], _∷_, List·Memᴰ as Mem, List·Memᴰ·head as here, List·Memᴰ·tail as later, List·Memᴰ·not-nil as not-nil, Memᴰ·cast as cast}
 use lib.ListN.{length}
 use lib.Dec.{leb}
-use Rattle.definitions.proofs.Views.{Le, le}
 use Rattle.trie.specs.Build.{Entry, arrivals, by-byte, ascending, kept-order, Rising}
 use Rattle.trie.proofs.BuildBytes.{ascending-mem, mem-ascending, rising-ascending}
 use Rattle.trie.proofs.BuildPaths.{GoesOn, arrivals-mem, mem-arrivals, distinct-arrivals}
 use Rattle.tails.specs.Tails.{Tail}
-use Rattle.tails.specs.Groups.{byte-at, Group, groups, arrive, by-arrival, kept-groups, below, bytes-of}
+use Rattle.tails.specs.Groups.{byte-at, Group, groups, by-arrival, kept-groups, below, bytes-of, Different}
 use Rattle.tails.specs.Runs.{Pairs, Run}
+use Rattle.tails.proofs.ByArrival.{by-arrival-mem, mem-by-arrival, Arriving, arriving}
 use Rattle.tails.proofs.Keep.{keep, keep-mem, SameTails, same-keep}
 use Rattle.tails.proofs.Runs.{goes, goes-is}
 use Rattle.tails.proofs.Groups.{mem-bytes, bytes-mem, GroupOf, groups-rising, group-of, byte-goes, goes-byte}
 use Rattle.tails.proofs.Entries.{entries-from, Long, behind-from}
 use Rattle.tails.proofs.Arrivals.{RisingBy, rising-by, rising-unique, Earlier, first-of, first-le, first-there, arrivals-by-first}
-
--- ── groups by arrival ──
-
-arrive-mem : {x : Group} (g : Group) (hs : List Group) → Mem x (arrive g hs) → (x ≡ g) ⊎ Mem x hs
-arrive-mem g [] m = split m
-arrive-mem {x} g (h ∷ hs) m = go (leb (g .first) (h .first)) (arrive-mem g hs) m
-  where
-    tail : (x ≡ g) ⊎ Mem x hs → (x ≡ g) ⊎ Mem x (h ∷ hs)
-    tail (inl e) = inl e
-    tail (inr k) = inr (later k)
-
-    put : (Mem x (arrive g hs) → (x ≡ g) ⊎ Mem x hs) → (x ≡ h) ⊎ Mem x (arrive g hs) → (x ≡ g) ⊎ Mem x (h ∷ hs)
-    put ih (inl e) = inr (here e)
-    put ih (inr k) = tail (ih k)
-
-    go : (o : Bool) → (Mem x (arrive g hs) → (x ≡ g) ⊎ Mem x hs) → Mem x (cond o (g ∷ h ∷ hs) (h ∷ arrive g hs)) → (x ≡ g) ⊎ Mem x (h ∷ hs)
-    go true ih k = split k
-    go false ih k = put ih (split k)
-
-mem-arrive : {x : Group} (g : Group) (hs : List Group) → (x ≡ g) ⊎ Mem x hs → Mem x (arrive g hs)
-mem-arrive g [] (inl e) = here e
-mem-arrive g [] (inr m) = later m
-mem-arrive {x} g (h ∷ hs) m = go (leb (g .first) (h .first)) (mem-arrive g hs) m
-  where
-    put : ((x ≡ g) ⊎ Mem x hs → Mem x (arrive g hs)) → (x ≡ h) ⊎ Mem x hs → Mem x (h ∷ arrive g hs)
-    put ih (inl e) = here e
-    put ih (inr k) = later (ih (inr k))
-
-    go : (o : Bool) → ((x ≡ g) ⊎ Mem x hs → Mem x (arrive g hs)) → (x ≡ g) ⊎ Mem x (h ∷ hs) → Mem x (cond o (g ∷ h ∷ hs) (h ∷ arrive g hs))
-    go true ih (inl e) = here e
-    go true ih (inr k) = later k
-    go false ih (inl e) = later (ih (inl e))
-    go false ih (inr k) = put ih (split k)
-
-pub by-arrival-mem : {x : Group} (gs : List Group) → Mem x (by-arrival gs) → Mem x gs
-by-arrival-mem {x} (g ∷ gs) m = go (by-arrival-mem gs) (arrive-mem g (by-arrival gs) m)
-  where
-    go : (Mem x (by-arrival gs) → Mem x gs) → (x ≡ g) ⊎ Mem x (by-arrival gs) → Mem x (g ∷ gs)
-    go ih (inl e) = here e
-    go ih (inr k) = later (ih k)
-
-pub mem-by-arrival : {x : Group} (gs : List Group) → Mem x gs → Mem x (by-arrival gs)
-mem-by-arrival (g ∷ gs) (here e) = mem-arrive g (by-arrival gs) (inl e)
-mem-by-arrival (g ∷ gs) (later m) = mem-arrive g (by-arrival gs) (inr (mem-by-arrival gs m))
-
-pub kept-groups-mem : {x : Group} (gs : List Group) → Mem x (kept-groups gs) → Mem x gs
-kept-groups-mem {x} gs m = go (leb (length gs) 96) m
-  where
-    go : (o : Bool) → Mem x (cond o (by-arrival gs) gs) → Mem x gs
-    go true k = by-arrival-mem gs k
-    go false k = k
-
--- no two groups have the same first arrival
-abbrev Apart : List Group → Type 0
-Apart [] = Unit {0}
-Apart (g ∷ gs) = ((h : Group) → Mem h gs → ¬ (g .first ≡ h .first)) × Apart gs
-
--- each group arrives before those behind it
-abbrev Arriving : List Group → Type 0
-Arriving [] = Unit {0}
-Arriving (g ∷ gs) = ((h : Group) → Mem h gs → g .first < h .first) × Arriving gs
-
-arrive-arriving : (g : Group) (hs : List Group) → ((h : Group) → Mem h hs → ¬ (g .first ≡ h .first)) → Arriving hs → Arriving (arrive g hs)
-arrive-arriving g [] n a = ((λ x m. absurd (not-nil m)), tt)
-arrive-arriving g (h ∷ hs) n a = go (leb (g .first) (h .first)) (le (g .first) (h .first)) (arrive-arriving g hs (λ x m. n x (later m)) (a .1))
-  where
-    below-all : g .first ≤ h .first → (x : Group) → Mem x (h ∷ hs) → g .first < x .first
-    below-all k x (here e) =
-        let f : x .first ≡ h .first = λ i. e i .first in
-        let ne : ¬ (g .first ≡ h .first) = n h (here refl) in
-        omega arith
-    below-all k x (later m) = omega (arith, a .0 x m)
-
-    above : h .first < g .first → (x : Group) → (x ≡ g) ⊎ Mem x hs → h .first < x .first
-    above k x (inl e) =
-        let f : x .first ≡ g .first = λ i. e i .first in
-        omega arith
-    above k x (inr m) = a .0 x m
-
-    go : (o : Bool) → Le o (g .first) (h .first) → Arriving (arrive g hs) → Arriving (cond o (g ∷ h ∷ hs) (h ∷ arrive g hs))
-    go true k ih = (below-all k, a)
-    go false k ih = ((λ x m. above k x (arrive-mem g hs m)), ih)
-
-arriving : (gs : List Group) → Apart gs → Arriving (by-arrival gs)
-arriving [] a = tt
-arriving (g ∷ gs) a = arrive-arriving g (by-arrival gs) (λ h m. a .0 h (by-arrival-mem gs m)) (arriving gs (a .1))
 
 -- the bytes of such groups, by a number that is each group's first arrival
 arriving-bytes : (f : ℕ → ℕ) (gs : List Group) → ((g : Group) → Mem g gs → f (g .byte) ≡ g .first) → Arriving gs → RisingBy f (bytes-of gs)
@@ -213,7 +127,7 @@ module _ (d : ℕ) (ts us : List Tail) (run-d : Run d ts) (same : SameTails ts u
       let f : o .earliest ≡ q .earliest = arrival-injective us early (o .earliest) (q .earliest) (i .listed) (j .listed) (o .is ∙ e ∙ sym (q .is)) in
       sym (goes-is d (g .byte) (o .earliest) (i .passes) .1) ∙ ap (byte-at d) f ∙ goes-is d (h .byte) (q .earliest) (j .passes) .1
 
-  apart : (hs : List Group) → ((h : Group) → Mem h hs → Mem h gs) → Rising (bytes-of hs) → Apart hs
+  apart : (hs : List Group) → ((h : Group) → Mem h hs → Mem h gs) → Rising (bytes-of hs) → Different hs
   apart [] i r = tt
   apart (h ∷ hs) i r = ((λ g m e. absurd (omega (arith, r .0 (g .byte) (mem-bytes hs m), first-byte h g (i h (here refl)) (i g (later m)) e))), apart hs (λ g m. i g (later m)) (r .1))
 

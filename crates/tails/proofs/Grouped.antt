@@ -14,7 +14,8 @@ use Rattle.tails.proofs.Runs.{run-all, goes}
 use Rattle.tails.proofs.Groups.{group-of, group-run}
 use Rattle.tails.proofs.Entries.{entries-from, Long, lists-same, behind-from}
 use Rattle.tails.proofs.Arrivals.{Earlier}
-use Rattle.tails.proofs.Children.{kept-groups-mem, kept-bytes}
+use Rattle.tails.proofs.ByArrival.{kept-groups-mem}
+use Rattle.tails.proofs.Children.{kept-bytes}
 
 -- ── a forest, group by group ──
 
@@ -43,7 +44,7 @@ node-by-arrival (suc n) d ts us r s p =
 
 -- ── entries numbered from 0 ──
 
-numbered-from : {t : Tail} (n : ℕ) (es : List Entry) → Mem t (numbered n es) → n ≤ t .arrival
+pub numbered-from : {t : Tail} (n : ℕ) (es : List Entry) → Mem t (numbered n es) → n ≤ t .arrival
 numbered-from n (e ∷ es) (here f) = omega (arith, ap (λ (x : Tail). x .arrival) f)
 numbered-from n (e ∷ es) (later m) = omega (arith, numbered-from (suc n) es m)
 

@@ -6,6 +6,7 @@ pub mod Runs
 pub mod Groups
 pub mod Entries
 pub mod Arrivals
+pub mod ByArrival
 pub mod Children
 pub mod Grouped
 pub mod Finished

@@ -2,7 +2,8 @@
 -- Assumes nothing.
 use Prim.Native.Nat.{ℕ, zero, suc, min}
 use mathlib.Core.Bool.{Bool, true, false, not, _&&_, cond}
-use mathlib.Core.List.{List, [], _∷_}
+use mathlib.Core.Path.{_≡_}
+use mathlib.Core.List.{List, [], _∷_, List·Memᴰ}
 use lib.ListN.{length, getD}
 use lib.Dec.{leb, eqb}
 use Rattle.definitions.specs.Location.{Location, normal}
@@ -76,6 +77,11 @@ by-arrival (g ∷ gs) = arrive g (by-arrival gs)
 -- an image keeps the arrival of at most 96 children; more are kept by byte
 abbrev pub kept-groups : List Group → List Group
 kept-groups gs = cond (leb (length gs) 96) (by-arrival gs) gs
+
+-- no two groups have one least arrival number
+abbrev pub Different : List Group → Type 0
+Different [] = Unit {0}
+Different (g ∷ gs) = ((h : Group) → List·Memᴰ h gs → ¬ (g .first ≡ h .first)) × Different gs
 
 -- ── the node ──
 
