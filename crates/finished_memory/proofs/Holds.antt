@@ -193,11 +193,11 @@ module _ (m : List ℕ) where
 
       by-layout : (l : Layout) (s : List ℕ) → capacity-of (if-right l there s) ≡ some c → there .capacity ≡ c
       by-layout (refused n) s e = absurd (let z : _≡_ {A = ℕ} 0 1 = cc in omega arith)
-      by-layout (right k j) s e = by-test (eqb (there .nodes) k && (eqb (there .entries) j && index-rule (trie-in s))) (finished (there .capacity) (trie-in s)) refl e
+      by-layout (right k j) s e = by-test (eqb (there .nodes) k && eqb (there .entries) j) (finished (there .capacity) (trie-in s)) refl e
 
       go : (o : Bool) → header-right m ≡ o → (p : Bool) → capacity-of (cond o (cond p (open-index m there) (finished-index m there)) broken) ≡ some c → Room m c
       go true r true e = room-by r c (by-test (log-right m there) (opened (there .capacity) (log-in m (there .payload) 64)) refl e)
-      go true r false e = room-by r c (by-layout (read-image (image-part m there)) (image-part m there) e)
+      go true r false e = room-by r c (by-layout (check-image (image-part m there)) (image-part m there) e)
       go false r p e = absurd (let z : _≡_ {A = ℕ} 0 1 = cc in omega arith)
 
   pub finished-is : (c : Capacity) (t : Trie) → AllBytes m → length m < 2 ^ 64 → read-index m ≡ finished c t → FinishedIs m c t
