@@ -37,7 +37,7 @@ pub fn save_finished(mem: &[u8], h: Header, out: &mut [u8]) -> Saved
     Saved::Bytes(n)
 }
 
-// Loads an image that is right, with this tally, if the capacity in h has room for it.
+// Loads an image that is right, with these counts, if the capacity in h has room for it.
 fn load_right(mem: &mut [u8], h: Header, t: Counts, s: &[u8]) -> Outcome
     requires { ⌜ (capacity-of (read-index (now mem)) ≡ some (header-of h .capacity)) × (check-image (now s) ≡ right (t .nodes) (t .entries)) ⌝ }
     ensures answer { λ r. ⌜ r ≡ outcome-as (load-memory (now (mem .entry)) (now (s .entry)) .refusal) ⌝ }

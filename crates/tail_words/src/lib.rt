@@ -66,6 +66,7 @@ pub fn place(d: usize) -> usize
     d / 8 * 8 + (7 - d % 8)
 }
 
+// The lesser of two numbers.
 pub fn lesser(a: usize, b: usize) -> usize
     ensures { λ r. ⌜ r ≡ min a b ⌝ }
 {
