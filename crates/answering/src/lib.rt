@@ -23,7 +23,7 @@ pub fn keep(line: &mut [u8], n: usize, part: &[u8]) -> usize
     if LINE_LIMIT - n < part.len() {
         return LINE_LIMIT + 1;
     }
-    words::copy(part, 0, line, n, part.len());
+    copying::copy(part, 0, line, n, part.len());
     n + part.len()
 }
 

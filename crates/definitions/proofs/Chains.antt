@@ -19,7 +19,7 @@ pub use Rattle.definitions.specs.Promises.{SamePieces}
 use Rattle.definitions.proofs.Views.{Eq, eq, Overlaps, overlap-is, overlap-some}
 use Rattle.definitions.proofs.Order.{normal-mem, mem-normal, sorted-normal, same-lists}
 use Rattle.definitions.proofs.Tails.{Tail, tails-mem, mem-tails}
-use Rattle.definitions.proofs.Joins.{Joined, joins-mem, mem-joins, ByPiece, by-pieces-mem, mem-by-pieces}
+use Rattle.definitions.proofs.Joins.{Joined, joins-mem, mem-joins, ByPiece, has-byte, by-pieces-mem, mem-by-pieces}
 
 chain-some : {ps rs : List Piece} {q : List ℕ} {l : Location} → Chain ps rs q l → 0 < length q
 chain-some (last p more m n e f) = n
@@ -81,10 +81,6 @@ module _ (ps : List Piece) where
       go j =
           let meet : overlap (p .at) (j .next) ≡ some (common (p .at) (j .next)) = overlap-some (p .at) (j .next) (j .joined .1) (j .joined .2) in
           link p (l .0) (j .next) m n (l .1) (l .2 (j .next) (j .listed)) (j .joined .0) (meet ∙ ap some (sym (j .is)))
-
-  has-byte : {x : Location} (cs : List ℕ) (b : ℕ) (q : List ℕ) (ts : List (List Location)) (l : Location) (e : ℕ) → Mem x (extend l e (reach cs (b ∷ q) ([] ∷ ts))) → 0 < length cs
-  has-byte [] b q ts l e h = absurd (not-nil h)
-  has-byte (c ∷ cs) b q ts l e h = omega arith
 
   step-chain : (rs : List Piece) (b : ℕ) (q : List ℕ) (ts : List (List Location)) → GoodF q ts → (x : Location) → Mem x (normal (by-pieces rs (b ∷ q) ts)) → Chain ps rs (b ∷ q) x
   step-chain rs b q ts g x h = go (by-pieces-mem rs (b ∷ q) ts (normal-mem (by-pieces rs (b ∷ q) ts) h))

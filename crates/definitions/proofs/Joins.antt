@@ -5,10 +5,11 @@ use mathlib.Core.Path.{_≡_, refl, sym, ap, _∙_, subst}
 use mathlib.Core.Bool.{Bool, true, false, cond, _&&_}
 use mathlib.Core.Logic.{_⊎_, inl, inr}
 use mathlib.Core.List.{List, [], _∷_, _++_, List·Memᴰ as Mem, List·Memᴰ·head as here, List·Memᴰ·tail as later, List·Memᴰ·cases-cons as split, List·Memᴰ·not-nil as not-nil, List·Memᴰ·append-cases as append-cases, List·Memᴰ·eq-of-singleton as only-one, Memᴰ·append-left as append-left, Memᴰ·append-right as append-right, Memᴰ·cast as cast}
+use lib.ListN.{length}
 use lib.Dec.{eqb}
 use Rattle.definitions.specs.Location.{Location, Lives, meets, common}
 use Rattle.definitions.specs.Blocks.{Piece}
-use Rattle.definitions.specs.Places.{joins, Reach, misses, covers, onward, extend, by-piece, by-pieces}
+use Rattle.definitions.specs.Places.{joins, Reach, misses, covers, onward, reach, extend, by-piece, by-pieces}
 use Rattle.definitions.proofs.Views.{Join, join}
 
 -- x is l joined to a place of ms at e
@@ -70,3 +71,8 @@ by-pieces-mem {x} (p ∷ ps) q ts h = go (by-pieces-mem ps q ts) (append-cases (
 pub mem-by-pieces : {x : Location} (ps : List Piece) (q : List ℕ) (ts : List (List Location)) (p : Piece) → Mem p ps → Mem x (by-piece p q ts) → Mem x (by-pieces ps q ts)
 mem-by-pieces {x} (r ∷ ps) q ts p (here e) k = append-left (by-pieces ps q ts) (subst (λ (y : Piece). Mem x (by-piece y q ts)) e k)
 mem-by-pieces (r ∷ ps) q ts p (later h) k = append-right (by-piece r q ts) (mem-by-pieces ps q ts p h k)
+
+-- a piece that gives a place has a byte
+pub has-byte : {x : Location} (cs : List ℕ) (b : ℕ) (q : List ℕ) (ts : List (List Location)) (l : Location) (e : ℕ) → Mem x (extend l e (reach cs (b ∷ q) ([] ∷ ts))) → 0 < length cs
+has-byte [] b q ts l e h = absurd (not-nil h)
+has-byte (c ∷ cs) b q ts l e h = omega arith

@@ -2,6 +2,7 @@
 pub mod Views
 pub mod Decimal
 pub mod Order
+pub mod Locations
 pub mod Held
 pub mod Tails
 pub mod Joins

@@ -150,6 +150,20 @@ pub sorted-normal : (ls : List Location) → Sorted Less (normal ls)
 sorted-normal [] = tt
 sorted-normal (l ∷ ls) = sorted-insert l (normal ls) (sorted-normal ls)
 
+-- each once: no more than there were
+insert-length : (l : Location) (ms : List Location) → length (insert l ms) ≤ suc (length ms)
+insert-length l [] = omega arith
+insert-length l (m ∷ ms) = go (order l m) (insert-length l ms)
+  where
+    go : (o : Ordering) → length (insert l ms) ≤ suc (length ms) → length (placed o l m ms (insert l ms)) ≤ suc (suc (length ms))
+    go Ordering·lt ih = omega arith
+    go Ordering·eq ih = omega arith
+    go Ordering·gt ih = omega arith
+
+pub length-normal : (ls : List Location) → length (normal ls) ≤ length ls
+length-normal [] = omega arith
+length-normal (l ∷ ls) = omega (arith, insert-length l (normal ls), length-normal ls)
+
 -- ── sorted lists with the same members are equal ──
 
 pub same-lists : (ls ms : List Location) → Sorted Less ls → Sorted Less ms → ((x : Location) → Mem x ls → Mem x ms) → ((x : Location) → Mem x ms → Mem x ls) → ls ≡ ms

@@ -14,7 +14,7 @@ use Rattle.definitions.specs.Runs.{Covers, Alive}
 use Rattle.definitions.proofs.Order.{normal-mem}
 use Rattle.definitions.proofs.Held.{Unique}
 use Rattle.definitions.proofs.Tails.{Tail, tails-mem, tail-at}
-use Rattle.definitions.proofs.Joins.{Joined, joins-mem, lives-left, lives-right, ByPiece, by-pieces-mem}
+use Rattle.definitions.proofs.Joins.{Joined, joins-mem, lives-left, lives-right, ByPiece, has-byte, by-pieces-mem}
 use Rattle.definitions.proofs.Sound.{Means, means-any, Made, extend-sound}
 
 -- one place at an address and a tick; each with a life
@@ -70,10 +70,6 @@ nothing = record { one = λ x y h. absurd (not-nil h); some = λ x h. absurd (no
 pub record SingleP (rs : List Piece) : Type 0 where
   pub one : (x y : Piece) → Mem x rs → Mem y rs → 0 < length (x .bytes) → 0 < length (y .bytes) → x .at .address ≡ y .at .address → (t : ℕ) → Lives (x .at) t → Lives (y .at) t → x ≡ y
   pub some : Alive rs
-
-has-byte : {x : Location} (cs : List ℕ) (b : ℕ) (q : List ℕ) (ts : List (List Location)) (l : Location) (e : ℕ) → Mem x (extend l e (reach cs (b ∷ q) ([] ∷ ts))) → 0 < length cs
-has-byte [] b q ts l e h = absurd (not-nil h)
-has-byte (c ∷ cs) b q ts l e h = omega arith
 
 module _ (rs : List Piece) (s : SingleP rs) (b : ℕ) (q : List ℕ) (ts : List (List Location)) (g : GoodS q ts) where
   reached : (p : Piece) → SingleR (reach (p .bytes) (b ∷ q) ([] ∷ ts))

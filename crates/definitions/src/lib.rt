@@ -47,3 +47,6 @@ pub const DATA_LIMIT: usize = 4096;
 pub const QUERY_LIMIT: usize = 256;
 
 pub const CAPACITY_LIMIT: u64 = 1048576;
+
+// What a location takes in bytes: three numbers.
+pub const LOCATION_SIZE: usize = 24;

@@ -16,8 +16,8 @@ use Rattle.trie.specs.Trie.{Lists, Node}
 use Rattle.place_buffer.specs.declared.Places.{Places}
 use Rattle.place_buffer.specs.Buffer.{Tidied, Taken}
 use Rattle.place_buffer.specs.Holding.{Holding, Settled}
-use Rattle.place_buffer.proofs.Sets.{length-normal}
-use Rattle.place_buffer.proofs.Scratch.{length-locations}
+use Rattle.definitions.proofs.Order.{length-normal}
+use Rattle.definitions.proofs.Locations.{length-locations}
 use Rattle.place_buffer.proofs.Holding.{holding-start, holding-taken, holding-over, holding-tidy, taken-elsewhere, tidied-elsewhere}
 use Rattle.node_joining.specs.Found.{rooted, last-of, ending-lists, along-from, table-from}
 use Rattle.node_joining.specs.Layout.{lists-of, Ending, starting, Part, LaidOut, EndFound, last-size, AllFound, Tabled, TableFound}

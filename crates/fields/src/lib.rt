@@ -1,4 +1,5 @@
 // The fields of one node of an image in layout order.
+use definitions::LOCATION_SIZE;
 ghost use mathlib.Core.Path.{_≡_};
 ghost use Prim.Native.Nat.{_+_, _*_, _≤_, _<_};
 ghost use lib.ListN.{length};
@@ -91,9 +92,6 @@ fn refuse_children(n: u64) -> Children
         refusal: n,
     }
 }
-
-// The bytes of a location.
-const LOCATION_SIZE: usize = 24;
 
 // A list: its count and its locations.
 fn read_list(s: &[u8], at: usize) -> Past

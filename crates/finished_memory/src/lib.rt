@@ -11,6 +11,6 @@ pub fn put_finished(mem: &mut [u8], h: Header)
     ensures { λ _. ⌜ now (mem .exit) ≡ closed (now (mem .entry)) (header-of h) ⌝ }
 {
     let end = memory_header::needed(h.node_room, h.entry_room);
-    words::clear(mem, HEADER_SIZE + h.payload, end);
+    copying::clear(mem, HEADER_SIZE + h.payload, end);
     memory_header::put_header(mem, h);
 }

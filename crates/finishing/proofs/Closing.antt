@@ -14,7 +14,8 @@ use Rattle.image_format.specs.Image.{image}
 use Rattle.tally.specs.Tallied.{finished}
 use Rattle.tally.specs.declared.Tally.{Tally}
 use Rattle.memory_header.specs.Layout.{Header}
-use Rattle.memory_header.specs.Answers.{header-of, with-tally}
+use Rattle.memory_header.specs.Answers.{header-of}
+use Rattle.header_tally.specs.Tallies.{with-tally}
 use Rattle.index_memory.specs.Log.{log-in}
 use Rattle.memory_header.specs.declared.Header as C
 use Rattle.index_memory.proofs.Holding.{OpenIs}

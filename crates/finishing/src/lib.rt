@@ -30,6 +30,6 @@ pub fn finish_open(mem: &mut [u8], h: Header)
     let work = HEADER_SIZE + NODE_SIZE * h.node_room + LOGGED_SIZE * h.entry_room;
     let tails = sort_tails(mem, h.payload, work);
     let end = node_writer::put_image(mem, work, tails);
-    let closed = memory_header::closed(h, end.nodes, end.entries, end.at - HEADER_SIZE);
+    let closed = header_tally::closed(h, end.nodes, end.entries, end.at - HEADER_SIZE);
     finished_memory::put_finished(mem, closed);
 }

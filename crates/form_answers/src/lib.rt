@@ -72,7 +72,7 @@ fn answer_find(mem: &[u8], q: &[u8], out: &mut [u8], at: usize) -> usize
     if found.refusal != 0 {
         return replies::put_refused(out, at, found.refusal);
     }
-    row_replies::put_rows(out, at, &scratch, 0, found.count)
+    row_replies::put_rows(out, at, &scratch, found.count)
 }
 
 // Answers a line into the output from index at on; the index behind the answer.

@@ -12,9 +12,11 @@ use lib.Dec.{ltb, eqb}
 use borrow.Author.Tests.{lt-ltb, le-ltb}
 use Rattle.definitions.specs.Program.{hex-digit, hex, Bytes}
 use Rattle.definitions.proofs.Views.{Eq, eq, Lt, lt}
-use Rattle.numerals.specs.Numerals.{is-digit, nibble, pair, closing, after-byte, hex-bytes, last-bytes}
-use Rattle.numerals.specs.NumeralAnswers.{pairs-at}
-use Rattle.numerals.proofs.Steps.{digit-is, digit-over, digit-tells, nibble-digit, nibble-low, nibble-high, nibble-letter, pair-first, pair-second, pair-both}
+use Rattle.numerals.specs.Numerals.{is-digit}
+use Rattle.hex_pairs.specs.HexBytes.{nibble, pair, closing, after-byte, hex-bytes, last-bytes}
+use Rattle.hex_pairs.specs.HexAnswers.{pairs-at}
+use Rattle.numerals.proofs.Steps.{digit-is, digit-over, digit-tells}
+use Rattle.hex_pairs.proofs.Steps.{nibble-digit, nibble-low, nibble-high, nibble-letter, pair-first, pair-second, pair-both}
 
 -- ── digits and pairs ──
 

@@ -5,7 +5,8 @@ use mathlib.Core.Option.{none, some}
 use Rattle.definitions.specs.Program.{block, finish, find, text}
 use Rattle.forms.specs.ReadLine.{read-line, read-block}
 use Rattle.numerals.specs.Numerals.{starts}
-use Rattle.numerals.specs.Numerals.{number, digits-from, space-ends, last-bytes, hex-bytes, pair, nibble, closing}
+use Rattle.numerals.specs.Numerals.{number, digits-from, space-ends}
+use Rattle.hex_pairs.specs.HexBytes.{last-bytes, hex-bytes, pair, nibble, closing}
 
 -- the forms of document 01
 taken-lines : (read-line (text "(block 1 100 10 50 (616263))")

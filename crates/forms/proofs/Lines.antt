@@ -15,9 +15,10 @@ use Rattle.definitions.proofs.Views.{Eq, eq, Lt, lt}
 use Rattle.definitions.proofs.Decimal.{dec}
 use Rattle.forms.specs.ReadLine.{with-number, with-bytes, read-block, read-line}
 use Rattle.numerals.specs.Numerals.{starts}
-use Rattle.numerals.specs.Numerals.{Numeral, number, last-bytes}
+use Rattle.numerals.specs.Numerals.{Numeral, number}
+use Rattle.hex_pairs.specs.HexBytes.{last-bytes}
 use Rattle.forms.specs.Answers.{Is, bytes-of}
-use Rattle.numerals.specs.NumeralAnswers.{pairs-at}
+use Rattle.hex_pairs.specs.HexAnswers.{pairs-at}
 use Rattle.forms.proofs.Numbers.{number-back, number-stands}
 use Rattle.forms.proofs.Bytes.{last-back, last-stands, length-hex, pairs-back}
 

@@ -13,7 +13,7 @@ use Rattle.definitions.specs.Program as P
 use Rattle.definitions.proofs.Views.{Lt, lt}
 use Rattle.forms.specs.ReadLine.{read-line}
 use Rattle.forms.specs.Answers.{answer-of, bytes-of, form-in, byte-count, Is, Reads}
-use Rattle.numerals.specs.NumeralAnswers.{pairs-at}
+use Rattle.hex_pairs.specs.HexAnswers.{pairs-at}
 use Rattle.forms.specs.declared.Form.{Form}
 use Rattle.forms.proofs.Lines.{Behind, form-behind, read-line-is}
 use Rattle.forms.proofs.Ways.{count-of-answer}

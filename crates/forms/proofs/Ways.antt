@@ -11,12 +11,14 @@ use Rattle.definitions.specs.Program as P
 use Rattle.definitions.specs.Program.{text, line-limit}
 use Rattle.forms.specs.ReadLine.{with-bytes, read-block, read-line}
 use Rattle.numerals.specs.Numerals.{starts}
-use Rattle.numerals.specs.Numerals.{Numeral, number, last-bytes}
+use Rattle.numerals.specs.Numerals.{Numeral, number}
+use Rattle.hex_pairs.specs.HexBytes.{last-bytes}
 use Rattle.forms.specs.Answers.{answer-of, bytes-of, byte-count}
-use Rattle.numerals.specs.NumeralAnswers.{numeral-of, counted}
+use Rattle.numerals.specs.NumeralAnswers.{numeral-of}
+use Rattle.hex_pairs.specs.HexAnswers.{counted}
 use Rattle.numerals.specs.declared.Number.{Number}
 use Rattle.numerals.specs.declared.Number.the-variants as N
-use Rattle.numerals.specs.declared.Count.the-variants as C
+use Rattle.hex_pairs.specs.declared.Count.the-variants as C
 use Rattle.forms.specs.declared.Form.{Form}
 use Rattle.forms.specs.declared.Form.the-variants as F
 

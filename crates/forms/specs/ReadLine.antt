@@ -6,7 +6,8 @@ use mathlib.Core.Option.{Option, none, some}
 use lib.ListN.{length, drop}
 use lib.Dec.{ltb, eqb}
 use Rattle.definitions.specs.Program.{Form, block, finish, find, text, line-limit}
-use Rattle.numerals.specs.Numerals.{Numeral, last-bytes, number}
+use Rattle.numerals.specs.Numerals.{Numeral, number}
+use Rattle.hex_pairs.specs.HexBytes.{last-bytes}
 use Rattle.numerals.specs.Numerals.{starts}
 
 -- ── words and numbers ──

@@ -1,12 +1,13 @@
 // The forms of a line: a block, finish, find, or no form at all.
-use numerals::Count;
+use hex_pairs::Count;
 use numerals::Number;
 ghost use mathlib.Core.Path.{_≡_};
 ghost use Prim.Native.Nat.{_*_};
 ghost use lib.ListN.{length, drop};
 ghost use Rattle.definitions.specs.Program.{find};
 ghost use Rattle.forms.specs.ReadLine.{with-bytes, read-block, read-line};
-ghost use Rattle.numerals.specs.Numerals.{starts, last-bytes};
+ghost use Rattle.numerals.specs.Numerals.{starts};
+ghost use Rattle.hex_pairs.specs.HexBytes.{last-bytes};
 ghost use Rattle.forms.specs.Answers.{answer-of, byte-count, Reads};
 
 // The longest line that can be a form.
@@ -63,7 +64,7 @@ fn block_form(line: &[u8], at: usize) -> Form
     let Number::Is(destroyed_at, d_end) = d else {
         return Form::Bad;
     };
-    let n = numerals::count_bytes(line, d_end);
+    let n = hex_pairs::count_bytes(line, d_end);
     let Count::Bytes(length) = n else {
         return Form::Bad;
     };
@@ -80,7 +81,7 @@ fn block_form(line: &[u8], at: usize) -> Form
 fn find_form(line: &[u8], at: usize) -> Form
     ensures { λ r. ⌜ r ≡ answer-of (with-bytes (last-bytes (drop at (now (line .entry)))) find) ⌝ }
 {
-    let n = numerals::count_bytes(line, at);
+    let n = hex_pairs::count_bytes(line, at);
     let Count::Bytes(length) = n else {
         return Form::Bad;
     };
@@ -136,6 +137,6 @@ pub fn read_form(line: &[u8], bytes: &mut [u8]) -> Form
     if n == 0 {
         return f;
     }
-    numerals::decode(line, line.len() - 2 - 2 * n, n, bytes);
+    hex_pairs::decode(line, line.len() - 2 - 2 * n, n, bytes);
     f
 }

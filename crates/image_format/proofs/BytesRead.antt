@@ -5,6 +5,7 @@ use mathlib.Core.List.{List, _++_}
 use mathlib.Core.Path.{_≡_, ap, refl, sym}
 use lib.ListN.{getD, length, length-append}
 use Rattle.definitions.specs.Location.{locations-in, locations-bytes}
+use Rattle.definitions.proofs.Locations.{length-locations}
 use Rattle.words.proofs.Parts.{length-bytes64}
 use Rattle.words.specs.Words.{bytes64, bytesN, le64, leN}
 use Rattle.words.specs.Holding.{Holds}
@@ -40,13 +41,8 @@ locs-read s (suc n) at a =
     (holds-append s at 8 x y (length-bytes64 (le64 s at)) (holds-read s at a) (holds-read s (at + 8) a)) (holds-read s (at + 16) a))
     (locs-read s n (at + 24) a)
 
-pub count-locs : (s : List ℕ) (n x : ℕ) → length (locations-in s n x) ≡ n
-unfolding locations-in
-count-locs s zero x = refl
-count-locs s (suc n) x = ap suc (count-locs s n (x + 24))
-
 pub list-read : (s : List ℕ) (x : ℕ) → AllBytes s → Holds s x (list-bytes (locations-in s (le64 s x) (x + 8)))
 unfolding list-bytes
 list-read s x a =
-    rw (count-locs s (le64 s x) (x + 8))
+    rw (length-locations (le64 s x) s (x + 8))
     (holds-append s x 8 (bytes64 (le64 s x)) (locations-bytes (locations-in s (le64 s x) (x + 8))) (length-bytes64 (le64 s x)) (holds-read s x a) (locs-read s (le64 s x) (x + 8) a))

@@ -5,12 +5,13 @@ use mathlib.Core.List.{List, _++_}
 use mathlib.Core.Path.{_∙_, _≡_, ap, refl}
 use lib.ListN.{length}
 use Rattle.definitions.specs.Location.{locations-in}
+use Rattle.definitions.proofs.Locations.{length-locations}
 use Rattle.words.specs.Words.{le64}
 use Rattle.words.specs.Holding.{Holds}
 use Rattle.words.proofs.Holding.{holds-append, holds-at}
 use Rattle.trie.specs.Trie.{Forest, Node, more}
 use Rattle.image_format.proofs.ByByte.{Bytes}
-use Rattle.image_format.proofs.BytesRead.{count-locs, list-read}
+use Rattle.image_format.proofs.BytesRead.{list-read}
 use Rattle.image_format.proofs.Holding.{list-length}
 use Rattle.image_format.proofs.KindThree.{BytesAt}
 use Rattle.image_format.proofs.ReadBack.{Limits}
@@ -62,7 +63,7 @@ lists-back s all at =
     )
   where
     locs-count : (n x : ℕ) → length (locations-in s n x) ≡ n
-    locs-count n x = count-locs s n x
+    locs-count n x = length-locations n s x
 
     one-list : (x : ℕ) → Holds s x (list-bytes (locations-in s (le64 s x) (x + 8)))
     one-list x = list-read s x all

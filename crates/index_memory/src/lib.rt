@@ -14,9 +14,6 @@ ghost use Rattle.index_memory.specs.Index.{log-right};
 
 // ── the log ──
 
-// The largest address and the largest tick.
-pub const LAST_NUMBER: u64 = 18446744073709551615;
-
 // The nodes that a piece of m bytes charges.
 pub fn piece_nodes(m: usize) -> usize
     requires { ⌜ m ≤ 16 ⌝ }
@@ -51,7 +48,7 @@ fn piece_sound(mem: &[u8], at: usize) -> bool
         return false;
     }
     let address = words::get64(mem, at + 24);
-    address <= LAST_NUMBER - m as u64
+    address <= u64::MAX - m as u64
 }
 
 // Whether the log of an open index is right: each piece is sound, and the tally is the sum of the charges.

@@ -12,7 +12,7 @@ use Rattle.definitions.proofs.Views.{overlap-is}
 use Rattle.trie.specs.Find.{joins-each}
 use Rattle.place_buffer.specs.declared.Places.{Places}
 use Rattle.place_buffer.specs.Buffer.{Within, Valid, Taken}
-use Rattle.place_buffer.proofs.Scratch.{locations-snoc}
+use Rattle.definitions.proofs.Locations.{locations-snoc}
 use Rattle.place_buffer.proofs.Adding.{append-within, taken-none, taken-same, taken-over, taken-more}
 use Rattle.place_buffer.proofs.Holding.{taken-location}
 use Rattle.joining.specs.Below.{From}

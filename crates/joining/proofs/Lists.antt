@@ -13,7 +13,7 @@ use Rattle.definitions.specs.Places.{joins}
 use Rattle.trie.specs.Find.{joins-each}
 use Rattle.place_buffer.specs.declared.Places.{Places}
 use Rattle.place_buffer.specs.Buffer.{Within, Valid, Taken}
-use Rattle.place_buffer.proofs.Scratch.{locations-snoc}
+use Rattle.definitions.proofs.Locations.{locations-snoc}
 use Rattle.place_buffer.proofs.Adding.{taken-none, taken-over, taken-more}
 use Rattle.joining.specs.Below.{From}
 use Rattle.joining.proofs.Each.{each-append}

@@ -10,7 +10,7 @@ use lib.Dec.{ltb}
 use Rattle.words.specs.Words.{le64}
 use Rattle.definitions.specs.Location.{Location, Sorted, location-at, locations-in, Less}
 use Rattle.definitions.proofs.Views.{Lt, lt, lt-or-le}
-use Rattle.place_buffer.proofs.Scratch.{length-locations, locations-append}
+use Rattle.definitions.proofs.Locations.{length-locations, locations-append}
 use Rattle.joining.specs.Below.{below-count, From}
 
 pub sorted-behind : (xs ys : List Location) → Sorted Less (xs ++ ys) → Sorted Less ys

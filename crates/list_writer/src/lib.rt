@@ -1,4 +1,6 @@
 // The lists of a node: the locations of tails in the work area, sorted, each once, written into the image.
+use definitions::LOCATION_SIZE;
+use tails::TAIL_SIZE;
 ghost use mathlib.Core.Path.{_≡_};
 ghost use mathlib.Core.Bool.{cond};
 ghost use Prim.Native.Nat.{_+_, _*_, _≤_, _<_};
@@ -22,7 +24,7 @@ fn put_tail_location(mem: &mut [u8], work: usize, i: usize, to: usize)
     requires { ⌜ (to + 24 ≤ length (now mem)) × (work + 56 * i + 56 ≤ length (now mem)) ⌝ }
     ensures { λ _. ⌜ now (mem .exit) ≡ sets (now (mem .entry)) to (location-bytes (tail-in (now (mem .entry)) work i .entry .at)) ⌝ }
 {
-    let l = location::location_at(mem, work + 56 * i + 24);
+    let l = location::location_at(mem, work + TAIL_SIZE * i + 24);
     location::put_location(mem, to, l);
 }
 
@@ -34,7 +36,7 @@ fn put_run(mem: &mut [u8], work: usize, lo: usize, hi: usize, at: usize) -> usiz
     let mut n = 0;
     let mut i = lo;
     while i < hi {
-        put_tail_location(mem, work, i, at + 8 + 24 * n);
+        put_tail_location(mem, work, i, at + 8 + LOCATION_SIZE * n);
         n += 1;
         i += 1;
     }
@@ -47,8 +49,8 @@ fn put_whole(mem: &mut [u8], work: usize, i: usize, at: usize, n: usize) -> usiz
     ensures count { λ r. ⌜ r ≡ n + cond (tail-in (now (mem .entry)) work i .entry .whole) 1 0 ⌝ }
     ensures bytes { λ _. ⌜ now (mem .exit) ≡ cond (tail-in (now (mem .entry)) work i .entry .whole) (sets (now (mem .entry)) (at + 8 + 24 * n) (location-bytes (tail-in (now (mem .entry)) work i .entry .at))) (now (mem .entry)) ⌝ }
 {
-    if words::get64(mem, work + 56 * i + 16) % 2 == 1 {
-        put_tail_location(mem, work, i, at + 8 + 24 * n);
+    if words::get64(mem, work + TAIL_SIZE * i + 16) % 2 == 1 {
+        put_tail_location(mem, work, i, at + 8 + LOCATION_SIZE * n);
         return n + 1;
     }
     n
@@ -98,7 +100,7 @@ fn behind_list(e: End, n: usize) -> End
     ensures { λ r. ⌜ (r .at ≡ e .at + 8 + 24 * n) × (r .nodes ≡ e .nodes) × (r .entries ≡ e .entries + n) ⌝ }
 {
     End {
-        at: e.at + 8 + 24 * n,
+        at: e.at + 8 + LOCATION_SIZE * n,
         nodes: e.nodes,
         entries: e.entries + n,
     }

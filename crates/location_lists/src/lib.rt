@@ -1,4 +1,5 @@
 // Lists of locations where they stand in an image: whether one ascends, is sound, or is the union of others.
+use definitions::LOCATION_SIZE;
 ghost use mathlib.Core.Path.{_≡_};
 ghost use Prim.Native.Nat.{_+_, _*_, _^_, _≤_, _<_};
 ghost use lib.ListN.{length};
@@ -19,11 +20,11 @@ pub fn is_ascending(s: &[u8], at: usize, n: usize) -> bool
     let mut left = n;
     while 1 < left {
         let l = location::location_at(s, p);
-        let m = location::location_at(s, p + 24);
+        let m = location::location_at(s, p + LOCATION_SIZE);
         if !l.before(m) {
             return false;
         }
-        p += 24;
+        p += LOCATION_SIZE;
         left -= 1;
     }
     true
@@ -46,7 +47,7 @@ pub fn are_sound(s: &[u8], at: usize, n: usize, depth: usize) -> bool
         if top < l.address.0 {
             return false;
         }
-        p += 24;
+        p += LOCATION_SIZE;
         left -= 1;
     }
     true
@@ -61,7 +62,7 @@ pub fn add_list(lists: &mut [usize], count: usize, at: usize, n: usize) -> usize
         return count;
     }
     lists[count * 2] = at;
-    lists[count * 2 + 1] = at + n * 24;
+    lists[count * 2 + 1] = at + n * LOCATION_SIZE;
     count + 1
 }
 
@@ -92,7 +93,7 @@ fn step_one(s: &[u8], key: location::SpacetimeLocation, lists: &mut [usize], i: 
     if !is_at(s, p, key) {
         return 0;
     }
-    lists[i * 2] = p + 24;
+    lists[i * 2] = p + LOCATION_SIZE;
     1
 }
 
@@ -145,7 +146,7 @@ pub fn is_union(s: &[u8], at: usize, n: usize, back: u64, lists: &mut [usize], c
         if met == 0 {
             return false;
         }
-        p += 24;
+        p += LOCATION_SIZE;
         left -= 1;
     }
     all_ended(lists, count)

@@ -1,8 +1,7 @@
 -- `Numbers`, `HeaderBytes`: what is written is read back; `HeaderFacts`: what a sound header tells; `Opening`: what opening
--- answers; `Tallies`: the header's tally, lent; `Tests`: tests one after another. Assumes nothing.
+-- answers; `Tests`: tests one after another. Assumes nothing.
 pub mod Numbers
 pub mod Tests
 pub mod HeaderBytes
 pub mod HeaderFacts
 pub mod Opening
-pub mod Tallies

@@ -8,7 +8,6 @@ use lib.ListN.{length}
 use lib.Dec.{eqb}
 use Rattle.words.specs.Words.{le64}
 use Rattle.definitions.specs.Calls.{needed}
-use Rattle.tally.specs.declared.Tally.{Tally}
 use Rattle.memory_header.specs.declared.Heading.{Heading}
 use Rattle.memory_header.specs.declared.Heading.the-variants.{Right, Broken}
 use Rattle.memory_header.specs.declared.Outcome.{Outcome}
@@ -28,14 +27,6 @@ heading-of Broken = none
 -- the header of a memory, where there is room for one and it is sound
 abbrev pub heading-at : List ℕ → Option Header
 heading-at m = cond (header-right m) (some (header-at m)) none
-
--- the tally of a header
-abbrev pub tally-in : C.Header → Tally
-tally-in h = record { nodes = h .nodes; entries = h .entries; phase = h .phase }
-
--- a header of the same capacity with this tally and payload
-abbrev pub with-tally : C.Header → Tally → ℕ → C.Header
-with-tally h t payload = record { «node_room» = h .«node_room»; «entry_room» = h .«entry_room»; phase = t .phase; nodes = t .nodes; entries = t .entries; payload = payload }
 
 -- what a call answers for the number of its refusal, which is 0 where it is not refused
 abbrev pub outcome-as : ℕ → Outcome

@@ -1,15 +1,13 @@
-// The header of lent memory: its fields, their test, opening an index, and what finish and record make of it.
-use tally::Tally;
+// The header of lent memory: its fields, their test, and opening an index.
 ghost use mathlib.Core.Path.{_≡_};
 ghost use mathlib.Core.Bool.{not, cond};
-ghost use Prim.Native.Nat.{_+_, _*_, _^_, _≤_, _<_};
+ghost use Prim.Native.Nat.{_+_, _≤_, _<_};
 ghost use lib.ListN.{length};
 ghost use lib.Dec.{eqb};
 ghost use Rattle.definitions.specs.Calls.{needed, out-of-range};
-ghost use Rattle.tally.specs.Tallied.{recorded, finished};
 ghost use Rattle.memory_header.specs.Layout.{payload-size, with-header};
 ghost use Rattle.memory_header.specs.Opening.{open-memory};
-ghost use Rattle.memory_header.specs.Answers.{header-of, heading-of, heading-at, Front, outcome-as, tally-in, with-tally};
+ghost use Rattle.memory_header.specs.Answers.{header-of, heading-of, heading-at, Front, outcome-as};
 
 // What the header takes, and what a capacity needs for each node and each entry.
 pub const HEADER_SIZE: usize = 64;
@@ -146,50 +144,6 @@ pub fn put_header(mem: &mut [u8], h: Header)
     words::put64(mem, 40, h.payload as u64);
     words::put64(mem, 48, 0);
     words::put64(mem, 56, 0);
-}
-
-// The tally of a header.
-fn tally_in(h: Header) -> Tally
-    ensures { λ r. ⌜ r ≡ tally-in h ⌝ }
-{
-    Tally {
-        nodes: h.nodes,
-        entries: h.entries,
-        phase: h.phase,
-    }
-}
-
-// A header of the same capacity with this tally and payload.
-fn with_tally(h: Header, t: Tally, payload: usize) -> Header
-    ensures { λ r. ⌜ r ≡ with-tally h t payload ⌝ }
-{
-    Header {
-        node_room: h.node_room,
-        entry_room: h.entry_room,
-        phase: t.phase,
-        nodes: t.nodes,
-        entries: t.entries,
-        payload,
-    }
-}
-
-// The header after a block that charges these nodes and entries: its tally is lent to `record`, and callers see headers alone.
-pub fn charged(h: Header, nodes: usize, entries: usize, payload: usize) -> Header
-    requires { ⌜ (h .nodes + nodes < 2 ^ 64) × (h .entries + entries < 2 ^ 64) ⌝ }
-    ensures { λ r. ⌜ r ≡ with-tally h (recorded (tally-in h) nodes entries) payload ⌝ }
-{
-    let mut t = tally_in(h);
-    tally::record(&mut t, nodes, entries);
-    with_tally(h, t, payload)
-}
-
-// The header of the finished index, which has these nodes and entries left: its tally is lent to `finish`.
-pub fn closed(h: Header, nodes: usize, entries: usize, payload: usize) -> Header
-    ensures { λ r. ⌜ r ≡ with-tally h (finished nodes entries) payload ⌝ }
-{
-    let mut t = tally_in(h);
-    tally::finish(&mut t, nodes, entries);
-    with_tally(h, t, payload)
 }
 
 // ── opening ──

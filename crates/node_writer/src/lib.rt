@@ -110,7 +110,7 @@ pub fn put_image(mem: &mut [u8], work: usize, tails: usize) -> End
     ensures { λ r. ⌜ ImageWritten (now (mem .entry)) (now (mem .exit)) work tails r ⌝ }
 {
     if tails == 0 {
-        words::clear(mem, 64, 89);
+        copying::clear(mem, 64, 89);
         return End {
             at: 89,
             nodes: 1,

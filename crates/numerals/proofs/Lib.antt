@@ -1,3 +1,2 @@
--- `Steps` has a law for each step of the code, `Decoding` those of its loop over pairs. Assumes nothing.
+-- `Steps` has a law for each step of the code. Assumes nothing.
 pub mod Steps
-pub mod Decoding

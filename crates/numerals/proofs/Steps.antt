@@ -10,10 +10,8 @@ use lib.ListN.{length, getD, drop, drop-of-length-le}
 use lib.Seq.{drop-cons}
 use lib.Dec.{ltb, leb}
 use borrow.Author.Tests.{lt-ltb, le-ltb, le-leb, lt-leb, eq-eqb, ne-eqb, ltb-false, leb-true, leb-false}
-use Rattle.numerals.specs.Numerals.{starts}
-use Rattle.numerals.specs.Numerals.{is-digit, space-ends, digits-from, number, nibble, pair, closing, after-byte, hex-bytes, last-bytes}
-use Rattle.numerals.specs.NumeralAnswers.{over-last, counted}
-use Rattle.numerals.specs.declared.Count.the-variants.{Bytes, Bad}
+use Rattle.numerals.specs.Numerals.{starts, is-digit, space-ends, digits-from, number}
+use Rattle.numerals.specs.NumeralAnswers.{over-last}
 
 -- ── digits ──
 
@@ -41,38 +39,6 @@ digit-tells b true e = go (ltb b 48) refl e
     go true p q = absurd (let y : _≡_ {A = ℕ} 0 1 = cc in omega arith)
     go false p q = (ltb-false b 48 p, leb-true b 57 q)
 digit-tells b false e = λ h. leb-false b 57 (sym (digit-high b h) ∙ e)
-
-module _ (b : ℕ) where
-  pub nibble-digit : is-digit b ≡ true → b - 48 ≡ nibble b
-  unfolding nibble
-  nibble-digit e = rw e
-
-  module _ (e : is-digit b ≡ false) where
-    pub nibble-low : b < 97 → 16 ≡ nibble b
-    unfolding nibble
-    nibble-low h = rw (e, lt-ltb b 97 h)
-
-    pub nibble-high : 97 ≤ b → 102 < b → 16 ≡ nibble b
-    unfolding nibble
-    nibble-high h k = rw (e, le-ltb b 97 h, lt-ltb 102 b k)
-
-    pub nibble-letter : 97 ≤ b → b ≤ 102 → (v : ℕ) → v ≡ b - 97 + 10 → v ≡ nibble b
-    unfolding nibble
-    nibble-letter h k v f = rw (e, le-ltb b 97 h, le-ltb 102 b k) (omega arith)
-
--- the byte of two digits whose values are h and l
-module _ (a b h l : ℕ) (p : h ≡ nibble a) (q : l ≡ nibble b) where
-  pub pair-first : 15 < h → 256 ≡ pair a b
-  unfolding pair
-  pair-first k = rw (← p, lt-ltb 15 h k)
-
-  pub pair-second : h ≤ 15 → 15 < l → 256 ≡ pair a b
-  unfolding pair
-  pair-second j k = rw (← p, ← q, le-ltb 15 h j, lt-ltb 15 l k)
-
-  pub pair-both : h ≤ 15 → l ≤ 15 → h * 16 + l ≡ pair a b
-  unfolding pair
-  pair-both j k = rw (← p, ← q, le-ltb 15 h j, le-ltb 15 l k)
 
 -- ── the text from an index on ──
 
@@ -140,76 +106,6 @@ module _ (l : List ℕ) (at : ℕ) where
     pub number-not : (getD l at 0 ≡ 48 → ⊥) → is-digit (getD l at 0) ≡ false → none ≡ number (drop at l)
     unfolding number
     number-not n e = rw (drop-one h, ne-eqb (getD l at 0) 48 n, e)
-
-  -- ── bytes ──
-
-  module _ (n : ℕ) (h : at + 2 ≤ length l) where
-    pub close-long : (length l - at ≡ 2 → ⊥) → Bad ≡ counted n (closing (getD l at 0) (getD l (at + 1) 0) (drop (at + 2) l))
-    unfolding closing
-    close-long k =
-        let m : at + 2 < length l = omega arith in
-        rw (drop-cons l (at + 2) 0 m)
-
-    module _ (k : length l - at ≡ 2) where
-      nothing-behind : drop (at + 2) l ≡ []
-      nothing-behind =
-          let m : length l ≤ at + 2 = omega arith in
-          drop-of-length-le l m
-
-      pub close-first : (getD l at 0 ≡ 41 → ⊥) → Bad ≡ counted n (closing (getD l at 0) (getD l (at + 1) 0) (drop (at + 2) l))
-      unfolding closing
-      close-first a = rw (nothing-behind, ne-eqb (getD l at 0) 41 a)
-
-      pub close-second : getD l at 0 ≡ 41 → (getD l (at + 1) 0 ≡ 41 → ⊥) → Bad ≡ counted n (closing (getD l at 0) (getD l (at + 1) 0) (drop (at + 2) l))
-      unfolding closing
-      close-second a b = rw (nothing-behind, eq-eqb (getD l at 0) 41 a, ne-eqb (getD l (at + 1) 0) 41 b)
-
-      pub close-both : getD l at 0 ≡ 41 → getD l (at + 1) 0 ≡ 41 → Bytes n ≡ counted n (closing (getD l at 0) (getD l (at + 1) 0) (drop (at + 2) l))
-      unfolding closing
-      close-both a b =
-          let e : n ≡ n + 0 = omega arith in
-          rw (nothing-behind, eq-eqb (getD l at 0) 41 a, eq-eqb (getD l (at + 1) 0) 41 b) (ap Bytes e)
-
-  pub pairs-out : length l ≤ at → none ≡ hex-bytes (drop at l)
-  unfolding hex-bytes
-  pairs-out h = rw (drop-none h)
-
-  pub pairs-odd : at < length l → length l - at < 2 → none ≡ hex-bytes (drop at l)
-  unfolding hex-bytes
-  pairs-odd h k =
-      let m : length l ≤ at + 1 = omega arith in
-      rw (drop-one h, drop-of-length-le l m)
-
-  module _ (h : at + 2 ≤ length l) where
-    -- v is the byte of the next pair, where it is one
-    module _ (v : ℕ) (e : v ≡ pair (getD l at 0) (getD l (at + 1) 0)) where
-      pub pairs-end : 255 < v → closing (getD l at 0) (getD l (at + 1) 0) (drop (at + 2) l) ≡ hex-bytes (drop at l)
-      unfolding hex-bytes
-      pairs-end k = rw (drop-two h, ← e, lt-ltb 255 v k)
-
-      pub pairs-on : v ≤ 255 → hex-bytes (drop at l) ≡ after-byte v (hex-bytes (drop (at + 2) l))
-      unfolding hex-bytes
-      pairs-on k = rw (drop-two h, ← e, le-ltb 255 v k)
-
-  pub bytes-out : length l ≤ at → none ≡ last-bytes (drop at l)
-  unfolding last-bytes
-  bytes-out h = rw (drop-none h)
-
-  module _ (h : at < length l) where
-    pub bytes-not : (getD l at 0 ≡ 40 → ⊥) → none ≡ last-bytes (drop at l)
-    unfolding last-bytes
-    bytes-not n = rw (drop-one h, ne-eqb (getD l at 0) 40 n)
-
-    pub bytes-so : getD l at 0 ≡ 40 → hex-bytes (drop (at + 1) l) ≡ last-bytes (drop at l)
-    unfolding last-bytes
-    bytes-so e = rw (drop-one h, eq-eqb (getD l at 0) 40 e)
-
--- one byte more was counted
-pub counted-one : (n v : ℕ) (o : Option (List ℕ)) → counted n (after-byte v o) ≡ counted (n + 1) o
-counted-one n v none = refl
-counted-one n v (some bs) =
-    let e : n + suc (length bs) ≡ n + 1 + length bs = omega arith in
-    ap Bytes e
 
 -- ── words ──
 

@@ -15,7 +15,8 @@ use Rattle.location.specs.Fits.{Fits}
 use Rattle.place_buffer.specs.declared.Places.{Places}
 use Rattle.place_buffer.specs.Buffer.{Ascending, Within, Tidied, room, held, Valid, Taken}
 use Rattle.place_buffer.proofs.Sets.{normal-same, normal-ascending, fewer, normal-new}
-use Rattle.place_buffer.proofs.Scratch.{length-locations, locations-ext, locations-moved, locations-append, locations-snoc, locations-written, tidied-le}
+use Rattle.place_buffer.proofs.Scratch.{locations-ext, locations-moved, locations-written, tidied-le}
+use Rattle.definitions.proofs.Locations.{length-locations, locations-append, locations-snoc}
 
 -- ── members of lists that are joined ──
 

@@ -12,7 +12,7 @@ use Rattle.definitions.specs.Location.{Location, Sorted, normal, location-at, l
 use Rattle.definitions.proofs.Views.{lt-or-le}
 use Rattle.place_buffer.specs.Buffer.{Ascending, Within, There}
 use Rattle.place_buffer.proofs.Sets.{less-irrefl, normal-same, normal-ascending, normal-new}
-use Rattle.place_buffer.proofs.Scratch.{length-locations, locations-snoc, locations-append}
+use Rattle.definitions.proofs.Locations.{length-locations, locations-snoc, locations-append}
 use Rattle.place_buffer.proofs.Adding.{append-within}
 
 -- the last of an ascending list is none of those before it

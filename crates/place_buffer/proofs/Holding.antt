@@ -7,11 +7,13 @@ use mathlib.Core.List.{List, [], _∷_, _++_, List·Memᴰ·not-nil as not-nil, 
 use lib.ListN.{length}
 use Rattle.records.proofs.Order.{clash}
 use Rattle.definitions.specs.Location.{Location, normal, location-at, locations-in}
+use Rattle.definitions.proofs.Order.{length-normal}
 use Rattle.place_buffer.specs.declared.Places.{Places}
 use Rattle.place_buffer.specs.Buffer.{Within, Tidied, room, held, Taken, Placed}
 use Rattle.place_buffer.specs.Holding.{Holding, Settled}
-use Rattle.place_buffer.proofs.Sets.{normal-same, fewer, length-normal}
-use Rattle.place_buffer.proofs.Scratch.{length-locations, location-ext, locations-ext}
+use Rattle.place_buffer.proofs.Sets.{normal-same, fewer}
+use Rattle.place_buffer.proofs.Scratch.{location-ext, locations-ext}
+use Rattle.definitions.proofs.Locations.{length-locations}
 use Rattle.place_buffer.proofs.Adding.{append-within, taken-still}
 
 -- a set of which nothing was added yet

@@ -15,17 +15,12 @@ use Rattle.records.proofs.Bytes.{Bytes, length-records, records-ext}
 use Rattle.records.proofs.Lists.{length-dropRepeats}
 use Rattle.sort.proofs.Results.{length-sorted-bytes, length-dropRepeats-bytes, records-after-sort, records-after-drop}
 use Rattle.definitions.specs.Location.{Location, normal, location-at, location-bytes, locations-in}
-use Rattle.definitions.proofs.Order.{location-path}
+use Rattle.definitions.proofs.Order.{location-path, length-normal}
+use Rattle.definitions.proofs.Locations.{length-locations, locations-append, locations-snoc, getD-locations}
 use Rattle.location.specs.Fits.{Fits}
 use Rattle.location.proofs.Bytes.{location-written}
 use Rattle.place_buffer.specs.Buffer.{Tidied}
-use Rattle.place_buffer.proofs.Sets.{length-normal}
 use Rattle.place_buffer.proofs.Triples.{triples, records-triples, triples-path, length-triples, normal-triples}
-
-pub length-locations : (n : ℕ) (s : List ℕ) (at : ℕ) → length (locations-in s n at) ≡ n
-unfolding locations-in
-length-locations zero s at = refl
-length-locations (suc n) s at = ap suc (length-locations n s (at + 24))
 
 -- the same bytes are the same places
 pub location-ext : (s s′ : List ℕ) (at : ℕ) → ((k : ℕ) → at ≤ k → k < at + 24 → getD s k 0 ≡ getD s′ k 0) → location-at s at ≡ location-at s′ at
@@ -78,32 +73,6 @@ locations-moved (suc n) s s′ at at′ h =
         let a : at + i + k ≡ at + (i + k) = omega arith in
         let b : at′ + i + k ≡ at′ + (i + k) = omega arith in
         rw (a, b) (h (i + k) l)
-
-pub locations-append : (n m : ℕ) (s : List ℕ) (at : ℕ) → locations-in s (n + m) at ≡ locations-in s n at ++ locations-in s m (at + n * 24)
-unfolding locations-in
-locations-append zero m s at =
-    let e : 0 + m ≡ m = omega arith in
-    let f : at + 0 * 24 ≡ at = omega arith in
-    rw (e, f)
-locations-append (suc n) m s at =
-    let e : suc n + m ≡ suc (n + m) = omega arith in
-    let f : at + 24 + n * 24 ≡ at + suc n * 24 = omega arith in
-    let r = locations-append n m s (at + 24) in
-    rw (e, r, f)
-
-pub locations-snoc : (n : ℕ) (s : List ℕ) (at : ℕ) → locations-in s (n + 1) at ≡ locations-in s n at ++ (location-at s (at + n * 24) ∷ [])
-unfolding locations-in
-locations-snoc n s at = locations-append n 1 s at
-
-pub getD-locations : (n : ℕ) (s : List ℕ) (at i : ℕ) (d : Location) → i < n → getD (locations-in s n at) i d ≡ location-at s (at + i * 24)
-unfolding locations-in
-getD-locations zero s at i d h = absurd (not-suc-le-zero h)
-getD-locations (suc n) s at zero d h =
-    let e : at + 0 * 24 ≡ at = omega arith in
-    rw e
-getD-locations (suc n) s at (suc i) d h =
-    let e : at + 24 + i * 24 ≡ at + suc i * 24 = omega arith in
-    getD-locations n s (at + 24) i d (omega arith) ∙ ap (location-at s) e
 
 -- l written behind n places
 pub locations-written : (n : ℕ) (s : List ℕ) (at : ℕ) (l : Location) → Fits l → at + n * 24 + 24 ≤ length s

@@ -17,7 +17,7 @@ use Rattle.location.proofs.Bytes.{location-written}
 use Rattle.place_buffer.specs.Buffer.{before-count}
 use Rattle.place_buffer.proofs.Sets.{less-irrefl}
 use Rattle.place_buffer.proofs.Triples.{triple, triples, record-triple, records-triples, triples-ascending, lex-order, is-lt-less, less-is-lt}
-use Rattle.place_buffer.proofs.Scratch.{length-locations, getD-locations}
+use Rattle.definitions.proofs.Locations.{length-locations, getD-locations}
 
 -- neither comes before the other
 pub neither : (l m : Location) → is-lt (order l m) ≡ false → is-lt (order m l) ≡ false → l ≡ m

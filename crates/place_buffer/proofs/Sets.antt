@@ -49,19 +49,6 @@ ascending-within (l ∷ ls) (m ∷ ms) s t f = go (split (f l (here refl))) (asc
 pub fewer : (xs ys : List Location) → Within xs ys → length (normal xs) ≤ length (normal ys)
 fewer xs ys f = ascending-within (normal xs) (normal ys) (sorted-normal xs) (sorted-normal ys) (λ x h. mem-normal ys (f x (normal-mem xs h)))
 
-insert-length : (l : Location) (ms : List Location) → length (insert l ms) ≤ suc (length ms)
-insert-length l [] = omega arith
-insert-length l (m ∷ ms) = go (order l m) (insert-length l ms)
-  where
-    go : (o : Ordering) → length (insert l ms) ≤ suc (length ms) → length (placed o l m ms (insert l ms)) ≤ suc (suc (length ms))
-    go Ordering·lt ih = omega arith
-    go Ordering·eq ih = omega arith
-    go Ordering·gt ih = omega arith
-
-pub length-normal : (ls : List Location) → length (normal ls) ≤ length ls
-length-normal [] = omega arith
-length-normal (l ∷ ls) = omega (arith, insert-length l (normal ls), length-normal ls)
-
 insert-new-length : (l : Location) (ms : List Location) → (Mem l ms → ⊥) → length (insert l ms) ≡ suc (length ms)
 insert-new-length l [] n = refl
 insert-new-length l (m ∷ ms) n = go (order l m) (cmp l m) (insert-new-length l ms (λ h. n (later h)))

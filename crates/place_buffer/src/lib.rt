@@ -1,4 +1,5 @@
 // A set of places in lent memory, 24 bytes a place. What has no room is refused only where the set itself is too large.
+use definitions::LOCATION_SIZE;
 use location::SpacetimeLocation;
 ghost use mathlib.Core.Path.{_≡_};
 ghost use mathlib.Core.Bool.{true, false};
@@ -24,7 +25,7 @@ pub fn tidy(scratch: &mut [u8], base: usize, count: usize) -> usize
     requires { ⌜ (base ≤ count) × (count * 24 ≤ length (now scratch)) ⌝ }
     ensures { λ r. ⌜ Tidied (now (scratch .entry)) (now (scratch .exit)) base count r ⌝ }
 {
-    let at = base * 24;
+    let at = base * LOCATION_SIZE;
     let n = count - base;
     sort::sort(scratch, at, 3, n);
     let kept = records::drop_repeats(scratch, at, 3, n);
@@ -50,7 +51,7 @@ fn is_there(scratch: &[u8], at: usize, n: usize, l: SpacetimeLocation) -> bool
     if n <= i {
         return false;
     }
-    let m = location::location_at(scratch, at + i * 24);
+    let m = location::location_at(scratch, at + i * LOCATION_SIZE);
     if l.before(m) {
         return false;
     }
@@ -76,7 +77,7 @@ pub fn count_both(img: &[u8], a: usize, n: usize, b: usize, m: usize) -> usize
     let mut count = n;
     let mut j = 0;
     while j < m {
-        let l = location::location_at(img, b + j * 24);
+        let l = location::location_at(img, b + j * LOCATION_SIZE);
         count += adds(img, a, n, l);
         j += 1;
     }
@@ -90,7 +91,7 @@ fn look_up(scratch: &[u8], p: Places, l: SpacetimeLocation) -> Places
 {
     let base = p.base;
     let count = p.count;
-    if is_there(scratch, base * 24, count - base, l) {
+    if is_there(scratch, base * LOCATION_SIZE, count - base, l) {
         return p;
     }
     Places {
@@ -108,7 +109,7 @@ fn append(scratch: &mut [u8], p: Places, l: SpacetimeLocation) -> Places
 {
     let base = p.base;
     let count = p.count;
-    location::put_location(scratch, count * 24, l);
+    location::put_location(scratch, count * LOCATION_SIZE, l);
     Places {
         base,
         count: count + 1,
@@ -130,7 +131,7 @@ pub fn place(scratch: &mut [u8], p: Places, l: SpacetimeLocation) -> Places
     }
     let base = p.base;
     let count = p.count;
-    if count + 1 <= scratch.len() / 24 {
+    if count + 1 <= scratch.len() / LOCATION_SIZE {
         return append(scratch, p, l);
     }
     let kept = tidy(scratch, base, count);
@@ -169,7 +170,11 @@ fn take_each(img: &[u8], at: usize, n: usize, scratch: &mut [u8], p: Places) -> 
         if r.full {
             return r;
         }
-        r = place(scratch, r, location::location_at(img, at + i * 24));
+        r = place(
+            scratch,
+            r,
+            location::location_at(img, at + i * LOCATION_SIZE),
+        );
         i += 1;
     }
     r
@@ -185,10 +190,10 @@ pub fn take_list(img: &[u8], at: usize, n: usize, scratch: &mut [u8], p: Places)
     }
     let base = p.base;
     let count = p.count;
-    if scratch.len() / 24 - count < n {
+    if scratch.len() / LOCATION_SIZE - count < n {
         return take_each(img, at, n, scratch, p);
     }
-    words::copy(img, at, scratch, count * 24, n * 24);
+    copying::copy(img, at, scratch, count * LOCATION_SIZE, n * LOCATION_SIZE);
     Places {
         base,
         count: count + n,

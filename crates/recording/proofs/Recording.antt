@@ -16,7 +16,8 @@ use Rattle.definitions.proofs.Views.{lt-or-le}
 use Rattle.tally.specs.Tallied.{recorded}
 use Rattle.index_memory.specs.Log.{piece-bytes, log-bytes}
 use Rattle.recording.specs.Cut.{part, parts, piece-count, block-nodes}
-use Rattle.memory_header.specs.Answers.{header-of, tally-in, with-tally}
+use Rattle.memory_header.specs.Answers.{header-of}
+use Rattle.header_tally.specs.Tallies.{tally-in, with-tally}
 use Rattle.recording.specs.Record.{grown}
 use Rattle.memory_header.specs.declared.Header as C
 use Rattle.recording.proofs.Cut.{pieces-parts}

@@ -1,6 +1,5 @@
 // Recording into an open index: a block is judged, appended to the log, and the header put.
 use definitions::PIECE_SIZE;
-use index_memory::LAST_NUMBER;
 use location::SpacetimeLocation;
 use memory_header::HEADER_SIZE;
 use memory_header::Header;
@@ -57,7 +56,7 @@ pub fn judge(h: Header, n: usize, l: SpacetimeLocation) -> u64
     if l.destroyed_at.0 <= l.created_at.0 {
         return definitions::NO_LIFE;
     }
-    if LAST_NUMBER - (n as u64) < l.address.0 {
+    if u64::MAX - (n as u64) < l.address.0 {
         return definitions::ADDRESS_TOO_HIGH;
     }
     let nodes = block_nodes(n);
@@ -78,8 +77,8 @@ fn put_piece(mem: &mut [u8], at: usize, piece: &[u8], l: SpacetimeLocation)
 {
     let n = piece.len();
     words::put64(mem, at, n as u64);
-    words::copy(piece, 0, mem, at + 8, n);
-    words::clear(mem, at + 8 + n, at + 24);
+    copying::copy(piece, 0, mem, at + 8, n);
+    copying::clear(mem, at + 8 + n, at + 24);
     location::put_location(mem, at + 24, l);
 }
 
@@ -125,7 +124,7 @@ fn grown(h: Header, n: usize) -> Header
 {
     let nodes = block_nodes(n);
     let entries = index_memory::entry_charge(n);
-    memory_header::charged(h, nodes, entries, h.payload + piece_count(n))
+    header_tally::charged(h, nodes, entries, h.payload + piece_count(n))
 }
 
 // Appends the pieces of a block that fits to the log, and answers the header that counts them, which is not written here.

@@ -14,7 +14,7 @@ pub fn put_text(out: &mut [u8], at: usize, text: &[u8]) -> usize
     requires { ⌜ at + length (now text) ≤ length (now out) ⌝ }
     ensures { λ r. ⌜ Written (now (out .entry)) at (now (text .entry)) (now (out .exit)) r ⌝ }
 {
-    words::copy(text, 0, out, at, text.len());
+    copying::copy(text, 0, out, at, text.len());
     at + text.len()
 }
 

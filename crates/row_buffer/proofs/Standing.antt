@@ -12,7 +12,7 @@ use Rattle.definitions.specs.Location.{Location, location-at, location-bytes, l
 use Rattle.definitions.specs.Rows.{goes-on, lengthened, combined, combine-split-times}
 use Rattle.location.specs.Fits.{Fits}
 use Rattle.location.proofs.Bytes.{length-location, location-other, location-written, location-fits}
-use Rattle.place_buffer.proofs.Scratch.{length-locations}
+use Rattle.definitions.proofs.Locations.{length-locations}
 
 -- ── locations that fit ──
 

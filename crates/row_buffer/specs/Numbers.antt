@@ -1,9 +1,8 @@
 -- The places of a row, and rows as numbers. Assumes nothing.
-use Prim.Native.Nat.{ℕ, suc, _+_}
+use Prim.Native.Nat.{ℕ, suc}
 use mathlib.Core.Bool.{cond}
 use mathlib.Core.List.{List, [], _∷_}
-use Rattle.words.specs.Words.{le64}
-use Rattle.definitions.specs.Location.{Location}
+use Rattle.definitions.specs.Location.{Location, location-at}
 use Rattle.definitions.specs.Rows.{goes-on, lengthened}
 
 -- a row of which only the address and the end are asked
@@ -12,7 +11,7 @@ ended a d = record { address = a; created = 0; destroyed = d }
 
 -- the row of the places from byte p to byte q on: the first one's address and creation, and the last one's end
 abbrev pub row-at : List ℕ → ℕ → ℕ → Location
-row-at s p q = record { address = le64 s p; created = le64 s (p + 8); destroyed = le64 s (q + 16) }
+row-at s p q = lengthened (location-at s p) (location-at s q)
 
 -- how many of the places behind l go on with its row
 unfoldable pub going-on : Location → List Location → ℕ

@@ -1,4 +1,5 @@
 // Rows: places with lives that touch, joined.
+use definitions::LOCATION_SIZE;
 use location::SpacetimeLocation;
 ghost use mathlib.Core.Path.{_≡_};
 ghost use Prim.Native.Nat.{_+_, _-_, _*_, _≤_, _<_};
@@ -36,7 +37,7 @@ fn row_end(scratch: &[u8], at: usize, n: usize) -> usize
     let mut end = words::get64(scratch, at + 16);
     let mut u = 1;
     while u < n {
-        let p = at + u * 24;
+        let p = at + u * LOCATION_SIZE;
         if goes_on(scratch, p, address, end) {
             end = words::get64(scratch, p + 16);
             u += 1;
@@ -52,11 +53,9 @@ fn put_row(scratch: &mut [u8], p: usize, q: usize, w: usize)
     requires { ⌜ (p + 24 ≤ length (now scratch)) × (q + 24 ≤ length (now scratch)) × (w + 24 ≤ length (now scratch)) ⌝ }
     ensures { λ _. ⌜ now (scratch .exit) ≡ sets (now (scratch .entry)) w (location-bytes (row-at (now (scratch .entry)) p q)) ⌝ }
 {
-    let row = SpacetimeLocation::new(
-        words::get64(scratch, p),
-        words::get64(scratch, p + 8),
-        words::get64(scratch, q + 16),
-    );
+    let first = location::location_at(scratch, p);
+    let last = location::location_at(scratch, q);
+    let row = SpacetimeLocation::new(first.address.0, first.created_at.0, last.destroyed_at.0);
     location::put_location(scratch, w, row);
 }
 
@@ -72,8 +71,13 @@ pub fn combine_split_times(scratch: &mut [u8], at: usize, n: usize) -> usize
     let mut count = 0;
     while 0 < left {
         let k = row_end(scratch, p, left);
-        put_row(scratch, p, p + (k - 1) * 24, count * 24);
-        p += k * 24;
+        put_row(
+            scratch,
+            p,
+            p + (k - 1) * LOCATION_SIZE,
+            count * LOCATION_SIZE,
+        );
+        p += k * LOCATION_SIZE;
         left -= k;
         count += 1;
     }
@@ -87,22 +91,15 @@ pub fn no_rows(refusal: u64) -> Finding
     Finding { refusal, count: 0 }
 }
 
-// So many rows.
-fn some_rows(count: usize) -> Finding
-    ensures { λ r. ⌜ r ≡ record { refusal = 0; count = count } ⌝ }
-{
-    Finding { refusal: 0, count }
-}
-
 // The rows of the places number from to to - 1, at the front of scratch, where so many have room.
 pub fn hand_over(scratch: &mut [u8], from: usize, to: usize, room: usize) -> Finding
     requires { ⌜ (from ≤ to) × (to * 24 ≤ length (now scratch)) ⌝ }
     ensures found { λ r. ⌜ r ≡ finding-of (rows-answer (combine-split-times (locations-in (now (scratch .entry)) (to - from) (from * 24))) room) ⌝ }
     ensures rows { λ _. ⌜ AtFront (rows-answer (combine-split-times (locations-in (now (scratch .entry)) (to - from) (from * 24))) room .rows) (now (scratch .exit)) ⌝ }
 {
-    let count = combine_split_times(scratch, from * 24, to - from);
+    let count = combine_split_times(scratch, from * LOCATION_SIZE, to - from);
     if room < count {
         return no_rows(definitions::TOO_MANY_ROWS);
     }
-    some_rows(count)
+    Finding { refusal: 0, count }
 }

@@ -8,7 +8,7 @@ use lib.ListN.{length, length-append}
 use Rattle.definitions.specs.Location.{Location, location-at, locations-in}
 use Rattle.definitions.specs.Program.{text, decimal, Reply, place, end, place-each, found}
 use Rattle.definitions.proofs.Decimal.{dec-decimal, length-dec}
-use Rattle.image_format.proofs.BytesRead.{count-locs}
+use Rattle.definitions.proofs.Locations.{length-locations, locations-snoc}
 use Rattle.replies.specs.Written.{Written, reply-bytes}
 use Rattle.replies.specs.Replies.{replies-bytes}
 
@@ -39,31 +39,23 @@ place-snoc : (ls : List Location) (l : Location) → place-each (ls ++ (l ∷ []
 place-snoc [] l = refl
 place-snoc (k ∷ ls) l = ap (λ (ps : List Reply). place k ∷ ps) (place-snoc ls l)
 
-locations-snoc : (s : List ℕ) (n p : ℕ) → locations-in s (suc n) p ≡ locations-in s n p ++ (location-at s (p + n * 24) ∷ [])
-unfolding locations-in
-locations-snoc s zero p =
-    let e : p ≡ p + 0 * 24 = omega arith in
-    ap (λ (q : ℕ). location-at s q ∷ []) e
-locations-snoc s (suc n) p =
-    let e : p + 24 + n * 24 ≡ p + suc n * 24 = omega arith in
-    ap (λ (ls : List Location). location-at s p ∷ ls) (locations-snoc s n (p + 24) ∙ ap (λ (q : ℕ). locations-in s n (p + 24) ++ (location-at s q ∷ [])) e)
-
 -- the bytes of the first n rows
-abbrev pub places-bytes : List ℕ → ℕ → ℕ → List ℕ
-places-bytes s p n = replies-bytes (place-each (locations-in s n p))
+abbrev pub places-bytes : List ℕ → ℕ → List ℕ
+places-bytes s n = replies-bytes (place-each (locations-in s n 0))
 
-pub no-places : (s : List ℕ) (p : ℕ) (out : List ℕ) (at : ℕ) → Written out at (places-bytes s p 0) out at
+pub no-places : (s out : List ℕ) (at : ℕ) → Written out at (places-bytes s 0) out at
 unfolding locations-in
-no-places s p out at = record { out = refl; next = omega arith }
+no-places s out at = record { out = refl; next = omega arith }
 
-pub place-more : (s : List ℕ) (p n : ℕ) → places-bytes s p n ++ reply-bytes (place (location-at s (p + n * 24))) ≡ places-bytes s p (n + 1)
-place-more s p n =
-    rw (add-one n)
-    (replies-snoc (place-each (locations-in s n p)) (place (location-at s (p + n * 24)))
-    ∙ ap replies-bytes (sym (place-snoc (locations-in s n p) (location-at s (p + n * 24))) ∙ ap place-each (sym (locations-snoc s n p))))
+pub place-more : (s : List ℕ) (n : ℕ) → places-bytes s n ++ reply-bytes (place (location-at s (n * 24))) ≡ places-bytes s (n + 1)
+place-more s n =
+    let e : 0 + n * 24 ≡ n * 24 = omega arith in
+    replies-snoc (place-each (locations-in s n 0)) (place (location-at s (n * 24)))
+    ∙ ap replies-bytes
+    (sym (place-snoc (locations-in s n 0) (location-at s (n * 24))) ∙ ap place-each (ap (λ (p : ℕ). locations-in s n 0 ++ (location-at s p ∷ [])) (sym e) ∙ sym (locations-snoc n s 0)))
 
-pub places-end : (s : List ℕ) (p i n : ℕ) → i ≡ n → places-bytes s p i ++ reply-bytes (end n) ≡ replies-bytes (found (locations-in s n p))
-places-end s p i n e =
-    ap (λ (k : ℕ). places-bytes s p k ++ reply-bytes (end n)) e
-    ∙ replies-snoc (place-each (locations-in s n p)) (end n)
-    ∙ ap (λ (k : ℕ). replies-bytes (place-each (locations-in s n p) ++ (end k ∷ []))) (sym (count-locs s n p))
+pub places-end : (s : List ℕ) (i n : ℕ) → i ≡ n → places-bytes s i ++ reply-bytes (end n) ≡ replies-bytes (found (locations-in s n 0))
+places-end s i n e =
+    ap (λ (k : ℕ). places-bytes s k ++ reply-bytes (end n)) e
+    ∙ replies-snoc (place-each (locations-in s n 0)) (end n)
+    ∙ ap (λ (k : ℕ). replies-bytes (place-each (locations-in s n 0) ++ (end k ∷ []))) (sym (length-locations n s 0))

@@ -1,4 +1,5 @@
 // Rows as records: where a query stands, from which tick on and until which. They are handed over in a lent slice.
+use definitions::LOCATION_SIZE;
 ghost use mathlib.Core.Path.{_≡_};
 ghost use Prim.Native.Nat.{_+_, _*_, _≤_};
 ghost use mathlib.Core.List.{_++_};
@@ -19,10 +20,11 @@ fn row_at(s: &[u8], p: usize) -> Row
     requires { ⌜ p + 24 ≤ length (now s) ⌝ }
     ensures { λ r. ⌜ r ≡ row-of (location-at (now (s .entry)) p) ⌝ }
 {
+    let l = location::location_at(s, p);
     Row {
-        address: words::get64(s, p),
-        created_at: words::get64(s, p + 8),
-        destroyed_at: words::get64(s, p + 16),
+        address: l.address.0,
+        created_at: l.created_at.0,
+        destroyed_at: l.destroyed_at.0,
     }
 }
 
@@ -33,7 +35,7 @@ pub fn put_rows(rows: &mut [Row], from: &[u8], n: usize)
 {
     let mut i = 0;
     while i < n {
-        rows[i] = row_at(from, i * 24);
+        rows[i] = row_at(from, i * LOCATION_SIZE);
         i = i + 1;
     }
 }

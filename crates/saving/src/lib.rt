@@ -33,7 +33,7 @@ pub fn save_finished(mem: &[u8], h: Header, out: &mut [u8]) -> Saved
     if out.len() < n {
         return Saved::Refused(definitions::SAVE_BUFFER_TOO_SHORT);
     }
-    words::copy(s, 0, out, 0, n);
+    copying::copy(s, 0, out, 0, n);
     Saved::Bytes(n)
 }
 
@@ -50,8 +50,8 @@ fn load_right(mem: &mut [u8], h: Header, t: Counts, s: &[u8]) -> Outcome
         return Outcome::Refused(definitions::TOO_MANY_ENTRIES);
     }
     let payload = s.len();
-    words::copy(s, 0, mem, HEADER_SIZE, payload);
-    let closed = memory_header::closed(h, t.nodes, t.entries, payload);
+    copying::copy(s, 0, mem, HEADER_SIZE, payload);
+    let closed = header_tally::closed(h, t.nodes, t.entries, payload);
     finished_memory::put_finished(mem, closed);
     Outcome::Done
 }

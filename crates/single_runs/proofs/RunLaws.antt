@@ -197,7 +197,7 @@ none-say s table lists count r k e d f t = e ∙ ap all-ended (k .are d f t)
 
 -- ── a run ──
 
-and-true : (b : Bool) → (b && true) ≡ b
+pub and-true : (b : Bool) → (b && true) ≡ b
 and-true true = refl
 and-true false = refl
 

@@ -26,7 +26,7 @@ use Rattle.single_runs.specs.Says.{children-right}
 use Rattle.single_runs.specs.Runs.{BareSingle, Further, RunSays}
 use Rattle.single_runs.specs.Singles.{SingleWithSuffix, SingleTo, SingleIn, SinglesAt, SinglesTo, SinglesSay}
 use Rattle.fronts.proofs.Fronts.{kept-none}
-use Rattle.single_runs.proofs.RunLaws.{bare-parts, bare-place, bare-room, no-locations, not-so, one-location, only, only-is, only-leads, only-parts}
+use Rattle.single_runs.proofs.RunLaws.{and-true, bare-parts, bare-place, bare-room, no-locations, not-so, one-location, only, only-is, only-leads, only-parts}
 use Rattle.image_walk.specs.declared.Node.{Node as Parts}
 
 -- ── one node ──
@@ -78,10 +78,6 @@ union-one l =
     let z : l .address ≡ l .address - 0 = omega arith in
     let e : l ≡ moved-back l 0 = location-path z refl refl in
     rw (le-leb 0 (l .address) (omega arith), true-same l (moved-back l 0) e) refl
-
-and-true : (b : Bool) → (b && true) ≡ b
-and-true true = refl
-and-true false = refl
 
 -- a node whose only child has its suffix and no chunk is right
 one-level : (depth b : ℕ) (h : Lists) (c : ℕ) (k : Lists) (m : Forest) (l : Location) → [] ≡ h .prefixes → [] ≡ h .chunks → l ∷ [] ≡ h .suffixes → [] ≡ k .chunks → l ∷ [] ≡ k .suffixes →

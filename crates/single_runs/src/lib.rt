@@ -1,4 +1,5 @@
 // Runs of nodes with one child, stepped over at once.
+use definitions::LOCATION_SIZE;
 use image_walk::Node;
 use image_walk::Slot;
 ghost use mathlib.Core.Path.{_≡_};
@@ -52,7 +53,7 @@ fn bare_single_table(s: &[u8], at: usize) -> usize
     if n == 0 {
         return single_table(s, at + 25);
     }
-    single_table(s, at + 25 + 24 * n)
+    single_table(s, at + 25 + LOCATION_SIZE * n)
 }
 
 // No byte.

@@ -14,6 +14,7 @@ use Rattle.definitions.specs.Blocks.{Piece}
 use Rattle.trie.specs.Trie.{root}
 use Rattle.trie.specs.Build.{entered-all, trie-of}
 use Rattle.trie.proofs.BuildEntered.{as-piece, EnteredBy, entered-mem}
+use Rattle.trie.proofs.BuildOrder.{mem-drop}
 use Rattle.tails.specs.Tails.{Tail, numbered, tail-record, tail-records}
 use Rattle.tails.specs.Groups.{group-node}
 use Rattle.tails.specs.Runs.{SoundPath}
@@ -25,11 +26,6 @@ use Rattle.tails.proofs.Grouped.{SoundEntries, grouped}
 -- every piece has at most 16 bytes
 abbrev pub SoundPieces : List Piece → Type 0
 SoundPieces ps = (p : Piece) → Mem p ps → SoundPath (p .bytes)
-
-mem-drop : {b : ℕ} (i : ℕ) (bs : List ℕ) → Mem b (drop i bs) → Mem b bs
-mem-drop zero bs h = h
-mem-drop (suc i) [] h = absurd (not-nil h)
-mem-drop (suc i) (c ∷ bs) h = later (mem-drop i bs h)
 
 sound-drop : (i : ℕ) (bs : List ℕ) → SoundPath bs → SoundPath (drop i bs)
 sound-drop i bs s = record { short = omega (arith, s .short, length-drop i bs); bytes = λ b m. s .bytes b (mem-drop i bs m) }

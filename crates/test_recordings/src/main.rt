@@ -14,12 +14,6 @@ ghost use Rattle.string_index.specs.Search.{search-memory};
 ghost use Rattle.test_recordings.specs.Counting.{counting-up};
 ghost use Rattle.test_recordings.specs.Handed.{handed};
 
-fn wide(x: u8) -> u64
-    ensures { λ r. ⌜ r ≡ x ⌝ }
-{
-    x as u64
-}
-
 fn print_number(n: u64) {
     io::write_all(STDOUT_FILENO, b" ");
     io::print_decimal(STDOUT_FILENO, n);
@@ -75,9 +69,10 @@ fn print_first(scratch: &[u8], n: usize)
 {
     if 0 < n {
         io::write_all(STDOUT_FILENO, b" the first at");
-        print_number(words::get64(scratch, 0));
-        print_number(words::get64(scratch, 8));
-        print_number(words::get64(scratch, 16));
+        let l = location::location_at(scratch, 0);
+        print_number(l.address.0);
+        print_number(l.created_at.0);
+        print_number(l.destroyed_at.0);
     }
     io::write_all(STDOUT_FILENO, b"\n");
 }
@@ -106,7 +101,7 @@ fn save(mem: &[u8], at: usize) {
             io::write_all(STDOUT_FILENO, b"  image of");
             print_number(n as u64);
             io::write_all(STDOUT_FILENO, b" of kind");
-            print_number(wide(out[0]));
+            print_number(words::wide(out[0]));
             if at < 39992 {
                 io::write_all(STDOUT_FILENO, b" with");
                 print_number(words::get64(&out, at));

@@ -1,5 +1,5 @@
 -- The trie that a log of pieces makes has at most the nodes and entries that the pieces are charged for. Assumes nothing.
-use Prim.Native.Nat.{ℕ, zero, suc, _+_, _*_, _≤_, Ordering, Ordering·lt, Ordering·eq, Ordering·gt}
+use Prim.Native.Nat.{ℕ, zero, suc, _+_, _*_, _≤_}
 use native.Mathlib.Nat.{suc-mul, mul-suc}
 use native.Mathlib.Omega.{arith}
 use mathlib.Core.Path.{_≡_, refl, subst}
@@ -7,8 +7,9 @@ use mathlib.Core.Bool.{Bool, true, false, cond}
 use mathlib.Core.List.{List, [], _∷_, _++_, List·Memᴰ as Mem, List·Memᴰ·head as here, List·Memᴰ·tail as later, List·Memᴰ·not-nil as not-nil}
 use lib.ListN.{length, length-append}
 use lib.Dec.{eqb}
-use Rattle.definitions.specs.Location.{Location, moved, order, placed, insert, normal}
+use Rattle.definitions.specs.Location.{Location, moved, normal}
 use Rattle.definitions.specs.Blocks.{Piece, node-charge, entry-charge, charge}
+use Rattle.definitions.proofs.Order.{length-normal}
 use Rattle.definitions.proofs.Views.{Eq, eq}
 use Rattle.trie.specs.Trie.{Node, root, entries-of, forest-nodes, forest-entries, nodes, entries}
 use Rattle.trie.specs.Build.{Entry, parts, entered, entered-all, in-prefixes, in-chunks, in-suffixes, gather, lists-of, behind-byte, behind, grow, build, trie-of}
@@ -126,19 +127,6 @@ places-split [] true = omega arith
 places-split [] false = omega arith
 places-split (b ∷ u) true = omega arith
 places-split (b ∷ u) false = omega arith
-
-length-insert : (l : Location) (ms : List Location) → length (insert l ms) ≤ suc (length ms)
-length-insert l [] = omega arith
-length-insert l (m ∷ ms) = go (order l m) (length-insert l ms)
-  where
-    go : (o : Ordering) → length (insert l ms) ≤ suc (length ms) → length (placed o l m ms (insert l ms)) ≤ suc (suc (length ms))
-    go Ordering·lt ih = omega arith
-    go Ordering·eq ih = omega arith
-    go Ordering·gt ih = omega arith
-
-length-normal : (ls : List Location) → length (normal ls) ≤ length ls
-length-normal [] = omega arith
-length-normal (l ∷ ls) = omega (arith, length-insert l (normal ls), length-normal ls)
 
 lists-one : (u : List ℕ) (w : Bool) (l : Location) → length (in-prefixes u w l) + length (in-chunks u w l) + length (in-suffixes u w l) ≤ place-here u w
 lists-one [] true l = omega arith

@@ -68,7 +68,7 @@ kept-build (suc d) es h = (subst KeptHere (sym (siblings-grow (build d) (onward 
 abbrev pub BytesOf : List Piece → Type 0
 BytesOf ps = (p : Piece) → Mem p ps → (b : ℕ) → Mem b (p .bytes) → b < 256
 
-mem-drop : {b : ℕ} (i : ℕ) (bs : List ℕ) → Mem b (drop i bs) → Mem b bs
+pub mem-drop : {b : ℕ} (i : ℕ) (bs : List ℕ) → Mem b (drop i bs) → Mem b bs
 mem-drop zero bs h = h
 mem-drop (suc i) [] h = absurd (not-nil h)
 mem-drop (suc i) (c ∷ bs) h = behind-first (mem-drop i bs h)

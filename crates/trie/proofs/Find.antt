@@ -14,12 +14,10 @@ use Rattle.definitions.proofs.Tails.{Tail, tails-mem, mem-tails, tail-at}
 use Rattle.trie.specs.Trie.{Lists, Node, Trie, empty, root, node-at, IsNode, lists-at, collect, trie-pieces}
 use Rattle.trie.specs.Rule.{Has, OwedPrefix, OwedSuffix, NodeRule, Rule}
 use Rattle.trie.specs.Find.{along, chunks-at, suffixes-and-chunks, ends-found, prefixes-and-chunks, collect-or-none, collected-at, places-found, table-found}
+use Rattle.trie.proofs.BuildEntered.{as-piece}
 use Rattle.trie.proofs.Pieces.{pieces-has}
 use Rattle.trie.proofs.Collect.{InPiece, collect-in-pieces, in-piece-node}
 use Rattle.trie.proofs.Along.{Ended, Beyond, along-is}
-
-abbrev as-piece : List ℕ → Location → Piece
-as-piece path l = record { bytes = path; at = l }
 
 stays : (l : Location) → moved l 0 ≡ l
 stays l = location-path (omega arith) refl refl

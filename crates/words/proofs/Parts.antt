@@ -1,5 +1,5 @@
 -- The laws of `sets`, which writes a list over a part of another, and of `bytesN`, the bytes of a number.
-use Prim.Native.Nat.{ℕ, zero, suc, _+_, _-_, _*_, _/_, _%_, _^_, _≤_, _<_}
+use Prim.Native.Nat.{ℕ, zero, suc, _+_, _-_, _*_, _/_, _%_, _≤_, _<_}
 use native.Mathlib.Nat.{not-suc-le-zero, add-zero}
 use native.Mathlib.Numerals.{add-one}
 use native.Mathlib.Decide.{decLt}
@@ -7,7 +7,7 @@ use native.Mathlib.Omega.{arith}
 use mathlib.Core.Path.{_≡_, refl, sym, ap, _∙_}
 use mathlib.Core.Logic.{_⊎_, inl, inr}
 use mathlib.Core.List.{List, [], _∷_, _++_, append-assoc}
-use lib.ListN.{length, getD, set, take, drop, replicate, length-set, length-take, length-drop}
+use lib.ListN.{length, getD, set, take, drop, length-set, length-take, length-drop}
 use lib.Seq.{sets, length-sets, sets-eq, getD-set-same, getD-set-other, getD-take, getD-drop, drop-cons, drop-at, take-append-seam, ext-getD}
 use Rattle.words.specs.Words.{leN, setN, bytesN, le64, setLe64, bytes64}
 use Rattle.words.proofs.Laws.{top, Outside, le64-ext}
@@ -86,35 +86,6 @@ sets-same n xs at h = ext-getD 0 _ _ (length-sets xs at part) (λ k l. go k (lt-
     go k (inr a) (inl b) =
         let e : k ≡ at + (k - at) = omega arith in
         rw e (getD-sets part xs at (k - at) (omega (arith, long)) (omega (arith, long)) ∙ getD-part n xs at (k - at) (omega arith))
-
--- ---- the loops of `copy` and `clear`: what is still to be written
-pub copy-start : (from to : List ℕ) (a b n : ℕ) → sets to (b + 0) (take (n - 0) (drop (a + 0) from)) ≡ sets to b (take n (drop a from))
-copy-start from to a b n =
-    let e : n - 0 ≡ n = omega arith in
-    rw (e, add-zero a, add-zero b)
-
-pub copy-done : (from to : List ℕ) (a b n k : ℕ) → n ≤ k → sets to (b + k) (take (n - k) (drop (a + k) from)) ≡ to
-copy-done from to a b n k h =
-    let e : n - k ≡ 0 = omega arith in
-    rw e
-
-pub clear-done : (s : List ℕ) (e k : ℕ) → e ≤ k → sets s k (replicate (e - k) 0) ≡ s
-clear-done s e k h =
-    let q : e - k ≡ 0 = omega arith in
-    rw q
-
-pub copy-turn : (from to : List ℕ) (a b n k : ℕ) → k < n → a + n ≤ length from
-    → sets to (b + k) (take (n - k) (drop (a + k) from)) ≡ sets (set to (b + k) (getD from (a + k) 0)) (b + (k + 1)) (take (n - (k + 1)) (drop (a + (k + 1)) from))
-copy-turn from to a b n k l h =
-    let e : n - k ≡ suc (n - (k + 1)) = omega arith in
-    let f : a + (k + 1) ≡ suc (a + k) = omega arith in
-    let g : b + (k + 1) ≡ suc (b + k) = omega arith in
-    rw (e, f, g, drop-cons from (a + k) 0 (omega arith))
-
-pub clear-turn : (s : List ℕ) (e k : ℕ) → k < e → sets s k (replicate (e - k) 0) ≡ sets (set s k 0) (k + 1) (replicate (e - (k + 1)) 0)
-clear-turn s e k l =
-    let q : e - k ≡ suc (e - (k + 1)) = omega arith in
-    rw (q, add-one k)
 
 -- ---- the bytes of a number
 pub length-bytesN : (n v : ℕ) → length (bytesN n v) ≡ n

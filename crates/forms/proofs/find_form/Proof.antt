@@ -4,7 +4,7 @@ use lib.ListN.{drop}
 use denote.Ref.{now}
 use borrow.Author.Needs.{needs}
 use Rattle.forms.proofs.Ways.{find-bad, find-good}
-use Rattle.numerals.specs.Numerals.{last-bytes}
+use Rattle.hex_pairs.specs.HexBytes.{last-bytes}
 use Rattle.forms.proofs.find_form.Statement.{statement}
 use Rattle.forms.proofs.find_form.Tie as tie
 

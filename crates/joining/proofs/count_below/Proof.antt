@@ -3,7 +3,7 @@ use Prim.Native.Nat.{_+_, _≤_}
 use native.Mathlib.Omega.{arith}
 use mathlib.Core.Path.{refl}
 use Rattle.definitions.specs.Location.{locations-in}
-use Rattle.place_buffer.proofs.Scratch.{length-locations}
+use Rattle.definitions.proofs.Locations.{length-locations}
 use Rattle.joining.specs.Below.{below-count}
 use Rattle.joining.proofs.Search.{below-le, halve}
 use Rattle.joining.proofs.count_below.Statement.{statement}

@@ -13,10 +13,9 @@ returns c =
     let put = c .before .before in
     let made = put .before .before in
     let last = made .before in
-    let middle = last .before .before in
-    let first = middle .before .before in
+    let first = last .before .before in
     let a = first .before .before .before .args in
-    let row = made .new .ensures ∙ location-path (first .get64 .ensures) (middle .get642 .ensures) (last .get643 .ensures) in
+    let row = made .new .ensures ∙ location-path (ap (λ (l : Location). l .address) (first .location-at .ensures)) (ap (λ (l : Location). l .created) (first .location-at .ensures)) (ap (λ (l : Location). l .destroyed) (last .location-at2 .ensures)) in
     put .put-location .ensures ∙ ap (λ (l : Location). sets (now (a .scratch)) (a .w) (location-bytes l)) row
 
 pub put-row-spec : {M : Type 1} → statement M
@@ -24,9 +23,6 @@ put-row-spec =
     tie.close
     (tie.spec
     (λ c κs. search needs)
-    (λ c. search needs)
-    (λ c κs. search needs)
-    (λ c. search needs)
     (λ c κs. search needs)
     (λ c κs. search needs)
     (λ c κs. search needs)

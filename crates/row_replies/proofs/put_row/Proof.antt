@@ -9,21 +9,9 @@ use Rattle.row_replies.proofs.put_row.Statement.{statement}
 use Rattle.row_replies.proofs.put_row.Tie as tie
 
 returns : tie.Need-returns
-returns c =
-    let a = c .before .before .before .get643 .ensures in
-    let b = c .before .before .before .before .get642 .ensures in
-    let d = c .before .before .before .before .before .get64 .ensures in
-    written-same (ap (λ (l : Location). reply-bytes (place l)) (λ i. record { address = d i; created = b i; destroyed = a i })) (c .before .before .put-place .ensures)
+returns c = written-same (ap (λ (l : Location). reply-bytes (place l)) (c .before .before .before .before .location-at .ensures)) (c .before .before .put-place .ensures)
 
 pub put-row-spec : {M : Type 1} → statement M
 put-row-spec =
     tie.close
-    (tie.spec
-    (λ c κs. search needs)
-    (λ c. search needs)
-    (λ c κs. search needs)
-    (λ c. search needs)
-    (λ c κs. search needs)
-    (λ c κs. search needs)
-    (λ c. search needs)
-    returns)
+    (tie.spec (λ c κs. search needs) (λ c κs. search needs) (λ c. search needs) returns)

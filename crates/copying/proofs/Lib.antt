@@ -1,0 +1,2 @@
+-- `Steps` has the laws of the two loops. Assumes nothing.
+pub mod Steps

@@ -1,0 +1,2 @@
+-- `Tallies` has the tally of a header. Assumes nothing.
+pub mod Tallies
