@@ -1,17 +1,13 @@
 -- What a caller goes by: that a node stands at an index, from the root on and with more levels allowed than there are, and what the set then holds.
 -- Assumes nothing.
-use Prim.Native.Nat.{ℕ, zero, suc, _-_, _≤_}
+use Prim.Native.Nat.{ℕ, zero, suc, _≤_}
 use native.Mathlib.Omega.{arith}
-use mathlib.Core.Path.{_≡_}
 use mathlib.Core.List.{List, _++_}
-use mathlib.Core.Option.{Option, some}
-use lib.ListN.{length}
+use mathlib.Core.Option.{Option}
 use Rattle.definitions.specs.Location.{Location}
-use Rattle.trie.specs.Trie.{Forest, leaf, more, Node, node-at, collect}
+use Rattle.trie.specs.Trie.{Forest, leaf, more, Node, collect}
 use Rattle.image_format.specs.Savable.{Short}
-use Rattle.image_walk.specs.Tables.{walk-in}
 use Rattle.image_walk.specs.Here.{NodeHere, Laid, FoundAt, RootHere}
-use Rattle.image_walk.proofs.Here.{here-walk, found-some}
 use Rattle.place_buffer.specs.declared.Places.{Places}
 use Rattle.place_buffer.specs.Holding.{Holding}
 use Rattle.place_buffer.proofs.Holding.{holding-taken}
@@ -51,12 +47,6 @@ standing-laid {d = d} h = record { depth = d; node = h .node; here = h .here }
 
 pub standing-found : {img : List ℕ} {d at : ℕ} {o : Option Node} → FoundAt img d at o → Standing img d at
 standing-found f = record { node = f .node; here = f .here }
-
--- what a walk from the root finds stands there, with at most 16 levels below it
-pub root-walk : {img : List ℕ} {at : ℕ} (h : RootHere img) (path : List ℕ) → walk-in img path 0 ≡ some at → FoundAt img 16 at (node-at (h .node) path)
-root-walk {img} {at} h path e =
-    let f = found-some img (16 - length path) (walk-in img path 0) (node-at (h .node) path) at (here-walk 16 0 (h .node) (h .here) path) e in
-    record { node = f .node; there = f .there; here = here-more {d = 16 - length path} (omega arith) (f .here) }
 
 -- ── what the set then holds ──
 

@@ -44,14 +44,14 @@ fn find_places(
     let mut n = image_walk::node_at(img, 0);
     let mut j = i;
     while j + 1 < q.len() {
-        let Child::At(at) = image_walk::child_in(img, n.table, n.children, q[j]) else {
+        let Child::At(at) = image_walk::child_of(img, n, q[j]) else {
             return r;
         };
         n = image_walk::node_at(img, at);
         j += 1;
         r = node_joining::join_behind(img, q, i, j, n, last, ends, scratch, r);
     }
-    let Child::At(end) = image_walk::child_in(img, n.table, n.children, q[j]) else {
+    let Child::At(end) = image_walk::child_of(img, n, q[j]) else {
         return r;
     };
     find_beyond(img, end, i == 0, scratch, r)

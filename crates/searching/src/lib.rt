@@ -20,7 +20,8 @@ fn last_node(img: &[u8], q: &[u8]) -> Node
     ensures { λ r. ⌜ Ending (now (img .entry)) (last-of (now (q .entry))) r ⌝ }
 {
     let i = q.len() - 1;
-    let Child::At(at) = image_walk::search_raw_str(img, &q[i..]) else {
+    let root = image_walk::node_at(img, 0);
+    let Child::At(at) = image_walk::child_of(img, root, q[i]) else {
         return Node {
             prefixes: 0,
             prefix_count: 0,
@@ -123,7 +124,7 @@ pub fn search_image(img: &[u8], q: &[u8], scratch: &mut [u8], room: usize) -> Fi
     if q.len() == 0 {
         return row_buffer::no_rows(0);
     }
-    if img[0] == 0 {
+    if image_walk::is_empty(img) {
         return row_buffer::no_rows(0);
     }
     let mut ends = [0usize; 257];
