@@ -1,6 +1,7 @@
 // The places of one end of a query.
 use image_walk::Child;
 use image_walk::Node;
+use node_joining::Step;
 use place_buffer::Places;
 ghost use mathlib.Core.Bool.{true};
 ghost use Prim.Native.Nat.{_+_, _<_};
@@ -49,7 +50,8 @@ fn find_places(
         };
         n = image_walk::node_at(img, at);
         j += 1;
-        r = node_joining::join_behind(img, q, i, j, n, last, ends, scratch, r);
+        let step = Step { i, j, n, last };
+        r = node_joining::join_behind(img, q, step, ends, scratch, r);
     }
     let Child::At(end) = image_walk::child_of(img, n, q[j]) else {
         return r;
