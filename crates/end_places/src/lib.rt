@@ -1,6 +1,7 @@
 // The places of one end of a query.
 use image_walk::Child;
 use image_walk::Node;
+use node_joining::Step;
 use place_buffer::Places;
 ghost use mathlib.Core.Bool.{true};
 ghost use Prim.Native.Nat.{_+_, _<_};
@@ -44,14 +45,15 @@ fn find_places(
     let mut n = image_walk::node_at(img, 0);
     let mut j = i;
     while j + 1 < q.len() {
-        let Child::At(at) = image_walk::child_in(img, n.table, n.children, q[j]) else {
+        let Child::At(at) = image_walk::child_of(img, n, q[j]) else {
             return r;
         };
         n = image_walk::node_at(img, at);
         j += 1;
-        r = node_joining::join_behind(img, q, i, j, n, last, ends, scratch, r);
+        let step = Step { i, j, n, last };
+        r = node_joining::join_behind(img, q, step, ends, scratch, r);
     }
-    let Child::At(end) = image_walk::child_in(img, n.table, n.children, q[j]) else {
+    let Child::At(end) = image_walk::child_of(img, n, q[j]) else {
         return r;
     };
     find_beyond(img, end, i == 0, scratch, r)

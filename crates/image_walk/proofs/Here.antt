@@ -1,5 +1,5 @@
--- From a node in place to the trie: its lists, its table's entries, the child for a byte, and the walk along a path. Assumes nothing.
-use Prim.Native.Nat.{ℕ, zero, suc, _+_, _-_, _^_, _<_}
+-- From a node in place to the trie: its lists, its table's entries, and the child for a byte. Assumes nothing.
+use Prim.Native.Nat.{ℕ, suc, _+_, _^_, _<_}
 use native.Mathlib.Omega.{arith}
 use mathlib.Core.Path.{_≡_, refl, ap, subst}
 use mathlib.Core.Bool.{Bool, true, false, cond}
@@ -9,19 +9,17 @@ use lib.ListN.{length}
 use lib.Dec.{eqb}
 use Rattle.words.specs.Words.{le64}
 use Rattle.trie.specs.Rule.{Apart}
-use Rattle.trie.specs.Trie.{Forest, leaf, more, Lists, Node, child, node-at, walk}
-use Rattle.trie.proofs.Walk as trie
+use Rattle.trie.specs.Trie.{Forest, leaf, more, Lists, Node, child}
 use Rattle.image_format.proofs.Spots.{Spots}
 use Rattle.image_format.specs.Held.{Entry, lists-in, table-entries}
 use Rattle.definitions.specs.Location.{locations-in}
 use Rattle.image_format.specs.Savable.{AllFit, AllKept, InBytes, Short}
 use Rattle.image_walk.specs.Parts.{prefix-list, chunk-list, suffix-list, table-at, children-at}
-use Rattle.image_walk.specs.Tables.{slots-from, child-at, node-for, walk-from, walk-in}
+use Rattle.image_walk.specs.Tables.{slots-from, node-for}
 use Rattle.image_walk.specs.Bounds.{Bounds}
 use Rattle.image_walk.specs.Here.{NodeHere, Matches, Found, FoundAt}
 use Rattle.image_walk.proofs.Entries.{slots-here}
 use Rattle.image_walk.proofs.Facts.{facts}
-use Rattle.image_walk.proofs.Walk.{walk-none}
 
 -- ── entries ──
 
@@ -103,13 +101,8 @@ matches-child s d (e ∷ es) (more c x below later) b m = rw (m .0) (go (eqb c b
     go true ih = m .1
     go false ih = ih
 
-pub here-child : {s : List ℕ} {d at : ℕ} {n : Node} → NodeHere s (suc d) at n → (b : ℕ) → Found s d (child-at s at b) (child (n .children) b)
-unfolding child-at
+pub here-child : {s : List ℕ} {d at : ℕ} {n : Node} → NodeHere s (suc d) at n → (b : ℕ) → Found s d (node-for (table-entries s at) b) (child (n .children) b)
 here-child {s} {d} {at} {n} h b = matches-child s d (table-entries s at) (n .children) b (here-entries h)
-
-pub no-child : {s : List ℕ} {at : ℕ} {n : Node} → NodeHere s 0 at n → (b : ℕ) → (child-at s at b ≡ none) × (child (n .children) b ≡ none)
-unfolding child-at node-for
-no-child h b = let e = here-leaf h in (rw (e .1) refl, rw (e .0) refl)
 
 -- ── what was found ──
 
@@ -126,24 +119,3 @@ pub found-none : (s : List ℕ) (d : ℕ) (x : Option ℕ) (o : Option Node) →
 found-none s d none none f e = refl
 found-none s d none (some m) f e = absurd f
 found-none s d (some q) o f e = absurd (let z : _≡_ {A = ℕ} 0 1 = cc in omega arith)
-
--- ── the walk ──
-
-found-at : (s : List ℕ) (d e : ℕ) (o : Option ℕ) (p : Option Node) → d ≡ e → Found s d o p → Found s e o p
-found-at s d e o p q h = subst (λ (k : ℕ). Found s k o p) q h
-
-pub here-walk : {s : List ℕ} (d at : ℕ) (n : Node) → NodeHere s d at n → (path : List ℕ) → Found s (d - length path) (walk-in s path at) (node-at n path)
-here-walk {s} d at n h [] = found-at s d (d - 0) (some at) (some n) (omega arith) h
-here-walk {s} zero at n h (b ∷ path) =
-    let e = no-child h b in
-    rw (e .0, e .1, walk-none s path, trie.walk-none path) tt
-here-walk {s} (suc d) at n h (b ∷ path) =
-    found-at s (d - length path) (suc d - suc (length path)) (walk-in s (b ∷ path) at) (node-at n (b ∷ path)) (omega arith)
-    (go (child-at s at b) (child (n .children) b) (here-child h b) (λ q m k. here-walk d q m k path))
-  where
-    go : (o : Option ℕ) (p : Option Node) → Found s d o p → ((q : ℕ) (m : Node) → NodeHere s d q m → Found s (d - length path) (walk-in s path q) (node-at m path)) →
-        Found s (d - length path) (walk-from s path o) (walk path p)
-    go none none f ih = rw (walk-none s path, trie.walk-none path) tt
-    go none (some m) f ih = absurd f
-    go (some q) none f ih = absurd f
-    go (some q) (some m) f ih = ih q m f

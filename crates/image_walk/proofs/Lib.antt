@@ -1,10 +1,8 @@
 -- laws on the definitions alone
 pub mod Entries
-pub mod Walk
 -- from the bytes of a node to the trie
 pub mod Facts
 pub mod Here
-pub mod Laid
 pub mod Root
 -- for the code
 pub mod Parts

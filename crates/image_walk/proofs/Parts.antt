@@ -10,7 +10,8 @@ use Rattle.words.specs.Words.{le64}
 use Rattle.image_walk.specs.Parts.{prefix-list, chunk-list, suffix-list, behind-lists, table-at, children-at, parts-at}
 use Rattle.image_walk.specs.Here.{Laid}
 use Rattle.image_walk.specs.declared.Node.{Node}
-use Rattle.image_walk.proofs.Laid.{laid-bounds}
+use Rattle.image_walk.specs.Bounds.{Bounds}
+use Rattle.image_walk.proofs.Here.{here-bounds}
 
 -- p, c and u locations in the three lists, and where each ends
 record Counted (s : List ℕ) (at p c u : ℕ) : Type 0 where
@@ -42,6 +43,9 @@ module _ (s : List ℕ) (at p : ℕ) (e : p ≡ le64 s (prefix-list at)) where
         record { prefixes = e; to-chunks = past-prefixes; chunks = chunks-read; to-suffixes = past-chunks; suffixes = h; to-table = rw (h, past-chunks) refl }
 
 -- ── there is room for what comes next ──
+
+laid-bounds : (s : List ℕ) (at : ℕ) → Laid s at → Bounds s at
+laid-bounds s at h = here-bounds (h .here)
 
 pub room-first : (s : List ℕ) (at : ℕ) → Laid s at → at + 1 + 8 ≤ length s
 room-first s at h = let b = laid-bounds s at h in omega arith

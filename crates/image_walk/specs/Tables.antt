@@ -1,4 +1,4 @@
--- The table of a node in place: its entries by number, the child for a byte, and the walk from child to child. Assumes nothing.
+-- The table of a node in place: its entries by number, and the child for a byte. Assumes nothing.
 use Prim.Native.Nat.{ℕ, zero, suc, _+_, _*_}
 use mathlib.Core.Bool.{cond}
 use mathlib.Core.List.{List, [], _∷_}
@@ -6,7 +6,7 @@ use mathlib.Core.Option.{Option, none, some}
 use lib.ListN.{getD}
 use lib.Dec.{eqb}
 use Rattle.words.specs.Words.{le64}
-use Rattle.image_format.specs.Held.{Entry, sparse-entries, dense-entries, table-entries}
+use Rattle.image_format.specs.Held.{Entry, sparse-entries, dense-entries}
 
 -- ── the entries of a table ──
 
@@ -42,21 +42,3 @@ entries-at s table children = cond (eqb children 256) (dense-entries s table 256
 unfoldable pub node-for : List Entry → ℕ → Option ℕ
 node-for [] b = none
 node-for (e ∷ es) b = cond (eqb (e .byte) b) (some (e .node)) (node-for es b)
-
--- where the child of the node at an index stands, for a byte
-unfoldable pub child-at : List ℕ → ℕ → ℕ → Option ℕ
-child-at s at b = node-for (table-entries s at) b
-
--- the same from a node that may be missing
-abbrev pub child-from : List ℕ → Option ℕ → ℕ → Option ℕ
-child-from s none b = none
-child-from s (some at) b = child-at s at b
-
--- goes to the child for the next byte, or else ends with none
-abbrev pub walk-from : List ℕ → List ℕ → Option ℕ → Option ℕ
-walk-from s [] o = o
-walk-from s (b ∷ path) o = walk-from s path (child-from s o b)
-
--- where the node at the end of a path stands, from the node at an index
-abbrev pub walk-in : List ℕ → List ℕ → ℕ → Option ℕ
-walk-in s path at = walk-from s path (some at)

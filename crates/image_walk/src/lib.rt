@@ -1,4 +1,5 @@
 // Nodes of an image, found in place by their index.
+use definitions::LOCATION_SIZE;
 ghost use mathlib.Core.Path.{_≡_};
 ghost use mathlib.Core.Bool.{cond};
 ghost use Prim.Native.Nat.{ℕ, _+_, _*_, _^_, _≤_, _<_};
@@ -7,7 +8,7 @@ ghost use lib.Dec.{eqb};
 ghost use Rattle.words.specs.Words.{le64};
 ghost use Rattle.image_format.specs.Held.{sparse-entries};
 ghost use Rattle.image_walk.specs.Parts.{parts-at};
-ghost use Rattle.image_walk.specs.Tables.{dense-slot, slot-in, entries-at, node-for, child-at, walk-in};
+ghost use Rattle.image_walk.specs.Tables.{dense-slot, slot-in, entries-at, node-for};
 ghost use Rattle.image_walk.specs.Bounds.{TableHere};
 ghost use Rattle.image_walk.specs.Here.{Laid};
 ghost use Rattle.image_walk.specs.Answers.{child-of-answer, entry-of-answer};
@@ -69,11 +70,11 @@ pub fn node_at(s: &[u8], at: usize) -> Node
     let kind = s[at];
     let a = at + 1;
     let prefix_count = size_at(s, a);
-    let b = a + 8 + 24 * prefix_count;
+    let b = a + 8 + LOCATION_SIZE * prefix_count;
     let chunk_count = size_at(s, b);
-    let c = b + 8 + 24 * chunk_count;
+    let c = b + 8 + LOCATION_SIZE * chunk_count;
     let suffix_count = size_at(s, c);
-    let t = c + 8 + 24 * suffix_count;
+    let t = c + 8 + LOCATION_SIZE * suffix_count;
     Node {
         prefixes: a + 8,
         prefix_count,
@@ -147,28 +148,18 @@ pub fn child_in(s: &[u8], table: usize, children: usize, byte: u8) -> Child
     sparse_child(s, table, children, byte)
 }
 
-// The child of the node at index at for a byte.
-pub fn child_of(s: &[u8], at: usize, byte: u8) -> Child
-    requires { ⌜ Laid (now s) at ⌝ }
-    ensures { λ r. ⌜ child-of-answer r ≡ child-at (now (s .entry)) at byte ⌝ }
+// The child of the node n for a byte.
+pub fn child_of(s: &[u8], n: Node, byte: u8) -> Child
+    requires { ⌜ TableHere (now s) (n .table) (n .children) ⌝ }
+    ensures { λ r. ⌜ child-of-answer r ≡ node-for (entries-at (now (s .entry)) (n .table) (n .children)) byte ⌝ }
 {
-    let n = node_at(s, at);
     child_in(s, n.table, n.children, byte)
 }
 
-// The node at the end of the path string, from the root; nothing where the path ends before.
-pub fn search_raw_str(s: &[u8], string: &[u8]) -> Child
-    requires { ⌜ Laid (now s) 0 ⌝ }
-    ensures { λ r. ⌜ child-of-answer r ≡ walk-in (now (s .entry)) (now (string .entry)) 0 ⌝ }
+// Whether it is the image of an empty index, which has a 0 in place of the root's kind.
+pub fn is_empty(s: &[u8]) -> bool
+    requires { ⌜ 0 < length (now s) ⌝ }
+    ensures { λ r. ⌜ r ≡ eqb (getD (now (s .entry)) 0 0) 0 ⌝ }
 {
-    let mut at = 0;
-    let mut i = 0;
-    while i < string.len() {
-        let Child::At(next) = child_of(s, at, string[i]) else {
-            return Child::Nothing;
-        };
-        at = next;
-        i += 1;
-    }
-    Child::At(at)
+    s[0] == 0
 }

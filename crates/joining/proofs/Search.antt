@@ -23,7 +23,7 @@ sorted-from l ls s m (here e) = omega (arith, ap (λ (x : Location). x .address)
 sorted-from l ls s m (later h) = s .0 m h .by-address
 
 module _ (key : ℕ) where
-  pub below-le : (ls : List Location) → below-count key ls ≤ length ls
+  below-le : (ls : List Location) → below-count key ls ≤ length ls
   unfolding below-count
   below-le [] = omega arith
   below-le (l ∷ ls) = go (ltb (l .address) key) (below-le ls)
@@ -82,9 +82,12 @@ locations-part s n at i h =
     let e : n ≡ i + (n - i) = omega arith in
     ap (λ (k : ℕ). locations-in s k at) e ∙ locations-append i (n - i) s at
 
+pub below-listed : (s : List ℕ) (n at key : ℕ) → below-count key (locations-in s n at) ≤ n
+below-listed s n at key = omega (arith, below-le key (locations-in s n at), length-locations n s at)
+
 pub parted : (s : List ℕ) (n at key i : ℕ) → Sorted Less (locations-in s n at) → i ≡ below-count key (locations-in s n at) → Parted s n at key i
 parted s n at key i up e =
-    let le : i ≤ n = omega (arith, below-le key (locations-in s n at), length-locations n s at) in
+    let le : i ≤ n = omega (arith, below-listed s n at key) in
     let w : locations-in s n at ≡ locations-in s i at ++ locations-in s (n - i) (at + i * 24) = locations-part s n at i le in
     let up′ : Sorted Less (locations-in s i at ++ locations-in s (n - i) (at + i * 24)) = subst (Sorted Less) w up in
     let count : below-count key (locations-in s i at ++ locations-in s (n - i) (at + i * 24)) ≡ length (locations-in s i at) = ap (below-count key) (sym w) ∙ sym e ∙ sym (length-locations i s at) in

@@ -1,2 +1,3 @@
--- `Below` has what the contracts of the search by address cite. Assumes nothing.
+-- `Lists` has the lists that the code hands over, `Below` what the contracts of the search by address cite. Assumes nothing.
+pub mod Lists
 pub mod Below

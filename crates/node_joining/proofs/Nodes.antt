@@ -8,47 +8,68 @@ use lib.ListN.{length, drop, getD}
 use Rattle.definitions.specs.Location.{Location, normal, locations-in}
 use Rattle.definitions.specs.Places.{first-of}
 use Rattle.definitions.proofs.Order.{mem-normal, normal-mem}
-use Rattle.trie.specs.Trie.{Lists, Node, lists-at}
+use Rattle.trie.specs.Trie.{Node, lists-at}
 use Rattle.trie.specs.Find.{joins-each, ends-found}
 use Rattle.image_walk.specs.declared.Node.{Node as Parts}
 use Rattle.place_buffer.specs.declared.Places.{Places}
 use Rattle.place_buffer.specs.Buffer.{Valid, Taken}
 use Rattle.place_buffer.proofs.Adding.{taken-none, taken-same, taken-more}
 use Rattle.place_buffer.proofs.Holding.{taken-elsewhere}
+use Rattle.joining.specs.declared.Span.{Span}
+use Rattle.joining.specs.Lists.{listed, spanned}
 use Rattle.joining.proofs.Each.{each-append, each-within, each-places, places-each}
-use Rattle.collecting.specs.Collected.{Collected, Ended}
+use Rattle.collecting.specs.Collected as collecting
 use Rattle.node_joining.specs.Found.{rooted, last-of, ended-lists, ending-lists}
-use Rattle.node_joining.specs.Layout.{lists-of, EndsNothing, Ending, Reached, LaidOut}
+use Rattle.node_joining.specs.declared.Ended.{Ended}
+use Rattle.node_joining.specs.Layout.{lists-of, Listed, ended-at, ended-in, EndedHere, EndsNothing, Ending, Reached, LaidOut}
 use Rattle.node_joining.proofs.Stages.{table-behind, table-last}
 
 -- ── what ends at a node ──
 
-module _ (h : Lists) (k : ℕ) (ms : List Location) {s s₁ : List ℕ} {p a : Places} where
-  -- inside a query only whole pieces
-  pub joined-inside : (front : Bool) → front ≡ false → Taken s s₁ p (joins-each k (h .chunks) ms) a → Taken s s₁ p (joins-each k (ended-lists front h) ms) a
-  joined-inside front f t = rw f t
-
-  -- at its front also those that began earlier
-  pub joined-front : (front : Bool) → front ≡ true → Taken s s₁ p (joins-each k (h .prefixes) ms) a → {s₂ : List ℕ} {r : Places} → Taken s₁ s₂ a (joins-each k (h .chunks) ms) r → Taken s s₂ p (joins-each k (ended-lists front h) ms) r
-  joined-front front f t {s₂} {r} u = rw f (subst (λ (ls : List Location). Taken s s₂ p ls r) (sym (each-append k (h .prefixes) (h .chunks) ms)) (taken-more t u))
-
--- nothing ends there
-pub joined-none : (img : List ℕ) (m : Parts) (k : ℕ) (ms : List Location) {s : List ℕ} {p : Places} (front : Bool) → EndsNothing front m → Valid s p → Taken s s p (joins-each k (ended-lists front (lists-of img m)) ms) p
+-- inside a query only whole pieces, at its front also those that began earlier
+ended-same : (img : List ℕ) (front : Bool) (m : Parts) → ended-in img (ended-at front m) ≡ ended-lists front (lists-of img m)
 unfolding locations-in
-joined-none img m k ms {s} {p} true e v =
-    let a : locations-in img (m .«prefix_count») (m .prefixes) ≡ [] = ap (λ (n : ℕ). locations-in img n (m .prefixes)) (e .prefixes refl) in
-    let b : locations-in img (m .«chunk_count») (m .chunks) ≡ [] = ap (λ (n : ℕ). locations-in img n (m .chunks)) (e .chunks) in
-    let none : ended-lists true (lists-of img m) ≡ [] = ap (λ (ls : List Location). ls ++ locations-in img (m .«chunk_count») (m .chunks)) a ∙ b in
-    subst (λ (ls : List Location). Taken s s p (joins-each k ls ms) p) (sym none) (taken-none v)
-joined-none img m k ms {s} {p} false e v =
-    let b : locations-in img (m .«chunk_count») (m .chunks) ≡ [] = ap (λ (n : ℕ). locations-in img n (m .chunks)) (e .chunks) in
-    subst (λ (ls : List Location). Taken s s p (joins-each k ls ms) p) (sym b) (taken-none v)
+ended-same img true m = refl
+ended-same img false m = refl
+
+listed-here : {img : List ℕ} (front : Bool) {m : Parts} → Listed img m → EndedHere img (ended-at front m)
+unfolding locations-in
+listed-here true l = record {
+  prefixes = record { within = l .prefixes; sorted = l .sorted .prefixes };
+  chunks = record { within = l .chunks; sorted = l .sorted .chunks };
+}
+listed-here false l = record {
+  prefixes = record { within = omega (arith, l .prefixes); sorted = tt };
+  chunks = record { within = l .chunks; sorted = l .sorted .chunks };
+}
+
+pub ended-here : {img : List ℕ} (front : Bool) {m : Parts} {e : Ended} → e ≡ ended-at front m → Listed img m → EndedHere img e
+ended-here {img} front ee l = subst (EndedHere img) (sym ee) (listed-here front l)
+
+module _ (img : List ℕ) (k : ℕ) (ms : List Location) {s : List ℕ} {p : Places} where
+  -- one list after the other
+  pub joined-ended : (e : Ended) {s₁ s₂ : List ℕ} {a r : Places} → Taken s s₁ p (joins-each k (listed img (e .prefixes)) ms) a → Taken s₁ s₂ a (joins-each k (listed img (e .chunks)) ms) r
+      → Taken s s₂ p (joins-each k (ended-in img e) ms) r
+  joined-ended e {s₂ = s₂} {r = r} t u = subst (λ (ls : List Location). Taken s s₂ p ls r) (sym (each-append k (listed img (e .prefixes)) (listed img (e .chunks)) ms)) (taken-more t u)
+
+  -- nothing ends there
+  pub joined-none : (e : Ended) → EndsNothing e → Valid s p → Taken s s p (joins-each k (ended-in img e) ms) p
+  unfolding locations-in
+  joined-none e z v =
+      let a : listed img (e .prefixes) ≡ [] = ap (λ (n : ℕ). locations-in img n (e .prefixes .at)) (z .prefixes) in
+      let b : listed img (e .chunks) ≡ [] = ap (λ (n : ℕ). locations-in img n (e .chunks .at)) (z .chunks) in
+      let none : ended-in img e ≡ [] = ap (λ (ls : List Location). ls ++ listed img (e .chunks)) a ∙ b in
+      subst (λ (ls : List Location). Taken s s p (joins-each k ls ms) p) (sym none) (taken-none v)
+
+  pub joined-at : {s₁ : List ℕ} {r : Places} (front : Bool) (m : Parts) {e : Ended} → e ≡ ended-at front m → Taken s s₁ p (joins-each k (ended-in img e) ms) r → Taken s s₁ p (joins-each k (ended-lists front (lists-of img m)) ms) r
+  joined-at {s₁} {r} front m ee t =
+      subst (λ (ls : List Location). Taken s s₁ p (joins-each k ls ms) r) (ap (ended-in img) ee ∙ ended-same img front m) t
 
 -- places before the set are joined as they were
-pub joined-later : (k : ℕ) (xs : List Location) (from to : ℕ) {s s₁ s₂ : List ℕ} {p a r : Places} {ls : List Location} → from ≤ to → to ≤ p .base → Taken s s₁ p ls a
-    → Taken s₁ s₂ a (joins-each k xs (locations-in s₁ (to - from) (from * 24))) r → Taken s₁ s₂ a (joins-each k xs (locations-in s (to - from) (from * 24))) r
-joined-later k xs from to {s₁ = s₁} {s₂ = s₂} {a = a} {r = r} h b t u =
-    subst (λ (ms : List Location). Taken s₁ s₂ a (joins-each k xs ms) r) (taken-elsewhere t (to - from) (from * 24) (omega arith)) u
+pub joined-later : (k : ℕ) (xs : List Location) (b : Span) {s s₁ s₂ : List ℕ} {p a r : Places} {ls : List Location} → b .from ≤ b .to → b .to ≤ p .base → Taken s s₁ p ls a
+    → Taken s₁ s₂ a (joins-each k xs (spanned s₁ b)) r → Taken s₁ s₂ a (joins-each k xs (spanned s b)) r
+joined-later k xs b {s₁ = s₁} {s₂ = s₂} {a = a} {r = r} h l t u =
+    subst (λ (ms : List Location). Taken s₁ s₂ a (joins-each k xs ms) r) (taken-elsewhere t (b .to - b .from) (b .from * 24) (omega arith)) u
 
 -- ── the places behind a node ──
 
@@ -85,8 +106,8 @@ module _ (i j : ℕ) {n : Node} {q ends s : List ℕ} (d : LaidOut n q (i + 1) e
 -- ── what goes beyond it ──
 
 module _ {img : List ℕ} {at : ℕ} {s s′ : List ℕ} {p r : Places} where
-  pub reached-front : (front : Bool) → front ≡ true → Collected img 16 at s s′ p r → Reached img at front s s′ p r
+  pub reached-front : (front : Bool) → front ≡ true → collecting.Collected img 16 at s s′ p r → Reached img at front s s′ p r
   reached-front front f c = record { taken = λ n h. rw f (c .taken n h) }
 
-  pub reached-inside : (front : Bool) → front ≡ false → Ended img at s s′ p r → Reached img at front s s′ p r
+  pub reached-inside : (front : Bool) → front ≡ false → collecting.Ended img at s s′ p r → Reached img at front s s′ p r
   reached-inside front f c = record { taken = λ n h. rw f (c .taken 16 n h) }

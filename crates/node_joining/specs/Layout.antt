@@ -1,10 +1,10 @@
 -- What the search goes by: an image that is sound, and the places of a query's ends in scratch, one end behind another. Assumes nothing.
 use Prim.Native.Nat.{ℕ, _+_, _-_, _*_, _≤_, _<_}
 use mathlib.Core.Path.{_≡_}
-use mathlib.Core.Bool.{Bool, true, false}
-use mathlib.Core.List.{List}
+use mathlib.Core.Bool.{Bool, true, false, cond}
+use mathlib.Core.List.{List, _++_}
 use lib.ListN.{length, getD}
-use Rattle.definitions.specs.Location.{locations-in}
+use Rattle.definitions.specs.Location.{Location, locations-in}
 use Rattle.definitions.specs.Places.{first-of, sizes}
 use Rattle.trie.specs.Trie.{Lists, Node, root, lists-at}
 use Rattle.trie.specs.Rule.{ListsSorted, NodeRule}
@@ -13,6 +13,8 @@ use Rattle.image_walk.specs.declared.Node.{Node as Parts}
 use Rattle.image_walk.specs.Here.{NodeHere}
 use Rattle.place_buffer.specs.declared.Places.{Places}
 use Rattle.place_buffer.specs.Buffer.{room, Taken}
+use Rattle.joining.specs.Lists.{Ascends, listed}
+use Rattle.node_joining.specs.declared.Ended.{Ended}
 use Rattle.node_joining.specs.Found.{rooted, beyond-of, table-from}
 
 -- the trie of an image has a root, which stands at its start and meets the rule
@@ -36,10 +38,26 @@ pub record Listed (img : List ℕ) (m : Parts) : Type 0 where
   pub suffixes : m .suffixes + m .«suffix_count» * 24 ≤ length img
   pub sorted : ListsSorted (lists-of img m)
 
--- nothing ends at a node
-pub record EndsNothing (front : Bool) (m : Parts) : Type 0 where
-  pub chunks : m .«chunk_count» ≡ 0
-  pub prefixes : front ≡ true → m .«prefix_count» ≡ 0
+-- what ends at a node as the code hands it over: inside a query its prefixes are an empty list
+abbrev pub ended-at : Bool → Parts → Ended
+ended-at front m = record {
+  prefixes = record { at = m .prefixes; count = cond front (m .«prefix_count») 0 };
+  chunks = record { at = m .chunks; count = m .«chunk_count» };
+}
+
+-- its locations
+abbrev pub ended-in : List ℕ → Ended → List Location
+ended-in img e = listed img (e .prefixes) ++ listed img (e .chunks)
+
+-- they lie within the image, each list ascending
+pub record EndedHere (img : List ℕ) (e : Ended) : Type 0 where
+  pub prefixes : Ascends img (e .prefixes)
+  pub chunks : Ascends img (e .chunks)
+
+-- there are none
+pub record EndsNothing (e : Ended) : Type 0 where
+  pub prefixes : e .prefixes .count ≡ 0
+  pub chunks : e .chunks .count ≡ 0
 
 -- m has the lists of the node at the end of a path, none where there is none
 pub record Ending (img path : List ℕ) (m : Parts) : Type 0 where

@@ -5,7 +5,8 @@ use mathlib.Core.Path.{_≡_, refl, sym, ap, subst, _∙_}
 use mathlib.Core.Bool.{Bool, true, false}
 use mathlib.Core.List.{List, [], _∷_}
 use lib.ListN.{length, getD}
-use borrow.Author.Tests.{lt-ltb, le-ltb, eq-eqb}
+use lib.Dec.{eqb}
+use borrow.Author.Tests.{lt-ltb, le-ltb, eq-eqb, eqb-false}
 use Rattle.definitions.specs.Location.{Location, locations-in}
 use Rattle.definitions.specs.Places.{first-of, sizes}
 use Rattle.definitions.specs.Rows.{combine-split-times}
@@ -50,11 +51,11 @@ first-empty [] = refl
 first-empty (b ∷ q) = refl
 
 -- a first byte 0 is the empty index
-zero-empty : (img : List ℕ) → getD img 0 0 ≡ 0 → trie-in img ≡ empty
+zero-empty : (img : List ℕ) → eqb (getD img 0 0) 0 ≡ true → trie-in img ≡ empty
 unfolding trie-in
-zero-empty img z = rw (eq-eqb (getD img 0 0) 0 z) refl
+zero-empty img z = rw z refl
 
-pub no-index : (img q : List ℕ) (k room : ℕ) (s : List ℕ) {f : Finding} → getD img 0 0 ≡ 0 → f ≡ finding-of (refused 0) → Answers (search-answer (trie-in img) q k room) s f
+pub no-index : (img q : List ℕ) (k room : ℕ) (s : List ℕ) {f : Finding} → eqb (getD img 0 0) 0 ≡ true → f ≡ finding-of (refused 0) → Answers (search-answer (trie-in img) q k room) s f
 no-index img q k room s z g =
     none-answers s 0 (ap (λ (t : Trie). search-answer t q k room) (zero-empty img z) ∙ none-answer empty q k room (sizes-empty q) (first-empty q)) g
 
@@ -74,9 +75,9 @@ right-long {img} h = go (length img) refl
         absurd (let z : _≡_ {A = ℕ} 0 1 = cc in omega arith)
     go (suc k) e = omega arith
 
-pub sound-image : {img : List ℕ} → AllBytes img → length img < 2 ^ 64 → RightImage img → Rule (trie-in img) → (getD img 0 0 ≡ 0 → ⊥) → Sound img
+pub sound-image : {img : List ℕ} → AllBytes img → length img < 2 ^ 64 → RightImage img → Rule (trie-in img) → eqb (getD img 0 0) 0 ≡ false → Sound img
 sound-image {img} a l h rule z =
-    let r : RootHere img = here-root img a l (h .nodes) (h .entries) (h .read) z in
+    let r : RootHere img = here-root img a l (h .nodes) (h .entries) (h .read) (eqb-false (getD img 0 0) 0 z) in
     let same : rooted img ≡ r .node = ap root-of (r .trie) in
     let whole : trie-in img ≡ root (rooted img) = r .trie ∙ ap root (sym same) in
     record { trie = whole; here = subst (NodeHere img 16 0) (sym same) (r .here); rule = subst Rule whole rule }

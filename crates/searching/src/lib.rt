@@ -1,4 +1,5 @@
 // Searching: the places of each end of a query, from its back, in scratch; then the rows.
+use definitions::LOCATION_SIZE;
 use image_walk::Child;
 use image_walk::Node;
 use row_buffer::Finding;
@@ -20,7 +21,8 @@ fn last_node(img: &[u8], q: &[u8]) -> Node
     ensures { λ r. ⌜ Ending (now (img .entry)) (last-of (now (q .entry))) r ⌝ }
 {
     let i = q.len() - 1;
-    let Child::At(at) = image_walk::search_raw_str(img, &q[i..]) else {
+    let root = image_walk::node_at(img, 0);
+    let Child::At(at) = image_walk::child_of(img, root, q[i]) else {
         return Node {
             prefixes: 0,
             prefix_count: 0,
@@ -64,7 +66,7 @@ fn find_loosely(img: &[u8], q: &[u8], last: Node, ends: &mut [usize], scratch: &
     requires { ⌜ Sound (now img) × (1 < length (now q)) × Ending (now img) (last-of (now q)) last × (length (now q) < length (now ends)) ⌝ }
     ensures { λ r. ⌜ (r ≡ true → Tabled (rooted (now (img .entry))) (now (q .entry)) (now (ends .exit)) (now (scratch .exit))) ⌝ }
 {
-    let room = scratch.len() / 24;
+    let room = scratch.len() / LOCATION_SIZE;
     if room < last.suffix_count {
         return false;
     }
@@ -90,7 +92,7 @@ fn find_exactly(img: &[u8], q: &[u8], last: Node, ends: &mut [usize], scratch: &
         last.chunks,
         last.chunk_count,
     );
-    if scratch.len() / 24 < count {
+    if scratch.len() / LOCATION_SIZE < count {
         return true;
     }
     find_from(img, q, last, count, ends, scratch)
@@ -123,7 +125,7 @@ pub fn search_image(img: &[u8], q: &[u8], scratch: &mut [u8], room: usize) -> Fi
     if q.len() == 0 {
         return row_buffer::no_rows(0);
     }
-    if img[0] == 0 {
+    if image_walk::is_empty(img) {
         return row_buffer::no_rows(0);
     }
     let mut ends = [0usize; 257];

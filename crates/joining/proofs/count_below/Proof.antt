@@ -2,23 +2,22 @@
 use Prim.Native.Nat.{_+_, _≤_}
 use native.Mathlib.Omega.{arith}
 use mathlib.Core.Path.{refl}
-use Rattle.definitions.specs.Location.{locations-in}
-use Rattle.definitions.proofs.Locations.{length-locations}
+use Rattle.joining.specs.Lists.{listed}
 use Rattle.joining.specs.Below.{below-count}
-use Rattle.joining.proofs.Search.{below-le, halve}
+use Rattle.joining.proofs.Search.{below-listed, halve}
 use Rattle.joining.proofs.count_below.Statement.{statement}
 use Rattle.joining.proofs.count_below.Tie as tie
 
 abbrev Inv-loop : tie.InvT-loop
-Inv-loop img at n key low₀ left₀ low left = (low ≤ below-count key (locations-in img n at)) × (below-count key (locations-in img n at) ≤ low + left) × (low + left ≤ n)
+Inv-loop img list key low₀ left₀ low left = (low ≤ below-count key (listed img list)) × (below-count key (listed img list) ≤ low + left) × (low + left ≤ list .count)
 
 abbrev μ-loop : tie.MeasureT-loop
-μ-loop img at n key low₀ left₀ low left = left
+μ-loop img list key low₀ left₀ low left = left
 
 loop-holds : tie.Need-loop-holds Inv-loop μ-loop
 loop-holds c =
     let args = c .before .args in
-    (omega arith, omega (arith, below-le (args .key) (locations-in (args .img .now) (args .n) (args .at)), length-locations (args .n) (args .img .now) (args .at)), omega arith)
+    (omega arith, omega (arith, below-listed (args .img .now) (args .list .count) (args .list .at) (args .key)), omega arith)
 
 sub-half : tie.Need-sub-half Inv-loop μ-loop
 sub-half c = omega arith
@@ -40,10 +39,10 @@ so-many-below-requires c κs = omega arith
 
 add-low : tie.Need-add-low Inv-loop μ-loop
 add-low c =
-    let turn = c .before .before .loop in
-    let start = c .before .before .before .before in
+    let turn = c .before .before .before .loop in
+    let start = c .before .before .before .before .before in
     let args = start .args in
-    let h = halve (args .img .now) (args .n) (args .at) (args .key) (start .pre .1) (turn .low) (turn .left) _ (turn .inv .0) (turn .inv .1) (turn .inv .2) (omega arith) refl (c .so-many-below .ensures) in
+    let h = halve (args .img .now) (args .list .count) (args .list .at) (args .key) (start .pre .sorted) (turn .low) (turn .left) _ (turn .inv .0) (turn .inv .1) (turn .inv .2) (omega arith) refl (c .so-many-below .ensures) in
     omega (arith, h)
 
 sub-left : tie.Need-sub-left Inv-loop μ-loop
@@ -54,10 +53,10 @@ loop-less c = omega arith
 
 loop-again : tie.Need-loop-again Inv-loop μ-loop
 loop-again c =
-    let turn = c .before .before .loop in
-    let start = c .before .before .before .before in
+    let turn = c .before .before .before .loop in
+    let start = c .before .before .before .before .before in
     let args = start .args in
-    let h = halve (args .img .now) (args .n) (args .at) (args .key) (start .pre .1) (turn .low) (turn .left) _ (turn .inv .0) (turn .inv .1) (turn .inv .2) (omega arith) refl (c .so-many-below .ensures) in
+    let h = halve (args .img .now) (args .list .count) (args .list .at) (args .key) (start .pre .sorted) (turn .low) (turn .left) _ (turn .inv .0) (turn .inv .1) (turn .inv .2) (omega arith) refl (c .so-many-below .ensures) in
     (h .0, h .1, h .2)
 
 returns : tie.Need-returns Inv-loop μ-loop

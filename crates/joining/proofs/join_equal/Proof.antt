@@ -1,4 +1,4 @@
--- `joining::join_equal` meets its contract: the locations so far are joined, and behind one with another address none has the key. Assumes nothing.
+-- `joining::join_equal` meets its contract: those so far are joined, and behind one above the key none has it. Assumes nothing.
 use Prim.Native.Nat.{_-_, _≤_}
 use native.Mathlib.Omega.{arith}
 use Rattle.location.specs.Plain.{plain}
@@ -7,23 +7,23 @@ use Rattle.joining.proofs.join_equal.Statement.{statement}
 use Rattle.joining.proofs.join_equal.Tie as tie
 
 abbrev Inv-loop : tie.InvT-loop
-Inv-loop img at n key m scratch₀ r₀ i₀ scratch r i = (i ≤ n) × JoinedTo img at key (plain m) scratch₀ scratch r₀ i r
+Inv-loop img list key x scratch₀ r₀ i₀ scratch r i = (i ≤ list .count) × JoinedTo img (list .at) key (plain x) scratch₀ scratch r₀ i r
 
 abbrev μ-loop : tie.MeasureT-loop
-μ-loop img at n key m scratch₀ r₀ i₀ scratch r i = n - i
+μ-loop img list key x scratch₀ r₀ i₀ scratch r i = list .count - i
 
 loop-holds : tie.Need-loop-holds Inv-loop μ-loop
 loop-holds c =
     let start = c .before .before in
-    (omega arith, equal-start _ _ _ (plain (start .args .m)) (start .pre .4))
+    (omega arith, equal-start _ _ _ (plain (start .args .x)) (start .pre .2))
 
 same-length : tie.Need-same-length Inv-loop μ-loop
-same-length c = c .before .before .loop .inv .1 .same-length
+same-length c = c .before .before .before .loop .inv .1 .same-length
 
 returns : tie.Need-returns Inv-loop μ-loop
 returns c =
-    let turn = c .before .before in
-    equal-refused _ _ _ (plain (turn .before .before .before .args .m)) _ (turn .loop .inv .1) _ (turn .loop .inv .0) (c .if1 .taken)
+    let turn = c .before .before .before in
+    equal-refused _ _ _ (plain (turn .before .before .before .args .x)) _ (turn .loop .inv .1) _ (turn .loop .inv .0) (c .if2 .taken)
 
 mul-location-at : tie.Need-mul-location-at Inv-loop μ-loop
 mul-location-at c = omega arith
@@ -35,17 +35,17 @@ location-at-requires : tie.Need-location-at-requires Inv-loop μ-loop
 location-at-requires c κs = omega arith
 
 same-length-2 : tie.Need-same-length-2 Inv-loop μ-loop
-same-length-2 c = c .before .before .before .before .before .loop .inv .1 .same-length
+same-length-2 c = c .before .before .before .before .before .before .before .loop .inv .1 .same-length
 
 returns-2 : tie.Need-returns-2 Inv-loop μ-loop
 returns-2 c =
     let read = c .before .before in
-    let turn = read .before .before .before in
+    let turn = read .before .before .before .before .before in
     let start = turn .before .before .before in
-    equal-stop _ _ _ (plain (start .args .m)) _ (turn .loop .inv .1) _ (omega arith) (start .pre .3) (start .pre .1) (start .pre .2) (read .location-at .ensures) (c .if2 .taken)
+    equal-stop _ _ _ (plain (start .args .x)) _ (turn .loop .inv .1) _ (omega arith) (start .pre .0 .sorted) (read .location-at .ensures) (c .if3 .taken)
 
 join-one-requires : tie.Need-join-one-requires Inv-loop μ-loop
-join-one-requires c κs = c .before .before .before .before .before .before .loop .inv .1 .valid
+join-one-requires c κs = c .before .before .before .before .before .before .before .before .loop .inv .1 .valid
 
 add-i : tie.Need-add-i Inv-loop μ-loop
 add-i c = omega arith
@@ -57,17 +57,17 @@ loop-again : tie.Need-loop-again Inv-loop μ-loop
 loop-again c =
     let joined = c .before .before in
     let read = joined .before .before .before .before in
-    let turn = read .before .before .before in
+    let turn = read .before .before .before .before .before in
     let start = turn .before .before .before in
-    (omega arith, equal-next _ _ _ (plain (start .args .m)) _ (turn .loop .inv .1) (start .pre .3) (read .location-at .ensures) (joined .before .before .if2 .left) (joined .join-one .ensures))
+    (omega arith, equal-next _ _ _ (plain (start .args .x)) _ (turn .loop .inv .1) (start .args .list .count) (omega arith) (start .pre .1) (read .location-at .ensures) (joined .before .before .if3 .left) (joined .join-one .ensures))
 
 same-length-3 : tie.Need-same-length-3 Inv-loop μ-loop
-same-length-3 c = c .before .loop .inv .1 .same-length
+same-length-3 c = c .before .before .loop .inv .1 .same-length
 
 returns-3 : tie.Need-returns-3 Inv-loop μ-loop
 returns-3 c =
-    let turn = c .before in
-    equal-done _ _ _ (plain (turn .before .before .before .args .m)) _ (turn .loop .inv .1) _ (turn .loop .inv .0) (c .loop-test .left)
+    let turn = c .before .before in
+    equal-done _ _ _ (plain (turn .before .before .before .args .x)) _ (turn .loop .inv .1) _ (turn .loop .inv .0) (c .if1 .left)
 
 pub join-equal-spec : {M : Type 1} → statement M
 join-equal-spec =
