@@ -1,8 +1,8 @@
--- `Sparse` and `Dense` say how a table and its children stand, one more at a time; `Walking`, `Stepping` and `Finishing` have the turns of a
--- table, `Imaging` the image. Assumes nothing.
-pub mod Sparse
-pub mod Dense
-pub mod Walking
-pub mod Stepping
-pub mod Finishing
-pub mod Imaging
+-- `SparseTable` and `DenseTable` say how a table and its children stand, one more at a time; `TableTurns`, `TableTurn` and `TableDone` have the turns of a
+-- table, `WholeImage` the image. Assumes nothing.
+pub mod SparseTable
+pub mod DenseTable
+pub mod TableTurns
+pub mod TableTurn
+pub mod TableDone
+pub mod WholeImage

@@ -31,7 +31,7 @@ use Rattle.kinds.specs.Kinds.{kind-of}
 use Rattle.single_writer.specs.Nodes.{node-of, SpanAsked, SpanWritten, NodeAsked, NodeWritten}
 use Rattle.single_writer.specs.Singles.{single-bytes, SingleWritten, LeafWritten}
 use Rattle.single_writer.proofs.SingleNode.{not-ended, goes-node, goes-weight, ends-node, sizes, single-length, leaf-stands, single-stands}
-use Rattle.single_writer.proofs.Noding.{node-lists, span-head}
+use Rattle.single_writer.proofs.WholeNode.{node-lists, span-head}
 
 pub single-tail : (s : List ℕ) (work i : ℕ) → tails-in s work i (i + 1) ≡ tail-in s work i ∷ []
 single-tail s work i = tails-step s work i (i + 1) (omega arith) ∙ ap (λ (ts : List Tail). tail-in s work i ∷ ts) (tails-none s work (i + 1) (i + 1) (le-refl (i + 1)))

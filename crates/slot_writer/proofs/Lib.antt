@@ -1,2 +1,2 @@
--- `Turning` has one turn. Assumes nothing.
-pub mod Turning
+-- `SlotTurn` has one turn. Assumes nothing.
+pub mod SlotTurn

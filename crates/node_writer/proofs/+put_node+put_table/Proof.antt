@@ -6,10 +6,10 @@ use mathlib.Core.Path.{refl, _∙_}
 use borrow.Fn.Kinds.{In}
 use borrow.Fn.PlainCycle.{Measures, is, falls, and}
 use Rattle.single_writer.proofs.SingleChain.{single-asked, single-node}
-use Rattle.single_writer.proofs.Noding.{span-head, table-asked, node-written}
-use Rattle.node_writer.proofs.Walking.{opened, asked-first, OnTurns, flag-room, now-asked, turn-called, levels}
-use Rattle.node_writer.proofs.Stepping.{turns-start, none-turn, child-asked, child-written, child-turn}
-use Rattle.node_writer.proofs.Finishing.{table-written}
+use Rattle.single_writer.proofs.WholeNode.{span-head, table-asked, node-written}
+use Rattle.node_writer.proofs.TableTurns.{opened, asked-first, OnTurns, flag-room, now-asked, turn-called, levels}
+use Rattle.node_writer.proofs.TableTurn.{turns-start, none-turn, child-asked, child-written, child-turn}
+use Rattle.node_writer.proofs.TableDone.{table-written}
 use Rattle.node_writer.proofs.put_node.Reads as put-node
 use Rattle.node_writer.proofs.put_node.Kinds as put-node-kinds
 use Rattle.node_writer.proofs.+put_node+put_table.Lts-put_node as put-node-lts

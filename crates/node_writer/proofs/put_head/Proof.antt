@@ -1,5 +1,5 @@
 -- `node_writer::put_head` meets its contract: the runs end where the tails say. Assumes nothing.
-use Rattle.single_writer.proofs.Heading.{parts-held, parts-upto, mid-held, mid-upto, mid-longer, mid-few, head-written}
+use Rattle.single_writer.proofs.NodeHead.{parts-held, parts-upto, mid-held, mid-upto, mid-longer, mid-few, head-written}
 use borrow.Author.Needs.{needs}
 use Rattle.node_writer.proofs.put_head.Statement.{statement}
 use Rattle.node_writer.proofs.put_head.Tie as tie

@@ -1,6 +1,6 @@
 -- `node_writer::put_image` meets its contract. Assumes nothing.
 use native.Mathlib.Omega.{arith}
-use Rattle.node_writer.proofs.Imaging.{image-room, image-empty, image-asked, image-written}
+use Rattle.node_writer.proofs.WholeImage.{image-room, image-empty, image-asked, image-written}
 use borrow.Author.Needs.{needs}
 use Rattle.node_writer.proofs.put_image.Statement.{statement}
 use Rattle.node_writer.proofs.put_image.Tie as tie

@@ -1,6 +1,6 @@
 -- `node_writer::put_turn` meets its contract. Assumes nothing.
 use native.Mathlib.Omega.{arith}
-use Rattle.slot_writer.proofs.Turning.{slot-inside, turned-none, turned-dense, turned-sparse, entry-asked}
+use Rattle.slot_writer.proofs.SlotTurn.{slot-inside, turned-none, turned-dense, turned-sparse, entry-asked}
 use borrow.Author.Needs.{needs}
 use Rattle.node_writer.proofs.put_turn.Statement.{statement}
 use Rattle.node_writer.proofs.put_turn.Tie as tie

@@ -1,7 +1,7 @@
 -- `single_writer::put_front` meets its contract: the lists are those of the node. Assumes nothing.
 use mathlib.Core.Path.{_∙_}
 use lib.ListN.{length-set}
-use Rattle.single_writer.proofs.Heading.{lists-asked, front-written}
+use Rattle.single_writer.proofs.NodeHead.{lists-asked, front-written}
 use borrow.Author.Needs.{needs}
 use Rattle.single_writer.proofs.put_front.Statement.{statement}
 use Rattle.single_writer.proofs.put_front.Tie as tie

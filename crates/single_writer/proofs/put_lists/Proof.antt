@@ -1,5 +1,5 @@
 -- `single_writer::put_lists` meets its contract: one list after the other. Assumes nothing.
-use Rattle.single_writer.proofs.Listing.{second-asked, third-asked, lists-written}
+use Rattle.single_writer.proofs.NodeLists.{second-asked, third-asked, lists-written}
 use borrow.Author.Needs.{needs}
 use Rattle.single_writer.proofs.put_lists.Statement.{statement}
 use Rattle.single_writer.proofs.put_lists.Tie as tie

@@ -2,7 +2,7 @@
 use Prim.Native.Nat.{_+_, _-_}
 use native.Mathlib.Omega.{arith}
 use mathlib.Core.Path.{_≡_}
-use Rattle.single_writer.proofs.Listing.{second-asked, third-asked, lists-written}
+use Rattle.single_writer.proofs.NodeLists.{second-asked, third-asked, lists-written}
 use borrow.Author.Needs.{needs}
 use Rattle.single_writer.proofs.put_single_lists.Statement.{statement}
 use Rattle.single_writer.proofs.put_single_lists.Tie as tie

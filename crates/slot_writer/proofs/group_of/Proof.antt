@@ -1,5 +1,5 @@
 -- `slot_writer::group_of` meets its contract, by the kind. Assumes nothing.
-use Rattle.slot_writer.proofs.Turning.{known-readable, picked-three, picked-two, picked-late, picked-one, picked-none}
+use Rattle.slot_writer.proofs.SlotTurn.{known-readable, picked-three, picked-two, picked-late, picked-one, picked-none}
 use borrow.Author.Needs.{needs}
 use Rattle.slot_writer.proofs.group_of.Statement.{statement}
 use Rattle.slot_writer.proofs.group_of.Tie as tie

@@ -2,7 +2,7 @@
 use native.Mathlib.Omega.{arith}
 use lib.ListN.{length-set}
 use mathlib.Core.Path.{_∙_}
-use Rattle.slot_writer.proofs.Turning.{known-readable, known-inside, entry-put}
+use Rattle.slot_writer.proofs.SlotTurn.{known-readable, known-inside, entry-put}
 use borrow.Author.Needs.{needs}
 use Rattle.slot_writer.proofs.put_entry.Statement.{statement}
 use Rattle.slot_writer.proofs.put_entry.Tie as tie

@@ -32,9 +32,9 @@ use Rattle.slot_writer.specs.Turns.{Opened, groups-in}
 use Rattle.single_writer.specs.Nodes.{child-node, children-in, TableAsked, TableWritten}
 use Rattle.single_writer.proofs.Orders.{Climbs, getD-kids, length-kids, ascending-climbs, ascending-by-arrival, below-climbs, below-by-arrival}
 use Rattle.single_writer.proofs.Places.{rising-climbs, rising-apart, order-three, order-other, order-total, kept-length, kept-total, kept-few, kept-many, place-of, costs}
-use Rattle.node_writer.proofs.Sparse.{entry-bytes, table-three, table-two}
-use Rattle.node_writer.proofs.Walking.{TableOpen, in-order, kids-in, asked-count, asked-costs, kind-large, opened, OnTurns, first-end, where-is, later-groups}
-use Rattle.node_writer.proofs.Stepping.{size-sum, kids-length}
+use Rattle.node_writer.proofs.SparseTable.{entry-bytes, table-three, table-two}
+use Rattle.node_writer.proofs.TableTurns.{TableOpen, in-order, kids-in, asked-count, asked-costs, kind-large, opened, OnTurns, first-end, where-is, later-groups}
+use Rattle.node_writer.proofs.TableTurn.{size-sum, kids-length}
 
 -- ── the bytes, by the kind ──
 

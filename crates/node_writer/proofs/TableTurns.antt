@@ -33,8 +33,8 @@ use Rattle.single_writer.specs.Kids.{kids, sizes}
 use Rattle.slot_writer.specs.Turns.{Opened, groups-in, group-in, TurnAsked, Picked}
 use Rattle.single_writer.specs.Nodes.{child-node, TableAsked}
 use Rattle.single_writer.proofs.Places.{written-order, order-three, order-other, order-length, place-of, cost, costs, costs-are, costs-order, costs-more, costs-left}
-use Rattle.node_writer.proofs.Sparse.{Sparse}
-use Rattle.node_writer.proofs.Dense.{Dense}
+use Rattle.node_writer.proofs.SparseTable.{Sparse}
+use Rattle.node_writer.proofs.DenseTable.{Dense}
 
 -- ── a table that is begun ──
 

@@ -34,7 +34,7 @@ use Rattle.single_writer.specs.Heads.{HeadAsked, HeadWritten}
 use Rattle.single_writer.specs.Nodes.{child-node, children-in, TableAsked, TableWritten, node-of, SpanAsked, NodeAsked, NodeWritten}
 use Rattle.single_writer.proofs.Orders.{forest-kids, length-kids}
 use Rattle.single_writer.proofs.Places.{kept-length, kept-total}
-use Rattle.single_writer.proofs.Heading.{below-longer}
+use Rattle.single_writer.proofs.NodeHead.{below-longer}
 
 -- ── the node's children are those of its groups ──
 

@@ -35,9 +35,9 @@ use Rattle.single_writer.specs.Nodes.{child-node, node-of, Stands, NodeAsked, N
 use Rattle.single_writer.proofs.Sized.{Sized}
 use Rattle.single_writer.proofs.Orders.{Climbs, getD-kids, kid-byte, length-kids}
 use Rattle.single_writer.proofs.Places.{kid-nodes, kid-entries, kid-size, kid-bytes, kids-sized, rising-climbs, order-other, place-of, place-inside, place-apart, cost, costs, costs-more}
-use Rattle.node_writer.proofs.Sparse.{entry-bytes, Sparse, sparse-start, sparse-child}
-use Rattle.node_writer.proofs.Dense.{Dense, dense-start, dense-none, dense-child, sizes-snoc}
-use Rattle.node_writer.proofs.Walking.{TableOpen, in-order, kids-in, asked-count, OnTurns, first-end, where-is, flag-room, node-room, now-asked, now-groups, now-grouped, levels, next-group}
+use Rattle.node_writer.proofs.SparseTable.{entry-bytes, Sparse, sparse-start, sparse-child}
+use Rattle.node_writer.proofs.DenseTable.{Dense, dense-start, dense-none, dense-child, sizes-snoc}
+use Rattle.node_writer.proofs.TableTurns.{TableOpen, in-order, kids-in, asked-count, OnTurns, first-end, where-is, flag-room, node-room, now-asked, now-groups, now-grouped, levels, next-group}
 
 -- ── sums ──
 
