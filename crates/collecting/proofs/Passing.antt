@@ -11,7 +11,8 @@ use Rattle.image_format.specs.Held.{Entry}
 use Rattle.image_walk.specs.Tables.{slot-in, slots-from, put}
 use Rattle.image_walk.specs.Here.{NodeHere, Matches}
 use Rattle.place_buffer.specs.declared.Places.{Places}
-use Rattle.place_buffer.specs.Buffer.{Within, Valid, Taken}
+use Rattle.place_buffer.specs.Buffer.{Valid, Taken}
+use Rattle.place_lookup.specs.Lookup.{Within}
 use Rattle.place_buffer.proofs.Adding.{taken-none, taken-more, taken-over}
 use Rattle.collecting.specs.Collected.{Standing, Siblings, Collected, AllCollected}
 

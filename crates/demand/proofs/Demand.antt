@@ -31,7 +31,7 @@ use Rattle.index_memory.specs.Index.{Index, opened, finished, standing-of, read
 use Rattle.recording.specs.Record.{appended}
 use Rattle.row_buffer.specs.Numbers.{row-numbers}
 use Rattle.finished_memory.specs.Finished.{finished-memory}
-use Rattle.string_index.specs.Search.{Found, found-or-refused, search-by, search-memory}
+use Rattle.handing_over.specs.Search.{Found, found-or-refused, search-by, search-memory}
 use Rattle.demand.specs.Demand.{Fits, Recording, final, taken-in, searched, HandsOver, Exactly, RowsExact, EmptyQuery, OnlyBuffers, Answers, SameAnswers, Demand3}
 use Rattle.demand.proofs.Follow.{AllFit, holds, Follows, follow-all}
 

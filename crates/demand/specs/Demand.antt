@@ -15,7 +15,7 @@ use Rattle.memory_header.specs.Opening.{open-memory}
 use Rattle.recording.specs.Record.{record-memory}
 use Rattle.row_buffer.specs.Numbers.{row-numbers}
 use Rattle.string_index.specs.Finish.{finish-memory}
-use Rattle.string_index.specs.Search.{Found, search-memory}
+use Rattle.handing_over.specs.Search.{Found, search-memory}
 
 -- the memory that a call leaves; a search changes nothing in it
 abbrev pub memory-after : List ℕ → Call → List ℕ

@@ -13,7 +13,7 @@ use Rattle.definitions.proofs.Views.{Eq, eq}
 use Rattle.row_buffer.specs.declared.Finding.{Finding}
 use Rattle.row_buffer.specs.Answer.{finding-of}
 use Rattle.finding.specs.Find.{find-memory}
-use Rattle.string_index.proofs.Finding.{found-fit}
+use Rattle.handing_over.proofs.Finding.{found-fit}
 use Rattle.finding.proofs.FindCall.{Finds}
 use Rattle.replies.specs.Written.{Written, reply-bytes}
 use Rattle.replies.proofs.Writing.{written-same}

@@ -3,9 +3,9 @@ use Prim.Native.Nat.{ℕ}
 use mathlib.Core.Path.{_≡_, ap, _∙_}
 use mathlib.Core.List.{List}
 use Rattle.definitions.specs.Causes.{ScratchAfter}
-use Rattle.string_index.specs.declared.Answer.{Answer}
-use Rattle.string_index.specs.Search.{Found}
-use Rattle.string_index.specs.Answers.{answer-as, answer-number}
+use Rattle.handing_over.specs.declared.Answer.{Answer}
+use Rattle.handing_over.specs.Search.{Found}
+use Rattle.handing_over.specs.Answers.{answer-as, answer-number}
 use Rattle.helmapricot.specs.Counts.{put-unless-refused, count-after}
 use Rattle.helmapricot.proofs.Numbers.{answer-back}
 

@@ -41,12 +41,12 @@ use Rattle.definitions.specs.Causes.{ScratchAfter}
 use Rattle.rows.specs.declared.Row.{Row}
 use Rattle.rows.specs.Rows.{numbers-of}
 use Rattle.rows.proofs.Row as T
-use Rattle.string_index.specs.declared.Answer.{Answer}
-use Rattle.string_index.specs.Search.{Found}
-use Rattle.string_index.specs.Answers.{answer-as, answer-number}
+use Rattle.handing_over.specs.declared.Answer.{Answer}
+use Rattle.handing_over.specs.Search.{Found}
+use Rattle.handing_over.specs.Answers.{answer-as, answer-number}
 use Rattle.helmapricot.specs.Counts.{put-unless-refused, count-after}
-use Rattle.string_index.proofs.Answer as E
-use Rattle.string_index.proofs.Answer.Laws as E′
+use Rattle.handing_over.proofs.Answer as E
+use Rattle.handing_over.proofs.Answer.Laws as E′
 use Rattle.helmapricot.proofs.Counted.{Counted, counted}
 use Rattle.helmapricot.proofs.put_count as p
 use denote.Memory.{pointee}

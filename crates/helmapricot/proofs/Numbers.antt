@@ -13,8 +13,8 @@ use Rattle.recording.specs.declared.Recorded.the-variants as R
 use Rattle.saving.specs.declared.Saved.{Saved}
 use Rattle.saving.specs.declared.Saved.the-variants as S
 use Rattle.saving.specs.Answers.{saved-as}
-use Rattle.string_index.specs.declared.Answer.the-variants as A
-use Rattle.string_index.specs.Answers.{answer-as, answer-number}
+use Rattle.handing_over.specs.declared.Answer.the-variants as A
+use Rattle.handing_over.specs.Answers.{answer-as, answer-number}
 use Rattle.helmapricot.specs.Counts.{put-unless-refused, count-after}
 
 -- the number that a save's answer is handed over as, and the place of the size

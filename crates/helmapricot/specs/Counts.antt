@@ -4,8 +4,8 @@ use mathlib.Core.Bool.{cond}
 use mathlib.Core.List.{List}
 use lib.ListN.{set}
 use lib.Dec.{eqb}
-use Rattle.string_index.specs.declared.Answer.{Answer}
-use Rattle.string_index.specs.declared.Answer.the-variants.{Rows, Refused}
+use Rattle.handing_over.specs.declared.Answer.{Answer}
+use Rattle.handing_over.specs.declared.Answer.the-variants.{Rows, Refused}
 
 -- where a number is handed over, after a call with this refusal's number: it stays as it was unless that is 0
 abbrev pub put-unless-refused : ℕ → ℕ → List ℕ → List ℕ

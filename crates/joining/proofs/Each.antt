@@ -9,8 +9,8 @@ use Rattle.definitions.specs.Places.{joins}
 use Rattle.definitions.proofs.Views.{Join}
 use Rattle.definitions.proofs.Joins.{joins-mem, mem-joins}
 use Rattle.trie.specs.Find.{joins-each}
-use Rattle.place_buffer.specs.Buffer.{Within}
-use Rattle.place_buffer.proofs.Adding.{append-within}
+use Rattle.place_lookup.specs.Lookup.{Within}
+use Rattle.place_lookup.proofs.Sets.{append-within}
 
 -- x is what a location of ls and a place of ms have in common, which begins k bytes further on
 pub record Pair (k : ℕ) (ls ms : List Location) (x : Location) : Type 0 where

@@ -8,7 +8,8 @@ use Rattle.definitions.specs.Location.{Location, location-at, locations-in}
 use Rattle.definitions.specs.Places.{joins}
 use Rattle.trie.specs.Find.{joins-each}
 use Rattle.place_buffer.specs.declared.Places.{Places}
-use Rattle.place_buffer.specs.Buffer.{Within, Valid, Taken}
+use Rattle.place_buffer.specs.Buffer.{Valid, Taken}
+use Rattle.place_lookup.specs.Lookup.{Within}
 use Rattle.definitions.proofs.Locations.{locations-snoc}
 use Rattle.place_buffer.proofs.Adding.{taken-none, taken-same, taken-over, taken-more}
 use Rattle.place_buffer.proofs.Holding.{taken-location}

@@ -1,4 +1,4 @@
--- A list in memory: its locations copied, then sorted, each once, with their count before them. Assumes nothing.
+-- A list in memory: its locations copied, and the list that is made of them. Assumes nothing.
 use Prim.Native.Nat.{ℕ, _+_, _*_, _≤_, _<_}
 use mathlib.Core.Path.{_≡_}
 use mathlib.Core.Logic.{_⊎_}
@@ -15,14 +15,6 @@ pub record Copied (s s′ : List ℕ) (at n : ℕ) (ls : List Location) : Type 0
   pub places : locations-in s′ n (at + 8) ≡ ls
   pub long : length s′ ≡ length s
   pub away : (k : ℕ) → (k < at + 8) ⊎ (at + 8 + 24 * n ≤ k) → getD s′ k 0 ≡ getD s k 0
-
--- s′ is s with the list of the n locations ls at an index, of which r are kept; what stands behind those kept is free
-pub record Closed (s s′ : List ℕ) (at n : ℕ) (ls : List Location) (r : ℕ) : Type 0 where
-  pub count : r ≡ length (normal ls)
-  pub few : r ≤ n
-  pub bytes : Holds s′ at (list-bytes (normal ls))
-  pub long : length s′ ≡ length s
-  pub away : (k : ℕ) → (k < at) ⊎ (at + 8 + 24 * n ≤ k) → getD s′ k 0 ≡ getD s k 0
 
 -- s′ is s with the list of the locations ls behind the end e, and r is the end behind it
 pub record ListWritten (s s′ : List ℕ) (ls : List Location) (e r : End) : Type 0 where

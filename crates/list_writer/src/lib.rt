@@ -7,10 +7,10 @@ ghost use Prim.Native.Nat.{_+_, _*_, _≤_, _<_};
 ghost use mathlib.Core.List.{[]};
 ghost use lib.ListN.{length};
 ghost use lib.Seq.{sets};
-ghost use Rattle.definitions.specs.Location.{location-bytes, locations-in};
+ghost use Rattle.definitions.specs.Location.{location-bytes};
 ghost use Rattle.tails.specs.Groups.{locations-of, wholes};
 ghost use Rattle.tail_words.specs.Tail.{tail-in, tails-in};
-ghost use Rattle.list_writer.specs.Written.{Copied, Closed, ListWritten};
+ghost use Rattle.list_writer.specs.Written.{Copied, ListWritten};
 
 // Where an image ends, and the nodes and entries written so far.
 pub struct End {
@@ -70,30 +70,6 @@ fn put_wholes(mem: &mut [u8], work: usize, lo: usize, hi: usize, at: usize) -> u
     n
 }
 
-// Makes a list of the n locations behind index at: sorted, each once, with their count at index at; how many are kept.
-fn close_many(mem: &mut [u8], at: usize, n: usize) -> usize
-    requires { ⌜ at + 8 + 24 * n ≤ length (now mem) ⌝ }
-    ensures { λ r. ⌜ Closed (now (mem .entry)) (now (mem .exit)) at n (locations-in (now (mem .entry)) n (at + 8)) r ⌝ }
-{
-    let from = at + 8;
-    sort::sort(mem, from, 3, n);
-    let kept = records::drop_repeats(mem, from, 3, n);
-    words::put64(mem, at, kept as u64);
-    kept
-}
-
-// The same; a single location, or none, is a list already, which most are.
-fn close_list(mem: &mut [u8], at: usize, n: usize) -> usize
-    requires { ⌜ at + 8 + 24 * n ≤ length (now mem) ⌝ }
-    ensures { λ r. ⌜ Closed (now (mem .entry)) (now (mem .exit)) at n (locations-in (now (mem .entry)) n (at + 8)) r ⌝ }
-{
-    if 1 < n {
-        return close_many(mem, at, n);
-    }
-    words::put64(mem, at, n as u64);
-    n
-}
-
 // The end behind a list of n locations.
 fn behind_list(e: End, n: usize) -> End
     requires { ⌜ (e .at + 8 + 24 * n < 18446744073709551616) × (e .entries ≤ e .at) ⌝ }
@@ -113,7 +89,7 @@ pub fn put_run_list(mem: &mut [u8], work: usize, lo: usize, hi: usize, e: End) -
 {
     let at = e.at;
     let n = put_run(mem, work, lo, hi, at);
-    let kept = close_list(mem, at, n);
+    let kept = list_closing::close_list(mem, at, n);
     behind_list(e, kept)
 }
 
@@ -124,7 +100,7 @@ pub fn put_suffix_list(mem: &mut [u8], work: usize, lo: usize, hi: usize, e: End
 {
     let at = e.at;
     let n = put_wholes(mem, work, lo, hi, at);
-    let kept = close_list(mem, at, n);
+    let kept = list_closing::close_list(mem, at, n);
     behind_list(e, kept)
 }
 
@@ -145,7 +121,7 @@ fn put_single_suffix_list(mem: &mut [u8], work: usize, i: usize, e: End) -> End
 {
     let at = e.at;
     let n = put_whole(mem, work, i, at, 0);
-    let kept = close_list(mem, at, n);
+    let kept = list_closing::close_list(mem, at, n);
     behind_list(e, kept)
 }
 
@@ -156,7 +132,7 @@ fn put_single_list(mem: &mut [u8], work: usize, i: usize, e: End) -> End
 {
     let at = e.at;
     put_tail_location(mem, work, i, at + 8);
-    let kept = close_list(mem, at, 1);
+    let kept = list_closing::close_list(mem, at, 1);
     behind_list(e, kept)
 }
 

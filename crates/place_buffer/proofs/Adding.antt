@@ -4,7 +4,7 @@ use native.Mathlib.Omega.{arith}
 use mathlib.Core.Path.{_≡_, refl, sym, ap, subst, _∙_}
 use mathlib.Core.Bool.{Bool, true, false}
 use mathlib.Core.Logic.{_⊎_, inl, inr}
-use mathlib.Core.List.{List, [], _∷_, _++_, List·Memᴰ as Mem, List·Memᴰ·head as here, List·Memᴰ·tail as later, List·Memᴰ·cases-cons as split, List·Memᴰ·not-nil as not-nil, List·Memᴰ·append-cases as append-cases, Memᴰ·append-left as append-left, Memᴰ·append-right as append-right, Memᴰ·cast as cast}
+use mathlib.Core.List.{List, [], _∷_, _++_, List·Memᴰ as Mem, List·Memᴰ·head as here, List·Memᴰ·tail as later, List·Memᴰ·cases-cons as split, List·Memᴰ·not-nil as not-nil, Memᴰ·append-left as append-left, Memᴰ·append-right as append-right, Memᴰ·cast as cast}
 use lib.ListN.{length, getD, take, drop, length-take, length-drop}
 use lib.Seq.{sets, length-sets, getD-take, getD-drop}
 use Rattle.words.proofs.Parts.{getD-sets, getD-sets-out}
@@ -13,19 +13,14 @@ use Rattle.definitions.specs.Location.{Location, normal, location-at, location-
 use Rattle.definitions.proofs.Order.{mem-normal, normal-mem, sorted-normal}
 use Rattle.location.specs.Fits.{Fits}
 use Rattle.place_buffer.specs.declared.Places.{Places}
-use Rattle.place_buffer.specs.Buffer.{Ascending, Within, Tidied, room, held, Valid, Taken}
-use Rattle.place_buffer.proofs.Sets.{normal-same, normal-ascending, fewer, normal-new}
+use Rattle.place_lookup.specs.Lookup.{Ascending, Within}
+use Rattle.place_buffer.specs.Buffer.{Tidied, room, held, Valid, Taken}
+use Rattle.place_lookup.proofs.Sets.{normal-same, normal-ascending, append-within, normal-new}
+use Rattle.place_buffer.proofs.Sets.{fewer}
 use Rattle.place_buffer.proofs.Scratch.{locations-ext, locations-moved, locations-written, tidied-le}
 use Rattle.definitions.proofs.Locations.{length-locations, locations-append, locations-snoc}
 
--- ── members of lists that are joined ──
-
-pub append-within : {xs ys zs : List Location} → Within xs zs → Within ys zs → Within (xs ++ ys) zs
-append-within {xs} {ys} {zs} f g x h = go (append-cases xs h)
-  where
-    go : Mem x xs ⊎ Mem x ys → Mem x zs
-    go (inl k) = f x k
-    go (inr k) = g x k
+-- ── members ──
 
 only-one : {xs : List Location} {l : Location} → Mem l xs → Within (l ∷ []) xs
 only-one {xs} {l} h x k = go (split k)

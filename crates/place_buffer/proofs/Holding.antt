@@ -3,18 +3,20 @@ use Prim.Native.Nat.{ℕ, _+_, _-_, _*_, _/_, _≤_, _<_}
 use native.Mathlib.Omega.{arith}
 use mathlib.Core.Path.{_≡_, refl, sym, ap, subst, _∙_}
 use mathlib.Core.Bool.{Bool, true, false}
-use mathlib.Core.List.{List, [], _∷_, _++_, List·Memᴰ·not-nil as not-nil, Memᴰ·append-left as append-left, Memᴰ·append-right as append-right}
+use mathlib.Core.List.{List, [], _++_, List·Memᴰ·not-nil as not-nil, Memᴰ·append-left as append-left, Memᴰ·append-right as append-right}
 use lib.ListN.{length}
 use Rattle.records.proofs.Order.{clash}
 use Rattle.definitions.specs.Location.{Location, normal, location-at, locations-in}
 use Rattle.definitions.proofs.Order.{length-normal}
 use Rattle.place_buffer.specs.declared.Places.{Places}
-use Rattle.place_buffer.specs.Buffer.{Within, Tidied, room, held, Taken, Placed}
+use Rattle.place_buffer.specs.Buffer.{Tidied, room, held, Taken}
+use Rattle.place_lookup.specs.Lookup.{Within}
 use Rattle.place_buffer.specs.Holding.{Holding, Settled}
-use Rattle.place_buffer.proofs.Sets.{normal-same, fewer}
+use Rattle.place_buffer.proofs.Sets.{fewer}
+use Rattle.place_lookup.proofs.Sets.{normal-same, append-within}
 use Rattle.place_buffer.proofs.Scratch.{location-ext, locations-ext}
 use Rattle.definitions.proofs.Locations.{length-locations}
-use Rattle.place_buffer.proofs.Adding.{append-within, taken-still}
+use Rattle.place_buffer.proofs.Adding.{taken-still}
 
 -- a set of which nothing was added yet
 pub holding-none : (s : List ℕ) (p : Places) → p .count ≡ p .base → (p .tight ≡ true → p .base ≡ room s) → p .full ≡ false → p .base * 24 ≤ length s → Holding s p []

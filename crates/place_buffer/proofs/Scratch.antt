@@ -1,6 +1,5 @@
 -- Places in scratch: what is kept of them, one more behind them, and what `sort` and `drop_repeats` leave. Assumes nothing.
 use Prim.Native.Nat.{ℕ, zero, suc, _+_, _-_, _*_, _≤_, _<_}
-use native.Mathlib.Nat.{not-suc-le-zero}
 use native.Mathlib.Omega.{arith}
 use mathlib.Core.Path.{_≡_, refl, sym, ap, subst, _∙_}
 use mathlib.Core.Logic.{_⊎_, inl, inr}
@@ -16,11 +15,12 @@ use Rattle.records.proofs.Lists.{length-dropRepeats}
 use Rattle.sort.proofs.Results.{length-sorted-bytes, length-dropRepeats-bytes, records-after-sort, records-after-drop}
 use Rattle.definitions.specs.Location.{Location, normal, location-at, location-bytes, locations-in}
 use Rattle.definitions.proofs.Order.{location-path, length-normal}
-use Rattle.definitions.proofs.Locations.{length-locations, locations-append, locations-snoc, getD-locations}
+use Rattle.definitions.proofs.Locations.{length-locations, locations-snoc}
 use Rattle.location.specs.Fits.{Fits}
 use Rattle.location.proofs.Bytes.{location-written}
 use Rattle.place_buffer.specs.Buffer.{Tidied}
-use Rattle.place_buffer.proofs.Triples.{triples, records-triples, triples-path, length-triples, normal-triples}
+use Rattle.place_buffer.proofs.Triples.{triples-path, length-triples, normal-triples}
+use Rattle.place_lookup.proofs.Triples.{triples, records-triples}
 
 -- the same bytes are the same places
 pub location-ext : (s s′ : List ℕ) (at : ℕ) → ((k : ℕ) → at ≤ k → k < at + 24 → getD s k 0 ≡ getD s′ k 0) → location-at s at ≡ location-at s′ at

@@ -1,29 +1,12 @@
 -- A set of places in scratch: where it stands, what tidying and adding to it do, and when it is refused. Assumes nothing.
-use Prim.Native.Nat.{ℕ, suc, _+_, _-_, _*_, _/_, _≤_, _<_}
+use Prim.Native.Nat.{ℕ, _+_, _-_, _*_, _/_, _≤_, _<_}
 use mathlib.Core.Path.{_≡_}
-use mathlib.Core.Bool.{Bool, true, false, cond}
-use mathlib.Core.List.{List, [], _∷_, _++_, List·Memᴰ}
+use mathlib.Core.Bool.{true, false}
+use mathlib.Core.List.{List, [], _∷_, _++_}
 use lib.ListN.{length, getD}
-use Rattle.definitions.specs.Location.{Location, order, is-lt, Sorted, normal, locations-in, Less}
+use Rattle.definitions.specs.Location.{Location, normal, locations-in}
+use Rattle.place_lookup.specs.Lookup.{Ascending, Within}
 use Rattle.place_buffer.specs.declared.Places.{Places}
-
--- each place comes before each later one
-abbrev pub Ascending : List Location → Type 0
-Ascending ls = Sorted Less ls
-
--- how many places at the front come before l
-unfoldable pub before-count : Location → List Location → ℕ
-before-count l [] = 0
-before-count l (m ∷ ms) = cond (is-lt (order m l)) (suc (before-count l ms)) 0
-
--- every member of the first list is one of the second
-abbrev pub Within : List Location → List Location → Type 0
-Within xs ys = (x : Location) → List·Memᴰ x xs → List·Memᴰ x ys
-
--- whether l is one of the places
-abbrev pub There : Bool → Location → List Location → Type 0
-There true l ls = List·Memᴰ l ls
-There false l ls = List·Memᴰ l ls → ⊥
 
 -- s′ is s with the places from base to count - 1 sorted, each once; the next one would be number r
 pub record Tidied (s s′ : List ℕ) (base count r : ℕ) : Type 0 where

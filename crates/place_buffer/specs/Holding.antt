@@ -6,7 +6,8 @@ use mathlib.Core.List.{List}
 use lib.ListN.{length}
 use Rattle.definitions.specs.Location.{Location, normal, locations-in}
 use Rattle.place_buffer.specs.declared.Places.{Places}
-use Rattle.place_buffer.specs.Buffer.{Within, room, held, Valid}
+use Rattle.place_buffer.specs.Buffer.{room, held, Valid}
+use Rattle.place_lookup.specs.Lookup.{Within}
 
 -- the set p in s is that of the places xs, or is refused because that has more places than there is room
 pub record Holding (s : List ℕ) (p : Places) (xs : List Location) : Type 0 where

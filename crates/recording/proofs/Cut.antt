@@ -13,7 +13,8 @@ use Rattle.definitions.specs.Location.{Location, moved}
 use Rattle.definitions.specs.Blocks.{Block, Piece, cut, pieces, node-charge, entry-charge, charge}
 use Rattle.definitions.proofs.Views.{Le, le, lt-or-le}
 use Rattle.definitions.proofs.Tallied.{charge-append}
-use Rattle.recording.specs.Cut.{part, parts, piece-count, block-nodes}
+use Rattle.recording.specs.Cut.{part, parts}
+use Rattle.judging.specs.Judged.{piece-count, block-nodes}
 use Rattle.index_memory.proofs.Charges.{entry-max}
 use Rattle.index_memory.proofs.PieceBytes.{piece-path}
 

@@ -14,7 +14,8 @@ use Rattle.memory_header.specs.Layout.{Header, header-at, with-header}
 use Rattle.memory_header.specs.Opening.{Done, unless-refused}
 use Rattle.index_memory.specs.Log.{log-in}
 use Rattle.index_memory.specs.Index.{Index, opened, open-header, read-index}
-use Rattle.recording.specs.Record.{logged, appended, judged, grown, Fitting, record-by, record-memory}
+use Rattle.recording.specs.Record.{logged, appended, Fitting, record-by, record-memory}
+use Rattle.judging.specs.Judged.{judged, grown}
 use Rattle.recording.specs.Recorded.{recorded-as}
 use Rattle.recording.specs.declared.Recorded.{Recorded}
 use Rattle.recording.specs.declared.Recorded.the-variants.{Taken, Refused}

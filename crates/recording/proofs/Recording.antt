@@ -1,4 +1,4 @@
--- Recording a block by the header alone: the ways out of its checks, and the pieces as they are written. Assumes nothing.
+-- The pieces of a block as they are written, and the header that counts them. Assumes nothing.
 use Prim.Native.Nat.{ℕ, suc, _+_, _-_, _*_, _≤_, _<_, min}
 use native.Mathlib.Omega.{arith}
 use mathlib.Core.Path.{_≡_, refl, sym, ap, _∙_}
@@ -6,67 +6,20 @@ use mathlib.Core.Logic.{_⊎_, inl, inr}
 use mathlib.Core.List.{List}
 use lib.ListN.{length, take, drop, replicate, length-take, length-drop}
 use lib.Seq.{sets, length-sets, take-length, take-all}
-use borrow.Author.Tests.{lt-ltb, le-ltb, le-leb, lt-leb}
 use Rattle.words.specs.Words.{setLe64}
 use Rattle.definitions.specs.Location.{Location, moved, location-bytes}
 use Rattle.definitions.specs.Blocks.{Block, Piece, pieces, entry-charge}
-use Rattle.definitions.specs.Causes.{first-cause, refusal-of}
-use Rattle.definitions.specs.Calls.{Capacity, last-number, memory-checks}
 use Rattle.definitions.proofs.Views.{lt-or-le}
 use Rattle.tally.specs.Tallied.{recorded}
 use Rattle.index_memory.specs.Log.{piece-bytes, log-bytes}
-use Rattle.recording.specs.Cut.{part, parts, piece-count, block-nodes}
+use Rattle.judging.specs.Judged.{piece-count, block-nodes, grown}
+use Rattle.recording.specs.Cut.{part, parts}
 use Rattle.memory_header.specs.Answers.{header-of}
 use Rattle.header_tally.specs.Tallies.{tally-in, with-tally}
-use Rattle.recording.specs.Record.{grown}
 use Rattle.memory_header.specs.declared.Header as C
 use Rattle.recording.proofs.Cut.{pieces-parts}
 use Rattle.index_memory.proofs.PieceBytes.{piece-parts}
 use Rattle.index_memory.proofs.LogBytes.{log-sets}
-
--- ---- the ways out of the checks, each behind those before it
-
-module _ (c : Capacity) (nodes entries n : ℕ) (l : Location) where
-  abbrev answer : ℕ
-  answer = refusal-of (first-cause (memory-checks c nodes entries n l))
-
-  pub refused-4 : 4096 < n → 4 ≡ answer
-  refused-4 a = rw (lt-ltb 4096 n a)
-
-  module _ (a : n ≤ 4096) where
-    pub refused-5 : l .destroyed ≤ l .created → 5 ≡ answer
-    refused-5 b = rw (le-ltb 4096 n a, le-leb (l .destroyed) (l .created) b)
-
-    module _ (b : l .created < l .destroyed) where
-      pub refused-6 : last-number < l .address + n → 6 ≡ answer
-      refused-6 d = rw (le-ltb 4096 n a, lt-leb (l .destroyed) (l .created) b, lt-ltb last-number (l .address + n) d)
-
-      module _ (d : l .address + n ≤ last-number) where
-        pub refused-7 : c .nodes < nodes → 7 ≡ answer
-        refused-7 e = rw (le-ltb 4096 n a, lt-leb (l .destroyed) (l .created) b, le-ltb last-number (l .address + n) d, lt-ltb (c .nodes) nodes e)
-
-        module _ (e : nodes ≤ c .nodes) where
-          pub refused-8 : c .entries < entries → 8 ≡ answer
-          refused-8 f =
-              rw (
-                le-ltb 4096 n a,
-                lt-leb (l .destroyed) (l .created) b,
-                le-ltb last-number (l .address + n) d,
-                le-ltb (c .nodes) nodes e,
-                lt-ltb (c .entries) entries f,
-              )
-
-          pub not-refused : entries ≤ c .entries → 0 ≡ answer
-          not-refused f =
-              rw (
-                le-ltb 4096 n a,
-                lt-leb (l .destroyed) (l .created) b,
-                le-ltb last-number (l .address + n) d,
-                le-ltb (c .nodes) nodes e,
-                le-ltb (c .entries) entries f,
-              )
-
--- ---- the pieces as they are written
 
 -- a piece is written in four parts
 pub put-in-turn : (m₀ m₁ m₂ m₃ m₄ : List ℕ) (at : ℕ) (p : Piece) → length (p .bytes) ≤ 16

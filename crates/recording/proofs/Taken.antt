@@ -15,8 +15,8 @@ use Rattle.definitions.proofs.Taken.{passed}
 use Rattle.location.specs.Fits.{Fits}
 use Rattle.memory_header.specs.Layout.{Room}
 use Rattle.index_memory.specs.Index.{open-header}
-use Rattle.recording.specs.Cut.{piece-count, block-nodes}
-use Rattle.recording.specs.Record.{judged, grown, Fitting}
+use Rattle.judging.specs.Judged.{piece-count, block-nodes, judged, grown}
+use Rattle.recording.specs.Record.{Fitting}
 use Rattle.recording.specs.Promises.{ReadAppended}
 use Rattle.index_memory.proofs.Charges.{charge-count}
 use Rattle.recording.proofs.Cut.{pieces-nodes, pieces-entries, pieces-length}

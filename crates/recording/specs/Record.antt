@@ -5,15 +5,14 @@ use mathlib.Core.List.{List, _++_}
 use lib.ListN.{length}
 use lib.Seq.{sets}
 use lib.Dec.{eqb}
-use Rattle.definitions.specs.Location.{Location}
 use Rattle.definitions.specs.Blocks.{Block, Piece, pieces, memory-kind, entry-charge}
-use Rattle.definitions.specs.Causes.{first-cause, refusal-of}
-use Rattle.definitions.specs.Calls.{Capacity, header-size, data-limit, last-number, memory-checks, record-checks}
+use Rattle.definitions.specs.Causes.{first-cause}
+use Rattle.definitions.specs.Calls.{Capacity, header-size, data-limit, last-number, record-checks}
 use Rattle.memory_header.specs.Layout.{Header, logged-size, with-header}
 use Rattle.memory_header.specs.Opening.{Done, unless-refused}
 use Rattle.index_memory.specs.Log.{log-bytes}
 use Rattle.index_memory.specs.Index.{Index, open-header, standing-of, read-index}
-use Rattle.recording.specs.Cut.{piece-count, block-nodes}
+use Rattle.judging.specs.Judged.{piece-count, block-nodes}
 
 -- ── pieces behind a log ──
 
@@ -24,16 +23,6 @@ logged m h new = sets m (header-size + logged-size * h .payload) (log-bytes new)
 -- the pieces go behind the log, and the header counts them
 unfoldable pub appended : List ℕ → Capacity → List Piece → List Piece → List ℕ
 appended m c ps new = with-header (logged m (open-header c ps) new) (open-header c (ps ++ new))
-
--- ── a Memory block, by the header's value ──
-
--- the header that counts a block of n bytes behind the pieces that it counts
-abbrev pub grown : Header → ℕ → Header
-grown h n = record { capacity = h .capacity; phase = h .phase; nodes = h .nodes + block-nodes n; entries = h .entries + entry-charge n; payload = h .payload + piece-count n }
-
--- the number of the refusal of a block of n bytes at l, 0 where it is taken
-abbrev pub judged : Header → ℕ → Location → ℕ
-judged h n l = refusal-of (first-cause (memory-checks (h .capacity) (grown h n .nodes) (grown h n .entries) n l))
 
 -- a block that fits: the memory has room for its pieces behind the log, and the sums are small
 pub record Fitting (m : List ℕ) (h : Header) (b : Block) : Type 0 where

@@ -1,4 +1,4 @@
-// Recording into an open index: a block is judged, appended to the log, and the header put.
+// Recording into an open index: a block that is not refused is appended to the log, and the header put.
 use definitions::PIECE_SIZE;
 use location::SpacetimeLocation;
 use memory_header::HEADER_SIZE;
@@ -14,8 +14,9 @@ ghost use Rattle.memory_header.specs.Layout.{header-at};
 ghost use Rattle.memory_header.specs.Answers.{header-of};
 ghost use Rattle.index_memory.specs.Log.{piece-bytes, log-bytes, log-in};
 ghost use Rattle.index_memory.specs.Index.{read-index, opened};
-ghost use Rattle.recording.specs.Cut.{part, piece-count, block-nodes};
-ghost use Rattle.recording.specs.Record.{record-memory, judged, logged, grown, Fitting};
+ghost use Rattle.judging.specs.Judged.{piece-count, block-nodes, grown};
+ghost use Rattle.recording.specs.Cut.{part};
+ghost use Rattle.recording.specs.Record.{record-memory, logged, Fitting};
 ghost use Rattle.recording.specs.Recorded.{recorded-as};
 
 // ── recording: a block is judged, its pieces are appended, the header is put ──
@@ -24,14 +25,6 @@ ghost use Rattle.recording.specs.Recorded.{recorded-as};
 pub enum Recorded {
     Taken,
     Refused(u64),
-}
-
-// The nodes that the pieces of a block of n bytes charge together.
-fn block_nodes(n: usize) -> usize
-    requires { ⌜ n ≤ 4096 ⌝ }
-    ensures { λ r. ⌜ r ≡ block-nodes n ⌝ }
-{
-    n / PIECE_SIZE * 136 + index_memory::piece_nodes(n % PIECE_SIZE)
 }
 
 // How many pieces a block of n bytes has.
@@ -43,31 +36,6 @@ fn piece_count(n: usize) -> usize
         return 1;
     }
     (n + PIECE_SIZE - 1) / PIECE_SIZE
-}
-
-// The number of the refusal of a Memory block of n bytes behind the pieces that h counts, 0 where it is taken.
-pub fn judge(h: Header, n: usize, l: SpacetimeLocation) -> u64
-    requires { ⌜ (h .nodes ≤ h .«node_room») × (h .entries ≤ h .«entry_room») ⌝ }
-    ensures { λ r. ⌜ r ≡ judged (header-of h) n (plain l) ⌝ }
-{
-    if definitions::DATA_LIMIT < n {
-        return definitions::DATA_TOO_LONG;
-    }
-    if l.destroyed_at.0 <= l.created_at.0 {
-        return definitions::NO_LIFE;
-    }
-    if u64::MAX - (n as u64) < l.address.0 {
-        return definitions::ADDRESS_TOO_HIGH;
-    }
-    let nodes = block_nodes(n);
-    let entries = index_memory::entry_charge(n);
-    if h.node_room - h.nodes < nodes {
-        return definitions::TOO_MANY_NODES;
-    }
-    if h.entry_room - h.entries < entries {
-        return definitions::TOO_MANY_ENTRIES;
-    }
-    0
 }
 
 // Writes a piece to the 48 bytes from index at on: its length, its bytes, zeros up to 16 bytes, its location.
@@ -122,7 +90,7 @@ fn grown(h: Header, n: usize) -> Header
     requires { ⌜ (n ≤ 4096) × (h .nodes + block-nodes n < 2 ^ 64) × (h .entries + entry-charge n < 2 ^ 64) × (h .payload + piece-count n < 2 ^ 64) ⌝ }
     ensures { λ r. ⌜ header-of r ≡ grown (header-of h) n ⌝ }
 {
-    let nodes = block_nodes(n);
+    let nodes = judging::block_nodes(n);
     let entries = index_memory::entry_charge(n);
     header_tally::charged(h, nodes, entries, h.payload + piece_count(n))
 }
@@ -156,7 +124,7 @@ pub fn record_open(
     if kind != definitions::MEMORY_KIND as u64 {
         return Recorded::Taken;
     }
-    let refusal = judge(h, data.len(), l);
+    let refusal = judging::judge(h, data.len(), l);
     if refusal != 0 {
         return Recorded::Refused(refusal);
     }

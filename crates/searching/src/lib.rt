@@ -85,7 +85,7 @@ fn find_exactly(img: &[u8], q: &[u8], last: Node, ends: &mut [usize], scratch: &
     requires { ⌜ Sound (now img) × (1 < length (now q)) × Ending (now img) (last-of (now q)) last × (length (now q) < length (now ends)) ⌝ }
     ensures { λ r. ⌜ TableFound (rooted (now (img .entry))) (now (q .entry)) (now (scratch .entry)) (now (ends .exit)) (now (scratch .exit)) r ⌝ }
 {
-    let count = place_buffer::count_both(
+    let count = place_lookup::count_both(
         img,
         last.suffixes,
         last.suffix_count,

@@ -17,7 +17,7 @@ use Rattle.recording.specs.Record.{appended, record-memory}
 use Rattle.memory_header.proofs.Opening.{refused-leaves}
 use Rattle.saving.proofs.Theorems.{save-leaves, load-leaves}
 use Rattle.string_index.specs.Finish.{finished-by, finish-memory}
-use Rattle.string_index.specs.Search.{found-or-refused, search-memory}
+use Rattle.handing_over.specs.Search.{found-or-refused, search-memory}
 use Rattle.string_index.specs.Promises.{RefusedLeaves}
 
 open-leaves : (m : List ℕ) (c : Capacity) → (open-memory m c .refusal ≡ 0 → ⊥) → open-memory m c .memory ≡ m

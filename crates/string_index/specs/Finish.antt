@@ -1,4 +1,4 @@
--- Finish and search as functions on memory: the answer, and each lent slice afterwards. Assumes nothing.
+-- Finish as a function on memory: the answer, and the memory afterwards. Assumes nothing.
 use Prim.Native.Nat.{ℕ}
 use mathlib.Core.List.{List}
 use Rattle.definitions.specs.Causes.{first-cause}
@@ -7,8 +7,6 @@ use Rattle.trie.specs.Build.{trie-of}
 use Rattle.finished_memory.specs.Finished.{finished-memory}
 use Rattle.memory_header.specs.Opening.{Done, unless-refused}
 use Rattle.index_memory.specs.Index.{Index, broken, opened, finished, standing-of, read-index}
-
--- ── finish: the log becomes an image ──
 
 -- finishing again changes nothing
 abbrev pub finished-by : Index → List ℕ → List ℕ
@@ -21,5 +19,3 @@ finish-by i m = unless-refused (first-cause (finish-checks (standing-of i))) m (
 
 unfoldable pub finish-memory : List ℕ → Done
 finish-memory m = finish-by (read-index m) m
-
--- ── search ──

@@ -1,6 +1,3 @@
--- `Finish` and `Search` are the calls as functions on memory, `Answers` what the code answers, `Promises` what every call promises
--- where it is refused. Assumes nothing.
-pub mod Search
+-- `Finish` is the call as a function on memory, `Promises` what every call promises where it is refused. Assumes nothing.
 pub mod Finish
 pub mod Promises
-pub mod Answers

@@ -8,7 +8,7 @@ use Rattle.memory_header.specs.Opening.{open-memory}
 use Rattle.recording.specs.Record.{record-memory}
 use Rattle.saving.specs.Saving.{save-memory, load-memory}
 use Rattle.string_index.specs.Finish.{finish-memory}
-use Rattle.string_index.specs.Search.{search-memory}
+use Rattle.handing_over.specs.Search.{search-memory}
 
 -- a call that is refused leaves the lent memory, the row buffer and the save buffer as they were
 pub record RefusedLeaves : Type 0 where

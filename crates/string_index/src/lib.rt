@@ -1,25 +1,21 @@
 // The calls of the index. Each but opening inspects the lent memory first, so none asks anything of it.
+pub use handing_over::Answer;
+pub use handing_over::search;
 use inspecting::Held;
 use location::SpacetimeLocation;
 pub use memory_header::Outcome;
 pub use memory_header::open;
 pub use recording::Recorded;
-pub use row_buffer::Finding;
 pub use rows::Row;
 pub use saving::Saved;
 ghost use mathlib.Core.Path.{_≡_};
-ghost use lib.ListN.{length};
-ghost use Rattle.definitions.specs.Causes.{ScratchAfter};
 ghost use Rattle.location.specs.Plain.{plain};
 ghost use Rattle.recording.specs.Record.{record-memory};
 ghost use Rattle.recording.specs.Recorded.{recorded-as};
-ghost use Rattle.rows.specs.Rows.{numbers-of};
 ghost use Rattle.saving.specs.Saving.{save-memory, load-memory};
 ghost use Rattle.saving.specs.Answers.{saved-as};
 ghost use Rattle.memory_header.specs.Answers.{outcome-as};
 ghost use Rattle.string_index.specs.Finish.{finish-memory};
-ghost use Rattle.string_index.specs.Search.{search-memory};
-ghost use Rattle.string_index.specs.Answers.{answer-as};
 
 // Records a block: the bytes of one of kind Memory go into an open index.
 pub fn record(mem: &mut [u8], kind: u64, l: SpacetimeLocation, data: &[u8]) -> Recorded
@@ -46,34 +42,6 @@ pub fn finish(mem: &mut [u8]) -> Outcome
         }
         Held::Finished(_) => Outcome::Done,
     }
-}
-
-// How many rows are handed over, or the number of a refusal.
-pub enum Answer {
-    Rows(usize),
-    Refused(u64),
-}
-
-// What a search answers for what was found.
-fn answer_of(f: Finding) -> Answer
-    ensures { λ r. ⌜ r ≡ answer-as (f .refusal) (f .count) ⌝ }
-{
-    if f.refusal == 0 {
-        Answer::Rows(f.count)
-    } else {
-        Answer::Refused(f.refusal)
-    }
-}
-
-// The rows of a query, handed over in the slice that is lent for them; rows after the last stay.
-pub fn search(mem: &[u8], q: &[u8], scratch: &mut [u8], rows: &mut [Row]) -> Answer
-    ensures answer { λ r. ⌜ r ≡ answer-as (search-memory (now (mem .entry)) (now (q .entry)) (length (now (scratch .entry))) (numbers-of (now (rows .entry))) .refusal) (search-memory (now (mem .entry)) (now (q .entry)) (length (now (scratch .entry))) (numbers-of (now (rows .entry))) .count) ⌝ }
-    ensures rows { λ _. ⌜ numbers-of (now (rows .exit)) ≡ search-memory (now (mem .entry)) (now (q .entry)) (length (now (scratch .entry))) (numbers-of (now (rows .entry))) .buffer ⌝ }
-    ensures scratch { λ _. ⌜ ScratchAfter (search-memory (now (mem .entry)) (now (q .entry)) (length (now (scratch .entry))) (numbers-of (now (rows .entry))) .refusal) (now (scratch .entry)) (now (scratch .exit)) ⌝ }
-{
-    let f = finding::find(mem, q, scratch, rows.len());
-    rows::put_rows(rows, scratch, f.count);
-    answer_of(f)
 }
 
 // Saves the image of a finished index into the buffer.

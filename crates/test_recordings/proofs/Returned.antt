@@ -6,9 +6,9 @@ use mathlib.Core.List.{List, [], _∷_}
 use lib.ListN.{length, getD, replicate}
 use Rattle.rows.specs.declared.Row.{Row}
 use Rattle.rows.specs.Rows.{numbers-of}
-use Rattle.string_index.specs.declared.Answer.{Answer}
-use Rattle.string_index.specs.Search.{Found, search-memory}
-use Rattle.string_index.specs.Answers.{answer-as}
+use Rattle.handing_over.specs.declared.Answer.{Answer}
+use Rattle.handing_over.specs.Search.{Found, search-memory}
+use Rattle.handing_over.specs.Answers.{answer-as}
 use Rattle.test_recordings.specs.declared.Handed.{Handed}
 use Rattle.test_recordings.specs.Handed.{row-in, handed}
 

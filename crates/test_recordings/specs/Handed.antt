@@ -3,8 +3,8 @@ use Prim.Native.Nat.{ℕ, _+_, _*_}
 use mathlib.Core.List.{List}
 use lib.ListN.{getD}
 use Rattle.rows.specs.declared.Row.{Row}
-use Rattle.string_index.specs.Search.{Found}
-use Rattle.string_index.specs.Answers.{answer-as}
+use Rattle.handing_over.specs.Search.{Found}
+use Rattle.handing_over.specs.Answers.{answer-as}
 use Rattle.test_recordings.specs.declared.Handed.{Handed}
 
 -- the row at an index of a row buffer, three numbers each

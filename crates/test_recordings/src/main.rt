@@ -10,7 +10,7 @@ use string_index::Saved;
 ghost use mathlib.Core.Path.{_≡_};
 ghost use Prim.Native.Nat.{_+_, _*_, _<_, _≤_};
 ghost use lib.ListN.{length, replicate};
-ghost use Rattle.string_index.specs.Search.{search-memory};
+ghost use Rattle.handing_over.specs.Search.{search-memory};
 ghost use Rattle.test_recordings.specs.Counting.{counting-up};
 ghost use Rattle.test_recordings.specs.Handed.{handed};
 

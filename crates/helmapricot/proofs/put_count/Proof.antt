@@ -3,8 +3,8 @@ use mathlib.Core.Path.{sym, ap}
 use Prim.Native.Nat.{ℕ}
 use mathlib.Core.List.{List}
 use borrow.Author.Needs.{needs}
-use Rattle.string_index.specs.declared.Answer.{Answer}
-use Rattle.string_index.specs.Answers.{answer-number}
+use Rattle.handing_over.specs.declared.Answer.{Answer}
+use Rattle.handing_over.specs.Answers.{answer-number}
 use Rattle.helmapricot.specs.Counts.{count-after}
 use Rattle.helmapricot.proofs.put_count.Statement.{statement}
 use Rattle.helmapricot.proofs.put_count.Tie as tie

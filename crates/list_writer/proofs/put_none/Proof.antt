@@ -1,7 +1,8 @@
 -- `list_writer::put_none` meets its contract: a count of zero is an empty list. Assumes nothing.
 use native.Mathlib.Omega.{arith}
 use Rattle.list_writer.proofs.Copying.{copied-none}
-use Rattle.list_writer.proofs.Closing.{closed-few-places, written}
+use Rattle.list_writer.proofs.Closing.{written}
+use Rattle.list_closing.proofs.Closing.{closed-few-places}
 use borrow.Author.Needs.{needs}
 use Rattle.list_writer.proofs.put_none.Statement.{statement}
 use Rattle.list_writer.proofs.put_none.Tie as tie

@@ -4,7 +4,8 @@ use mathlib.Core.Path.{subst}
 use mathlib.Core.Bool.{Bool}
 use borrow.Author.Needs.{needs}
 use Rattle.location.specs.Plain.{plain}
-use Rattle.place_buffer.specs.Buffer.{There, held}
+use Rattle.place_buffer.specs.Buffer.{held}
+use Rattle.place_lookup.specs.Lookup.{There}
 use Rattle.place_buffer.proofs.Adding.{taken-there, taken-new}
 use Rattle.place_buffer.proofs.look_up.Statement.{statement}
 use Rattle.place_buffer.proofs.look_up.Tie as tie

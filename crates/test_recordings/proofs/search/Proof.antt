@@ -52,14 +52,14 @@ use Rattle.rows.specs.declared.Row.{Row}
 use Rattle.rows.specs.Rows.{numbers-of}
 use Rattle.rows.proofs.Row as T
 use Rattle.rows.proofs.Row.Laws as T′
-use Rattle.string_index.specs.declared.Answer.{Answer}
-use Rattle.string_index.specs.Answers.{answer-as}
-use Rattle.string_index.specs.Search.{Found, search-memory}
-use Rattle.string_index.proofs.Answer as E
-use Rattle.string_index.proofs.Answer.Laws as E′
-use Rattle.string_index.proofs.search as g
-use Rattle.string_index.proofs.search.Symbol as g-def
-use Rattle.string_index.proofs.search.Met as g-thm
+use Rattle.handing_over.specs.declared.Answer.{Answer}
+use Rattle.handing_over.specs.Answers.{answer-as}
+use Rattle.handing_over.specs.Search.{Found, search-memory}
+use Rattle.handing_over.proofs.Answer as E
+use Rattle.handing_over.proofs.Answer.Laws as E′
+use Rattle.handing_over.proofs.search as g
+use Rattle.handing_over.proofs.search.Symbol as g-def
+use Rattle.handing_over.proofs.search.Met as g-thm
 use Rattle.test_recordings.specs.declared.Handed.{Handed}
 use Rattle.test_recordings.specs.Handed.{handed}
 use Rattle.test_recordings.proofs.Handed.Laws as S′
@@ -69,7 +69,7 @@ use Rattle.test_recordings.proofs.Arrays.{R, mach, array-out, array-roo
 use Rattle.test_recordings.proofs.search as f
 use Rattle.test_recordings.proofs.search.Statement as stated
 use Rattle.test_recordings.proofs.search.Code as code
-use Rattle.string_index.proofs.search.Symbol.{name as #string-index·search}
+use Rattle.handing_over.proofs.search.Symbol.{name as #handing-over·search}
 use Rattle.test_recordings.proofs.search.Key.{name as #test-recordings·search}
 
 -- the rows of the types of the answer and of the result
@@ -197,7 +197,7 @@ module _ {M : Type 1} (𝓤 : URA M) (H : Heap 𝓤) (A : Atoms 𝓤) (W : Given
   within : (zs : List Row) → length zs ≡ 4 → k < length zs
   within zs e = subst (λ (m : ℕ). k < m) (sym e) in-array
 
-  module _ (C : Calls 𝓤 H) (Λ : Loops 𝓤 H) (fm : FmC 𝓤 H (W .laws) C) (known : Triple 𝓤 (C #string-index·search) (Callee 𝓤 H A at-mem run)) where
+  module _ (C : Calls 𝓤 H) (Λ : Loops 𝓤 H) (fm : FmC 𝓤 H (W .laws) C) (known : Triple 𝓤 (C #handing-over·search) (Callee 𝓤 H A at-mem run)) where
     walk : ent 𝓤 (onEntry 𝓤 H A f.signature (κm, (κq, (κs, tt))) (qm, (qq, (qs, tt))) arg vals) (WpFn 𝓤 H C Λ code.function (vm ∷ vq ∷ vs ∷ vint w64 k ∷ []) Post)
     walk =
         qed W ((‵ (flft κm qm) ⊛ ‵ (flft κq qq) ⊛ ‵ (flft κs qs) ⊛ ‵ ftrue) ∷ ‵ (owns (ShrSlice (named 0) κm u8 ∷ ShrSlice (named 1) κq u8 ∷ MutSlice (named 2) κs u8 ∷ usize ∷ []) arg vals) ∷ []) ∵
@@ -247,7 +247,7 @@ module _ {M : Type 1} (𝓤 : URA M) (H : Heap 𝓤) (A : Atoms 𝓤) (W : Given
         by ! (exits (result a (ws .1 .1 .1 .0)) (ws .1 .1 .0) (is-result a (ws .1 .1 .1 .0) v is is-r) (is-handed (z .now) (y .now) (length (x .now)) k (ws .1 .1 .1 .0) a (within (ws .1 .1 .1 .0) len′) e left) len)))))))))))))))))))))))))))))
 
 module _ {M : Type 1} (𝓤 : URA M) (H : Heap 𝓤) (A : Atoms 𝓤) (W : Given 𝓤 H A) (mem : Memory → SProp 𝓤) (run : Routine → Fun 𝓤) where
-  f-walks : (C : Calls 𝓤 H) (Λ : Loops 𝓤 H) → FmC 𝓤 H (W .laws) C → Triple 𝓤 (C #string-index·search) (Callee 𝓤 H A mem run) → Walks 𝓤 H A f.ended stayed (WpFn 𝓤 H C Λ code.function) (f.clauses 𝓤 H A mem run)
+  f-walks : (C : Calls 𝓤 H) (Λ : Loops 𝓤 H) → FmC 𝓤 H (W .laws) C → Triple 𝓤 (C #handing-over·search) (Callee 𝓤 H A mem run) → Walks 𝓤 H A f.ended stayed (WpFn 𝓤 H C Λ code.function) (f.clauses 𝓤 H A mem run)
   f-walks C Λ fm known = walked 𝓤 H A f.ended stayed (f.clauses 𝓤 H A mem run) (WpFn 𝓤 H C Λ code.function)
       (λ κs. (slice-vals, (slice-vals, (slice-vals, (uint-vals w64, tt))))) (λ κs. (shr-slice-tells (named 0) (κs .0) u8, (shr-slice-tells (named 1) (κs .1 .0) u8, (mut-slice-tells (named 2) (κs .1 .1 .0) u8, (uint-tells w64, tt)))))
       (λ κs qs bounds a _ are. needs 𝓤 (a .1 .1 .1 .0 < 4) _ (λ p.
@@ -256,7 +256,7 @@ module _ {M : Type 1} (𝓤 : URA M) (H : Heap 𝓤) (A : Atoms 𝓤) (W : Given
   goes : AllGo 𝓤 H A W 3 (f.signature .params) (f.ended .kept) stayed
   goes = (goes-dropped 𝓤 H A W 3 (shrSliceOf (0 ∷ []) tt (plain (λ _. u8))) yes (λ κs x f. refl), (goes-dropped 𝓤 H A W 3 (shrSliceOf (1 ∷ []) tt (plain (λ _. u8))) yes (λ κs x f. refl), (goes-gave-slice 𝓤 H A W 3 2 tt (plain (λ _. u8)), (goes-none 𝓤 H A W 3 (λ _. usize) yes (λ κs x f. refl), tt))))
 
-f-meets : {M : Type 1} (𝓤 : URA M) (H : Heap 𝓤) (A : Atoms 𝓤) → Given 𝓤 H A → (mem : Memory → SProp 𝓤) (run : Routine → Fun 𝓤) (𝓣 : Tables 𝓤 H) → Triple 𝓤 (𝓣 .C #string-index·search) (Callee 𝓤 H A mem run)
+f-meets : {M : Type 1} (𝓤 : URA M) (H : Heap 𝓤) (A : Atoms 𝓤) → Given 𝓤 H A → (mem : Memory → SProp 𝓤) (run : Routine → Fun 𝓤) (𝓣 : Tables 𝓤 H) → Triple 𝓤 (𝓣 .C #handing-over·search) (Callee 𝓤 H A mem run)
     → Meets 𝓤 H A f.signature (WpFn 𝓤 H (𝓣 .C) (𝓣 .Λ) code.function) (f.spec 𝓤 H A mem run)
 f-meets 𝓤 H A W mem run 𝓣 known =
     walk-meets 𝓤 H A f.ended stayed W (goes 𝓤 H A W mem run) (f.clauses 𝓤 H A mem run) (WpFn 𝓤 H (𝓣 .C) (𝓣 .Λ) code.function) (WpFn-mono 𝓤 H (W .laws) 𝓣 code.function) (f-walks 𝓤 H A W mem run (𝓣 .C) (𝓣 .Λ) (fmOf 𝓤 H (W .laws) 𝓣) known)
@@ -267,4 +267,4 @@ search-spec 𝓤 H 𝓜 𝓖 𝓡 =
     entered 𝓤 H (tripleOf 𝓤 H (𝓖 .A) f.signature (f.spec 𝓤 H (𝓖 .A) (𝓜 .mem) (𝓡 .run)))
     (tables 𝓤 H 𝓜 𝓡 code.env .C) (tables 𝓤 H 𝓜 𝓡 code.env .Λ) #test-recordings·search code.function (code.unfolded 𝓤 H 𝓜 𝓡)
     (f-meets 𝓤 H (𝓖 .A) (givenOf 𝓤 H 𝓜 𝓖) (𝓜 .mem) (𝓡 .run) (tablesOf 𝓤 H 𝓜 (tables 𝓤 H 𝓜 𝓡 code.env))
-    (cited 𝓤 H (Callee 𝓤 H (𝓖 .A) (𝓜 .mem) (𝓡 .run)) 𝓜 𝓡 code.env #string-index·search g-def.routine code.calls-string-index·search (g-thm.met 𝓤 H 𝓜 𝓖 𝓡)))
+    (cited 𝓤 H (Callee 𝓤 H (𝓖 .A) (𝓜 .mem) (𝓡 .run)) 𝓜 𝓡 code.env #handing-over·search g-def.routine code.calls-handing-over·search (g-thm.met 𝓤 H 𝓜 𝓖 𝓡)))

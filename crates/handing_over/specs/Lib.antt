@@ -1,0 +1,3 @@
+-- `Search` is the call as a function on memory, `Answers` what the code answers. Assumes nothing.
+pub mod Search
+pub mod Answers

@@ -1,0 +1,2 @@
+-- `Ways` has the ways out of the checks. Assumes nothing.
+pub mod Ways

@@ -1,0 +1,23 @@
+-- What the pieces of a block charge together, in closed form, and a Memory block judged by the header's value. Assumes nothing.
+use Prim.Native.Nat.{ℕ, _+_, _*_, _/_, _%_, max}
+use Rattle.definitions.specs.Location.{Location}
+use Rattle.definitions.specs.Blocks.{entry-charge}
+use Rattle.definitions.specs.Causes.{first-cause, refusal-of}
+use Rattle.definitions.specs.Calls.{memory-checks}
+use Rattle.memory_header.specs.Layout.{Header}
+
+-- how many pieces a block of n bytes has: one for 16 bytes or less, an empty block too
+abbrev pub piece-count : ℕ → ℕ
+piece-count n = max 1 ((n + 15) / 16)
+
+-- the nodes that they charge together; the entries are those of one piece of n bytes
+abbrev pub block-nodes : ℕ → ℕ
+block-nodes n = n / 16 * 136 + (n % 16) * (n % 16 + 1) / 2
+
+-- the header that counts a block of n bytes behind the pieces that it counts
+abbrev pub grown : Header → ℕ → Header
+grown h n = record { capacity = h .capacity; phase = h .phase; nodes = h .nodes + block-nodes n; entries = h .entries + entry-charge n; payload = h .payload + piece-count n }
+
+-- the number of the refusal of a block of n bytes at l, 0 where it is taken
+abbrev pub judged : Header → ℕ → Location → ℕ
+judged h n l = refusal-of (first-cause (memory-checks (h .capacity) (grown h n .nodes) (grown h n .entries) n l))

@@ -1,0 +1,2 @@
+-- `Judged` has what the contracts cite. Assumes nothing.
+pub mod Judged

@@ -1,0 +1,2 @@
+-- `Closing` has the laws of a list that is sorted and counted. Assumes nothing.
+pub mod Closing

@@ -1,0 +1,2 @@
+-- `Closed` says what the code leaves of a list. Assumes nothing.
+pub mod Closed

@@ -1,0 +1,2 @@
+-- `Lookup` has what the contracts cite. Assumes nothing.
+pub mod Lookup
