@@ -5,9 +5,10 @@ use mathlib.Core.Path.{_≡_, refl, sym, ap, subst, _∙_}
 use mathlib.Core.Bool.{Bool, true, false, _&&_, cond}
 use mathlib.Core.Option.{none, some}
 use mathlib.Core.List.{List, [], _∷_, _++_, append-nil, List·Memᴰ as Mem, List·Memᴰ·head as here, List·Memᴰ·tail as later, List·Memᴰ·not-nil as not-nil, List·Memᴰ·eq-of-singleton as only-one, Memᴰ·append-left as append-left, Memᴰ·append-right as append-right, Memᴰ·cast as cast}
-use lib.ListN.{getD}
+use lib.ListN.{length, getD}
 use lib.Dec.{eqb}
 use borrow.Author.Tests.{eq-eqb, ne-eqb, lt-ltb}
+use Rattle.words.specs.Words.{le64}
 use Rattle.words.proofs.Laws.{le64-lt}
 use Rattle.definitions.specs.Location.{Location, Sorted, meets, common, overlap, location-at, locations-in, Less}
 use Rattle.definitions.specs.Places.{joins}
@@ -19,7 +20,9 @@ use Rattle.place_buffer.specs.Buffer.{Valid, Taken}
 use Rattle.place_lookup.specs.Lookup.{Within}
 use Rattle.definitions.proofs.Locations.{locations-snoc}
 use Rattle.place_buffer.proofs.Adding.{taken-none, taken-same, taken-over, taken-more}
-use Rattle.joining.specs.Below.{From}
+use Rattle.joining.specs.declared.List.{List as Listing}
+use Rattle.joining.specs.Lists.{listed}
+use Rattle.joining.specs.Below.{From, FromKey}
 use Rattle.joining.proofs.Each.{joins-each-mem, mem-joins-each, none-joined}
 use Rattle.joining.proofs.Search.{sorted-behind, sorted-from, locations-first, locations-part, Parted}
 
@@ -111,6 +114,45 @@ module _ (img : List ℕ) (at key : ℕ) (l : Location) where
         let e : j ≡ n = omega arith in
         subst (λ (i : ℕ). JoinedTo img at key l s s′ p i r) e t
 
+-- ── the part of a list from the first location with an address on ──
+
+module _ (img : List ℕ) (n at key i : ℕ) (d : Parted img n at key i) where
+  abbrev rest : List Location
+  rest = locations-in img (n - i) (at + i * 24)
+
+  -- those below the key have another address
+  rest-same : (x : Location) → joins x key (locations-in img n at) ≡ joins x key rest
+  rest-same x =
+      let none : joins x key (locations-in img i at) ≡ [] = joins-none x key (locations-in img i at) (λ m j e. omega (arith, d .front m j)) in
+      ap (joins x key) (d .whole) ∙ joins-append x key (locations-in img i at) rest ∙ ap (λ (ls : List Location). ls ++ joins x key rest) none
+
+  -- and so have all where the first of the others has
+  rest-none : 0 < n - i → (le64 img (at + i * 24) ≡ key → ⊥) → (x : Location) → joins x key rest ≡ []
+  rest-none h ne x =
+      let first = locations-first img (n - i) (at + i * 24) h in
+      let more = locations-in img (n - i - 1) (at + i * 24 + 24) in
+      let least : key ≤ le64 img (at + i * 24) = d .behind (location-at img (at + i * 24)) (subst (Mem (location-at img (at + i * 24))) (sym first) (here refl)) in
+      joins-none x key rest (λ m j e. ne (omega (arith, sorted-from (location-at img (at + i * 24)) more (subst (Sorted Less) first (d .in-order)) m (subst (Mem m) first j))))
+
+  pub from-rest : at + n * 24 ≤ length img → FromKey img (record { at = at; count = n }) key (record { at = at + i * 24; count = n - i })
+  from-rest h = record { ascends = record { within = omega (arith, d .le); sorted = d .in-order }; from = d .behind; same = rest-same }
+
+  pub from-none : at + n * 24 ≤ length img → 0 < n - i → (le64 img (at + i * 24) ≡ key → ⊥) → FromKey img (record { at = at; count = n }) key (record { at = at + i * 24; count = 0 })
+  unfolding locations-in
+  from-none h l ne = record {
+    ascends = record { within = omega (arith, d .le); sorted = tt };
+    from = λ m j. absurd (not-nil j);
+    same = λ x. rest-same x ∙ rest-none l ne x;
+  }
+
+module _ {img : List ℕ} {list : Listing} {key : ℕ} {found : Listing} (f : FromKey img list key found) (x : Location) {s : List ℕ} {p : Places} where
+  pub found-joined : {s′ : List ℕ} {r : Places} → Taken s s′ p (joins x key (listed img found)) r → Taken s s′ p (joins x key (listed img list)) r
+  found-joined {s′} {r} t = subst (λ (ls : List Location). Taken s s′ p ls r) (sym (f .same x)) t
+
+  pub found-none : found .count ≡ 0 → Valid s p → Taken s s p (joins x key (listed img list)) p
+  unfolding locations-in
+  found-none e v = found-joined (subst (λ (ls : List Location). Taken s s p ls p) (sym (ap (λ (n : ℕ). joins x key (locations-in img n (found .at))) e)) (taken-none v))
+
 -- ── one place and the locations of a list ──
 
 -- what two have in common does not tell which came first
@@ -167,12 +209,3 @@ module _ (img : List ℕ) (n at : ℕ) (l : Location) {s : List ℕ} {p : Places
   location-far a b v h =
       let none : joins l a (locations-in img n at) ≡ [] = joins-none l a (locations-in img n at) (λ m i e. omega (arith, addresses-fit n img at b m i)) in
       subst (λ (ls : List Location). Taken s s p ls p) (sym none) (taken-none v)
-
-  -- those below the key are not gone through
-  pub at-rest : {s′ : List ℕ} {r : Places} (key i : ℕ) → Parted img n at key i → Taken s s′ p (joins l key (locations-in img (n - i) (at + i * 24))) r → Taken s s′ p (joins l key (locations-in img n at)) r
-  at-rest {s′} {r} key i d t =
-      let none : joins l key (locations-in img i at) ≡ [] = joins-none l key (locations-in img i at) (λ m j e. omega (arith, d .front m j)) in
-      let whole : joins l key (locations-in img n at) ≡ joins l key (locations-in img (n - i) (at + i * 24)) =
-      ap (joins l key) (d .whole) ∙ joins-append l key (locations-in img i at) (locations-in img (n - i) (at + i * 24))
-      ∙ ap (λ (ls : List Location). ls ++ joins l key (locations-in img (n - i) (at + i * 24))) none in
-      subst (λ (ls : List Location). Taken s s′ p ls r) (sym whole) t

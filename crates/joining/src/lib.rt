@@ -15,7 +15,7 @@ ghost use Rattle.location.specs.Plain.{plain};
 ghost use Rattle.trie.specs.Find.{joins-each};
 ghost use Rattle.place_buffer.specs.Buffer.{Valid, Taken};
 ghost use Rattle.joining.specs.Lists.{Inside, Ascends, listed, spanned};
-ghost use Rattle.joining.specs.Below.{below-count, From};
+ghost use Rattle.joining.specs.Below.{below-count, From, FromKey};
 
 // A list of locations in an image: so many from byte at on.
 pub struct List {
@@ -92,22 +92,21 @@ fn count_below(img: &[u8], list: List, key: u64) -> usize
     low
 }
 
-// Joins x to those of a sorted list that have the address key.
-fn join_at(
-    img: &[u8],
-    list: List,
-    key: u64,
-    x: SpacetimeLocation,
-    scratch: &mut [u8],
-    p: Places,
-) -> Places
-    requires { ⌜ Ascends (now img) list × Valid (now scratch) p ⌝ }
-    ensures { λ r. ⌜ Taken (now (scratch .entry)) (now (scratch .exit)) p (joins (plain x) key (listed (now (img .entry)) list)) r ⌝ }
+// A sorted list from its first location with the address key on; nothing of it where none has it.
+fn from_key(img: &[u8], list: List, key: u64) -> List
+    requires { ⌜ Ascends (now img) list ⌝ }
+    ensures { λ r. ⌜ FromKey (now (img .entry)) list key r ⌝ }
 {
     let first = count_below(img, list, key);
     let at = list.at + first * LOCATION_SIZE;
     let count = list.count - first;
-    join_equal(img, List { at, count }, key, x, scratch, p)
+    if count == 0 {
+        return List { at, count };
+    }
+    if words::get64(img, at) != key {
+        return List { at, count: 0 };
+    }
+    List { at, count }
 }
 
 // Joins the place m to those of a sorted list that end where it begins, k bytes further on.
@@ -127,7 +126,12 @@ fn join_place(
     if a < size {
         return p;
     }
-    join_at(img, list, a - size, m, scratch, p)
+    let key = a - size;
+    let found = from_key(img, list, key);
+    if found.count == 0 {
+        return p;
+    }
+    join_equal(img, found, key, m, scratch, p)
 }
 
 // Joins l, of k bytes, to those of a sorted list that begin where it ends.
@@ -147,7 +151,12 @@ fn join_location(
     if u64::MAX - a < size {
         return p;
     }
-    join_at(img, list, a + size, l, scratch, p)
+    let key = a + size;
+    let found = from_key(img, list, key);
+    if found.count == 0 {
+        return p;
+    }
+    join_equal(img, found, key, l, scratch, p)
 }
 
 // Joins a sorted list of locations of k bytes with the places of a span, which stands before the set.

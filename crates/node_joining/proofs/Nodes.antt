@@ -52,6 +52,13 @@ module _ (img : List ℕ) (k : ℕ) (ms : List Location) {s : List ℕ} {p : Pla
       → Taken s s₂ p (joins-each k (ended-in img e) ms) r
   joined-ended e {s₂ = s₂} {r = r} t u = subst (λ (ls : List Location). Taken s s₂ p ls r) (sym (each-append k (listed img (e .prefixes)) (listed img (e .chunks)) ms)) (taken-more t u)
 
+  -- the first is empty
+  pub joined-chunks : (e : Ended) {s₁ : List ℕ} {r : Places} → e .prefixes .count ≡ 0 → Taken s s₁ p (joins-each k (listed img (e .chunks)) ms) r → Taken s s₁ p (joins-each k (ended-in img e) ms) r
+  unfolding locations-in
+  joined-chunks e {s₁} {r} z t =
+      let none : listed img (e .prefixes) ≡ [] = ap (λ (n : ℕ). locations-in img n (e .prefixes .at)) z in
+      subst (λ (ls : List Location). Taken s s₁ p (joins-each k (ls ++ listed img (e .chunks)) ms) r) (sym none) t
+
   -- nothing ends there
   pub joined-none : (e : Ended) → EndsNothing e → Valid s p → Taken s s p (joins-each k (ended-in img e) ms) p
   unfolding locations-in

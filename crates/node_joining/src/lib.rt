@@ -52,12 +52,16 @@ fn ends_at(n: Node, front: bool) -> Ended
 }
 
 // Joins what ends at a node, k bytes long, with the places of a span, which stands before the set.
+// Inside a query there are no prefixes, and they cost no call then.
 fn join_node(img: &[u8], e: Ended, k: usize, behind: Span, scratch: &mut [u8], p: Places) -> Places
     requires { ⌜ EndedHere (now img) e × Valid (now scratch) p × (behind .from ≤ behind .to) × (behind .to ≤ p .base) ⌝ }
     ensures { λ r. ⌜ Taken (now (scratch .entry)) (now (scratch .exit)) p (joins-each k (ended-in (now (img .entry)) e) (spanned (now (scratch .entry)) behind)) r ⌝ }
 {
     let prefixes = e.prefixes;
     let chunks = e.chunks;
+    if prefixes.count == 0 {
+        return joining::filter_results(img, chunks, k, behind, scratch, p);
+    }
     let a = joining::filter_results(img, prefixes, k, behind, scratch, p);
     joining::filter_results(img, chunks, k, behind, scratch, a)
 }
