@@ -9,7 +9,7 @@ use lib.ListN.{length}
 use lib.Dec.{eqb}
 use Rattle.definitions.proofs.Views.{lt-or-le}
 use Rattle.lines.specs.Cut.{in-front, lines-of}
-use Rattle.line_answers.specs.Lines.{line-answer, lines-answer}
+use Rattle.form_answers.specs.Memory.{line-answer, lines-answer}
 use Rattle.answering.specs.Parts.{Kept, part, too-long, keeps, keeps-byte, kept-answer, kept-memory, end-answer, State, line-ended, still-kept, after-byte, after-bytes, at-start, output, all-of}
 use Rattle.answering.specs.Promises.{PartsAnswered}
 use Rattle.answering.proofs.Keeping.{keeps-fit, keeps-over, keeps-append, line-kept, memory-kept}

@@ -34,8 +34,7 @@ use Rattle.forms.proofs.Lines.{read-line-is}
 use Rattle.lines.specs.Cut.{lines-of}
 use Rattle.answering.specs.Program.{after-form, line-replies, program}
 use Rattle.replies.specs.Replies.{replies-bytes}
-use Rattle.form_answers.specs.Memory.{unless-number, found-replies, form-answer, memory-after-form}
-use Rattle.line_answers.specs.Lines.{line-answer, memory-after-line, lines-answer}
+use Rattle.form_answers.specs.Memory.{unless-number, found-replies, form-answer, memory-after-form, line-answer, memory-after-line, lines-answer}
 use Rattle.answering.specs.Parts.{part, output, all-of}
 use Rattle.answering.specs.Promises.{MemoryAnswers, PartsProgram}
 use Rattle.row_replies.proofs.PlaceReplies.{replies-append}

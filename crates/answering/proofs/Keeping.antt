@@ -11,7 +11,7 @@ use lib.Dec.{ltb}
 use borrow.Author.Tests.{lt-ltb, le-ltb}
 use Rattle.definitions.proofs.Views.{Lt, lt, lt-or-le}
 use Rattle.forms.specs.ReadLine.{read-line}
-use Rattle.line_answers.specs.Lines.{line-answer, memory-after-line}
+use Rattle.form_answers.specs.Memory.{line-answer, memory-after-line}
 use Rattle.answering.specs.Parts.{Kept, part, too-long, keeps-byte, keeps, kept-answer, kept-memory, end-answer, end-memory}
 use Rattle.answering.specs.Contracts.{kept-in, KeepsBehind}
 

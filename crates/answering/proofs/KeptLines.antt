@@ -7,13 +7,13 @@ use lib.ListN.{length, take}
 use borrow.Author.Tests.{lt-ltb, le-ltb}
 use Rattle.definitions.specs.Program.{refused}
 use Rattle.replies.specs.Written.{Written, reply-bytes}
-use Rattle.line_answers.specs.Lines.{line-answer, memory-after-line}
+use Rattle.form_answers.specs.Memory.{line-answer, memory-after-line}
 use Rattle.answering.specs.Parts.{Kept, part, too-long, keeps, kept-answer, kept-memory, end-answer, end-memory}
 use Rattle.answering.specs.Contracts.{kept-in}
 use Rattle.form_answers.specs.Answered.{AnsweredBy}
 use Rattle.answering.proofs.Keeping.{line-kept, memory-kept, end-kept}
 use Rattle.form_answers.proofs.Replying.{length-refused}
-use Rattle.line_answers.proofs.LineForms.{same}
+use Rattle.form_answers.proofs.LineForms.{same}
 
 module _ {out out′ m′ : List ℕ} {at r : ℕ} where
   -- what is kept is this

@@ -7,7 +7,7 @@ use lib.Dec.{ltb, eqb}
 use Rattle.definitions.specs.Causes.{number, no-form}
 use Rattle.definitions.specs.Program.{refused, line-limit}
 use Rattle.replies.specs.Written.{reply-bytes}
-use Rattle.line_answers.specs.Lines.{line-answer, memory-after-line}
+use Rattle.form_answers.specs.Memory.{line-answer, memory-after-line}
 use Rattle.form_answers.specs.Answered.{answer-limit}
 
 -- the bytes of an unfinished line, or that it is too long

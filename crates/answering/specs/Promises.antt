@@ -8,7 +8,7 @@ use Rattle.definitions.specs.Program.{program-capacity}
 use Rattle.lines.specs.Cut.{lines-of}
 use Rattle.memory_header.specs.Opening.{open-memory}
 use Rattle.answering.specs.Program.{program}
-use Rattle.line_answers.specs.Lines.{lines-answer}
+use Rattle.form_answers.specs.Memory.{lines-answer}
 use Rattle.answering.specs.Parts.{part, output, all-of}
 
 -- input in parts, however it was cut, is answered line by line

@@ -35,7 +35,7 @@ fn answer_kept(mem: &mut [u8], line: &[u8], n: usize, out: &mut [u8], at: usize)
     if LINE_LIMIT < n {
         return replies::put_refused(out, at, definitions::NO_FORM);
     }
-    line_answers::answer(mem, &line[..n], out, at)
+    form_answers::answer(mem, &line[..n], out, at)
 }
 
 // Answers a line, n bytes of which were kept, and whose last part is at hand. Nothing is copied where all of it is.
@@ -51,7 +51,7 @@ fn end_line(
     ensures { λ r. ⌜ AnsweredBy (now (out .entry)) at (kept-answer (now (mem .entry)) (keeps (kept-in (now (line .entry)) n) (now (part .entry)))) (kept-memory (now (mem .entry)) (keeps (kept-in (now (line .entry)) n) (now (part .entry)))) (now (out .exit)) (now (mem .exit)) r ⌝ }
 {
     if n == 0 {
-        return line_answers::answer(mem, part, out, at);
+        return form_answers::answer(mem, part, out, at);
     }
     let k = keep(line, n, part);
     answer_kept(mem, line, k, out, at)

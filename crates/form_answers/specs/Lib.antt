@@ -1,3 +1,3 @@
--- `Memory` is what forms are answered on the memory of an index, `Answered` what the contracts cite besides. Assumes nothing.
+-- `Memory` is the program `places` on the memory of an index, `Answered` what the contracts cite besides. Assumes nothing.
 pub mod Memory
 pub mod Answered

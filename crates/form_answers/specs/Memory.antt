@@ -1,7 +1,7 @@
--- What a form is answered by the calls on the memory of an index, and what it does to the memory. Assumes nothing.
+-- What a line is answered by the calls on the memory of an index, and what it does to the memory. Assumes nothing.
 use Prim.Native.Nat.{ℕ}
 use mathlib.Core.Bool.{cond}
-use mathlib.Core.List.{List, [], _∷_}
+use mathlib.Core.List.{List, [], _∷_, _++_}
 use mathlib.Core.Option.{Option, none, some}
 use lib.Dec.{eqb}
 use Rattle.definitions.specs.Causes.{number, no-form}
@@ -9,6 +9,8 @@ use Rattle.definitions.specs.Program.{Form, block, finish, find, Reply, taken, 
 use Rattle.recording.specs.Record.{record-memory}
 use Rattle.finding.specs.Find.{Rows-found, find-memory}
 use Rattle.string_index.specs.Finish.{finish-memory}
+use Rattle.forms.specs.ReadLine.{read-line}
+use Rattle.replies.specs.Replies.{replies-bytes}
 
 -- 256 places take 24 bytes of scratch each
 abbrev pub scratch-size : ℕ
@@ -35,3 +37,16 @@ memory-after-form m none = m
 memory-after-form m (some (block kind b)) = record-memory m kind b .memory
 memory-after-form m (some finish) = finish-memory m .memory
 memory-after-form m (some (find q)) = m
+
+-- the bytes of the answer to a line
+unfoldable pub line-answer : List ℕ → List ℕ → List ℕ
+line-answer m l = replies-bytes (form-answer m (read-line l))
+
+-- the memory after a line
+unfoldable pub memory-after-line : List ℕ → List ℕ → List ℕ
+memory-after-line m l = memory-after-form m (read-line l)
+
+-- the answers to lines, one after the other
+unfoldable pub lines-answer : List ℕ → List (List ℕ) → List ℕ
+lines-answer m [] = []
+lines-answer m (l ∷ ls) = line-answer m l ++ lines-answer (memory-after-line m l) ls

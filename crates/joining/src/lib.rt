@@ -69,7 +69,7 @@ fn join_equal(
     r
 }
 
-// So many where the address at byte p of img is below key, and else none. A number, so that the search does not branch.
+// So many where the address at byte p of img is below key, and else none: a step of the search by halves.
 fn so_many_below(img: &[u8], p: usize, key: u64, many: usize) -> usize
     requires { ⌜ p + 8 ≤ length (now img) ⌝ }
     ensures { λ r. ⌜ r ≡ cond (ltb (le64 (now (img .entry)) p) key) many 0 ⌝ }

@@ -15,9 +15,9 @@ use Rattle.saving.specs.Answers.{saved-as}
 use Rattle.saving.specs.declared.Saved.the-variants as S
 use Rattle.lines.specs.Cut.{line-end}
 use Rattle.replies.specs.Written.{Written, reply-bytes}
-use Rattle.line_answers.specs.Lines.{line-answer, memory-after-line}
+use Rattle.form_answers.specs.Memory.{line-answer, memory-after-line}
 use Rattle.form_answers.specs.Answered.{AnsweredBy}
-use Rattle.line_answers.proofs.Blocks.{take-limit}
+use Rattle.form_answers.proofs.Blocks.{take-limit}
 use Rattle.test_replay.specs.Replay.{is-word, image-line, save-line, save-answer, Replays, line-from, ReplaysNext}
 
 -- ── digits ──

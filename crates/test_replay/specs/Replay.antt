@@ -12,7 +12,7 @@ use Rattle.saving.specs.Saving.{Saving, save-memory}
 use Rattle.numerals.specs.Numerals.{starts}
 use Rattle.lines.specs.Cut.{line-end}
 use Rattle.replies.specs.Written.{Written, reply-bytes}
-use Rattle.line_answers.specs.Lines.{line-answer, memory-after-line}
+use Rattle.form_answers.specs.Memory.{line-answer, memory-after-line}
 
 -- whether a line is a word
 abbrev pub is-word : List ℕ → List ℕ → Bool

@@ -64,7 +64,7 @@ fn save(mem: &[u8], out: &mut [u8]) -> usize
     let mut image = [0u8; IMAGE_SIZE];
     match string_index::save(mem, &mut image) {
         Saved::Bytes(n) => {
-            let k = line_answers::at_most(n, IMAGE_SIZE);
+            let k = form_answers::at_most(n, IMAGE_SIZE);
             put_image(out, &image[..k])
         }
         Saved::Refused(n) => replies::put_refused(out, 0, n),
@@ -83,7 +83,7 @@ fn replay_line(mem: &mut [u8], line: &[u8], out: &mut [u8]) -> usize
     if is_word(line, b"(save)") {
         return save(mem, out);
     }
-    line_answers::answer(mem, line, out, 0)
+    form_answers::answer(mem, line, out, 0)
 }
 
 // Answers the line from index p on, and writes the answer out; where the next line begins, the input's end where writing fails.

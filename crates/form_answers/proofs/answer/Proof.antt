@@ -1,4 +1,4 @@
--- `line_answers::answer` meets its contract: the form that was read is answered. Assumes nothing.
+-- `form_answers::answer` meets its contract: the form that was read is answered. Assumes nothing.
 use Prim.Native.Nat.{ℕ}
 use native.Mathlib.Omega.{arith}
 use mathlib.Core.Path.{_≡_, refl, ap, subst, _∙_}
@@ -9,12 +9,12 @@ use denote.Ref.{now}
 use Rattle.forms.specs.ReadLine.{read-line}
 use Rattle.forms.specs.declared.Form.{Form}
 use Rattle.forms.specs.Answers.{Reads, bytes-of, form-in}
 use Rattle.form_answers.proofs.Replying.{answered-refused}
-use Rattle.line_answers.proofs.Blocks.{find-form, block-form}
-use Rattle.line_answers.proofs.LineForms.{line-by-form}
+use Rattle.form_answers.proofs.Blocks.{find-form, block-form}
+use Rattle.form_answers.proofs.LineForms.{line-by-form}
 use borrow.Author.Needs.{needs}
-use Rattle.line_answers.proofs.answer.Statement.{statement}
-use Rattle.line_answers.proofs.answer.Tie as tie
+use Rattle.form_answers.proofs.answer.Statement.{statement}
+use Rattle.form_answers.proofs.answer.Tie as tie
 
 -- the buffer has 512 bytes, and the answer and the buffer give the form of the line
 read-as : (l after : List ℕ) {r v : Form} → Reads l (replicate 512 0) r after → r ≡ v → (length after ≡ 512) × (form-in v after ≡ read-line l)

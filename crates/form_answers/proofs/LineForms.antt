@@ -6,9 +6,8 @@ use mathlib.Core.Option.{Option}
 use Rattle.definitions.specs.Program.{Form}
 use Rattle.forms.specs.ReadLine.{read-line}
 use Rattle.replies.specs.Replies.{replies-bytes}
-use Rattle.form_answers.specs.Memory.{form-answer, memory-after-form}
-use Rattle.line_answers.specs.Lines.{line-answer, memory-after-line}
+use Rattle.form_answers.specs.Memory.{form-answer, memory-after-form, line-answer, memory-after-line}
 use Rattle.form_answers.specs.Answered.{AnsweredBy}
 
 module _ {out out′ m′ : List ℕ} {at r : ℕ} where
   pub same : {a b m n : List ℕ} → a ≡ b → m ≡ n → AnsweredBy out at a m out′ m′ r → AnsweredBy out at b n out′ m′ r
