@@ -14,7 +14,7 @@ use Rattle.rows.proofs.Numbers.{length-numbers, numbers-put}
 use Rattle.row_buffer.specs.declared.Finding.{Finding}
 use Rattle.finding.specs.Find.{find-memory}
 use Rattle.handing_over.specs.Search.{Found, search-memory}
-use Rattle.handing_over.specs.Answers.{answer-as}
+use Rattle.handing_over.specs.Answers.{answer-as, answer-to}
 use Rattle.handing_over.proofs.Finding.{found-fit, handed-over, search-is-find}
 use Rattle.finding.proofs.FindCall.{Finds}
 
@@ -56,8 +56,8 @@ module _ (m q x : List ℕ) (rows : List Row) {s : List ℕ} {f : Finding} (foun
       ∙ ap (λ (room : ℕ). handed-over (find-memory m q (length x) room) (numbers-of rows)) e
       ∙ (λ i. record { refusal = sym refused i; count = sym counted i; buffer = sym handed i })
 
-  pub answered : answer-as (f .refusal) (f .count) ≡ answer-as (search-memory m q (length x) (numbers-of rows) .refusal) (search-memory m q (length x) (numbers-of rows) .count)
-  answered = ap (λ (g : Found). answer-as (g .refusal) (g .count)) (sym told)
+  pub answered : answer-as (f .refusal) (f .count) ≡ answer-to (search-memory m q (length x) (numbers-of rows))
+  answered = ap answer-to (sym told)
 
   pub left : numbers-of (rows-after s (f .count) rows) ≡ search-memory m q (length x) (numbers-of rows) .buffer
   unfolding buffer

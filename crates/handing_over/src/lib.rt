@@ -6,7 +6,7 @@ ghost use lib.ListN.{length};
 ghost use Rattle.definitions.specs.Causes.{ScratchAfter};
 ghost use Rattle.rows.specs.Rows.{numbers-of};
 ghost use Rattle.handing_over.specs.Search.{search-memory};
-ghost use Rattle.handing_over.specs.Answers.{answer-as};
+ghost use Rattle.handing_over.specs.Answers.{answer-as, answer-to};
 
 // How many rows are handed over, or the number of a refusal.
 pub enum Answer {
@@ -27,7 +27,7 @@ fn answer_of(f: Finding) -> Answer
 
 // The rows of a query, handed over in the slice that is lent for them; rows after the last stay.
 pub fn search(mem: &[u8], q: &[u8], scratch: &mut [u8], rows: &mut [Row]) -> Answer
-    ensures answer { λ r. ⌜ r ≡ answer-as (search-memory (now (mem .entry)) (now (q .entry)) (length (now (scratch .entry))) (numbers-of (now (rows .entry))) .refusal) (search-memory (now (mem .entry)) (now (q .entry)) (length (now (scratch .entry))) (numbers-of (now (rows .entry))) .count) ⌝ }
+    ensures answer { λ r. ⌜ r ≡ answer-to (search-memory (now (mem .entry)) (now (q .entry)) (length (now (scratch .entry))) (numbers-of (now (rows .entry)))) ⌝ }
     ensures rows { λ _. ⌜ numbers-of (now (rows .exit)) ≡ search-memory (now (mem .entry)) (now (q .entry)) (length (now (scratch .entry))) (numbers-of (now (rows .entry))) .buffer ⌝ }
     ensures scratch { λ _. ⌜ ScratchAfter (search-memory (now (mem .entry)) (now (q .entry)) (length (now (scratch .entry))) (numbers-of (now (rows .entry))) .refusal) (now (scratch .entry)) (now (scratch .exit)) ⌝ }
 {

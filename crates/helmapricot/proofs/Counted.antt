@@ -5,7 +5,7 @@ use mathlib.Core.List.{List}
 use Rattle.definitions.specs.Causes.{ScratchAfter}
 use Rattle.handing_over.specs.declared.Answer.{Answer}
 use Rattle.handing_over.specs.Search.{Found}
-use Rattle.handing_over.specs.Answers.{answer-as, answer-number}
+use Rattle.handing_over.specs.Answers.{answer-to, answer-number}
 use Rattle.helmapricot.specs.Counts.{put-unless-refused, count-after}
 use Rattle.helmapricot.proofs.Numbers.{answer-back}
 
@@ -16,7 +16,7 @@ pub record Counted (f : Found) (r : ℕ) (buffer cs cs′ x x′ : List ℕ) : T
   pub count : cs′ ≡ put-unless-refused (f .refusal) (f .count) cs
   pub scratch : ScratchAfter (f .refusal) x x′
 
-pub counted : (a : Answer) {f : Found} {buffer cs cs′ x x′ : List ℕ} {r : ℕ} → a ≡ answer-as (f .refusal) (f .count) → buffer ≡ f .buffer → ScratchAfter (f .refusal) x x′
+pub counted : (a : Answer) {f : Found} {buffer cs cs′ x x′ : List ℕ} {r : ℕ} → a ≡ answer-to f → buffer ≡ f .buffer → ScratchAfter (f .refusal) x x′
     → (r ≡ answer-number a) × (cs′ ≡ count-after a cs) → Counted f r buffer cs cs′ x x′
 counted a {f} {cs = cs} e b s p =
     let back = answer-back (f .refusal) (f .count) cs in

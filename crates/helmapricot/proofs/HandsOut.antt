@@ -43,7 +43,7 @@ use Rattle.rows.specs.Rows.{numbers-of}
 use Rattle.rows.proofs.Row as T
 use Rattle.handing_over.specs.declared.Answer.{Answer}
 use Rattle.handing_over.specs.Search.{Found}
-use Rattle.handing_over.specs.Answers.{answer-as, answer-number}
+use Rattle.handing_over.specs.Answers.{answer-to, answer-number}
 use Rattle.helmapricot.specs.Counts.{put-unless-refused, count-after}
 use Rattle.handing_over.proofs.Answer as E
 use Rattle.handing_over.proofs.Answer.Laws as E′
@@ -129,7 +129,7 @@ module _ {M : Type 1} (𝓤 : URA M) (𝓔 : Call) where
   call-clauses κs a = let f = 𝓔 .found (a .0 .now) (a .1 .0 .now) (length (a .1 .1 .0 .now)) (numbers-of (a .1 .1 .1 .0 .now)) in record {
     ghost = Unit {0};
     requires = λ _. emp 𝓤;
-    ensures = λ _ r e. sep 𝓤 (fact 𝓤 (r ≡ answer-as (f .refusal) (f .count))) (sep 𝓤 (fact 𝓤 (numbers-of (e .1 .1 .1 .0 .now) ≡ f .buffer)) (fact 𝓤 (ScratchAfter (f .refusal) (a .1 .1 .0 .now) (e .1 .1 .0 .now))));
+    ensures = λ _ r e. sep 𝓤 (fact 𝓤 (r ≡ answer-to f)) (sep 𝓤 (fact 𝓤 (numbers-of (e .1 .1 .1 .0 .now) ≡ f .buffer)) (fact 𝓤 (ScratchAfter (f .refusal) (a .1 .1 .0 .now) (e .1 .1 .0 .now))));
   }
 
   abbrev pub clauses : Clauses 𝓤 ended
@@ -265,8 +265,8 @@ module _ {M : Type 1} (𝓤 : URA M) (H : Heap 𝓤) (A : Atoms 𝓤) (W : Given
         -- [its pre; _11; …; _0; …; count; its token]
         calls-at ! fm (Search 𝓤 H A mem run 𝓔) known-search to-search (and-then ! (load ! (from ! (stop !)) (look ! 21 refl)) (and-then ! (load ! (from ! (stop !)) (look ! 19 refl)) (and-then ! (load ! (from ! (stop !)) (look ! 7 refl)) (and-then ! (load ! (from ! (stop !)) (look ! 3 refl)) (no-more !))))) (λ v.
         use1 W (later (some (λ (a : Answer). (Tokens ⊛ ‵ (ER .own a (v ∷ []))) ⊛ raw (ensured 𝓤 H A call-ended (call-clauses 𝓤 𝓔) (κm, (κq, (κs, (κr, tt)))) search-arg tt a)))) (id⊢ 𝓤 _) $ await ! tt $ pick ! (λ a.
-        split ! $ move ! (1 ∷ []) $ use1 W (some (λ (ws : Unit {0} × (Unit {0} × (List ℕ × (List Row × Unit {0})))). ‵ (lasts call-ended (κm, (κq, (κs, (κr, tt)))) search-arg ws) ⊛ (raw (fact 𝓤 (a ≡ answer-as (found .refusal) (found .count))) ⊛ (raw (fact 𝓤 (numbers-of (ws .1 .1 .1 .0) ≡ found .buffer)) ⊛ raw (fact 𝓤 (ScratchAfter (found .refusal) (x .now) (ws .1 .1 .0))))))) (id⊢ 𝓤 _) $ pick ! (λ ws.
-        split ! $ move ! (1 ∷ []) $ split ! $ heard ! (a ≡ answer-as (found .refusal) (found .count)) (λ e. split ! $ heard ! (numbers-of (ws .1 .1 .1 .0) ≡ found .buffer) (λ left. heard ! (ScratchAfter (found .refusal) (x .now) (ws .1 .1 .0)) (λ kept.
+        split ! $ move ! (1 ∷ []) $ use1 W (some (λ (ws : Unit {0} × (Unit {0} × (List ℕ × (List Row × Unit {0})))). ‵ (lasts call-ended (κm, (κq, (κs, (κr, tt)))) search-arg ws) ⊛ (raw (fact 𝓤 (a ≡ answer-to found)) ⊛ (raw (fact 𝓤 (numbers-of (ws .1 .1 .1 .0) ≡ found .buffer)) ⊛ raw (fact 𝓤 (ScratchAfter (found .refusal) (x .now) (ws .1 .1 .0))))))) (id⊢ 𝓤 _) $ pick ! (λ ws.
+        split ! $ move ! (1 ∷ []) $ split ! $ heard ! (a ≡ answer-to found) (λ e. split ! $ heard ! (numbers-of (ws .1 .1 .1 .0) ≡ found .buffer) (λ left. heard ! (ScratchAfter (found .refusal) (x .now) (ws .1 .1 .0)) (λ kept.
         fsplit ! $ drop ! $ fsplit ! $ drop ! $ fsplit ! $ fsplit ! $ move ! (1 ∷ []) $ feqL ! (λ len. move ! (1 ∷ []) $ fsplit ! $ fsplit ! $ move ! (1 ∷ []) $ feqL ! (λ len′.
         -- [the last rows; …; the last bytes; the tokens and the answer; _11; …; _0; …; count; its token]
         move ! (3 ∷ []) $ split ! $ move ! (1 ∷ []) $ peeks ! ER (Is ER) (shows 𝓤 H A ER) a (v ∷ []) (λ is. drop ! $

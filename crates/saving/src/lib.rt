@@ -14,7 +14,7 @@ ghost use Rattle.memory_header.specs.Answers.{header-of, outcome-as};
 ghost use Rattle.inspecting.specs.Held.{ImageIn};
 ghost use Rattle.finished_memory.specs.Room.{capacity-of};
 ghost use Rattle.saving.specs.Saving.{save-memory, load-memory};
-ghost use Rattle.saving.specs.Answers.{saved-as};
+ghost use Rattle.saving.specs.Answers.{saved-for};
 
 // How many bytes of the save buffer are the image, or a refusal.
 pub enum Saved {
@@ -25,7 +25,7 @@ pub enum Saved {
 // Saves the image of a finished index: h is the header of its memory.
 pub fn save_finished(mem: &[u8], h: Header, out: &mut [u8]) -> Saved
     requires { ⌜ ImageIn (now mem) (header-of h) × (read-index (now mem) ≡ finished (header-of h .capacity) (trie-in (image-part (now mem) (header-of h)))) ⌝ }
-    ensures answer { λ r. ⌜ r ≡ saved-as (save-memory (now (mem .entry)) (now (out .entry)) .refusal) (save-memory (now (mem .entry)) (now (out .entry)) .size) ⌝ }
+    ensures answer { λ r. ⌜ r ≡ saved-for (save-memory (now (mem .entry)) (now (out .entry))) ⌝ }
     ensures buffer { λ _. ⌜ now (out .exit) ≡ save-memory (now (mem .entry)) (now (out .entry)) .buffer ⌝ }
 {
     let s = &mem[HEADER_SIZE..HEADER_SIZE + h.payload];

@@ -13,7 +13,7 @@ ghost use Rattle.location.specs.Plain.{plain};
 ghost use Rattle.recording.specs.Record.{record-memory};
 ghost use Rattle.recording.specs.Recorded.{recorded-as};
 ghost use Rattle.saving.specs.Saving.{save-memory, load-memory};
-ghost use Rattle.saving.specs.Answers.{saved-as};
+ghost use Rattle.saving.specs.Answers.{saved-for};
 ghost use Rattle.memory_header.specs.Answers.{outcome-as};
 ghost use Rattle.string_index.specs.Finish.{finish-memory};
 
@@ -46,7 +46,7 @@ pub fn finish(mem: &mut [u8]) -> Outcome
 
 // Saves the image of a finished index into the buffer.
 pub fn save(mem: &[u8], out: &mut [u8]) -> Saved
-    ensures answer { λ r. ⌜ r ≡ saved-as (save-memory (now (mem .entry)) (now (out .entry)) .refusal) (save-memory (now (mem .entry)) (now (out .entry)) .size) ⌝ }
+    ensures answer { λ r. ⌜ r ≡ saved-for (save-memory (now (mem .entry)) (now (out .entry))) ⌝ }
     ensures buffer { λ _. ⌜ now (out .exit) ≡ save-memory (now (mem .entry)) (now (out .entry)) .buffer ⌝ }
 {
     match inspecting::inspect(mem) {

@@ -8,7 +8,7 @@ use Rattle.rows.specs.declared.Row.{Row}
 use Rattle.rows.specs.Rows.{numbers-of}
 use Rattle.handing_over.specs.declared.Answer.{Answer}
 use Rattle.handing_over.specs.Search.{Found, search-memory}
-use Rattle.handing_over.specs.Answers.{answer-as}
+use Rattle.handing_over.specs.Answers.{answer-to}
 use Rattle.test_recordings.specs.declared.Handed.{Handed}
 use Rattle.test_recordings.specs.Handed.{row-in, handed}
 
@@ -39,7 +39,7 @@ module _ (m q : List ℕ) (scratch k : ℕ) (rs : List Row) (a : Answer) where
   abbrev found : List ℕ → Found
   found ns = search-memory m q scratch ns
 
-  pub is-handed : k < length rs → a ≡ answer-as (found (numbers-of (replicate 4 before)) .refusal) (found (numbers-of (replicate 4 before)) .count) → numbers-of rs ≡ found (numbers-of (replicate 4 before)) .buffer
+  pub is-handed : k < length rs → a ≡ answer-to (found (numbers-of (replicate 4 before))) → numbers-of rs ≡ found (numbers-of (replicate 4 before)) .buffer
       → _≡_ {A = Handed} (record { answer = a; row = getD rs k before }) (handed (found (replicate 12 7)) k)
   is-handed h e left =
       let p : getD rs k before ≡ row-in (found (numbers-of (replicate 4 before)) .buffer) k = row-at rs k h ∙ ap (λ (ns : List ℕ). row-in ns k) left in

@@ -4,7 +4,7 @@ use mathlib.Core.List.{List}
 use lib.ListN.{getD}
 use Rattle.rows.specs.declared.Row.{Row}
 use Rattle.handing_over.specs.Search.{Found}
-use Rattle.handing_over.specs.Answers.{answer-as}
+use Rattle.handing_over.specs.Answers.{answer-to}
 use Rattle.test_recordings.specs.declared.Handed.{Handed}
 
 -- the row at an index of a row buffer, three numbers each
@@ -13,4 +13,4 @@ row-in ns at = record { address = getD ns (at * 3) 0; «created_at» = getD ns (
 
 -- the answer, and the row at an index
 abbrev pub handed : Found → ℕ → Handed
-handed f at = record { answer = answer-as (f .refusal) (f .count); row = row-in (f .buffer) at }
+handed f at = record { answer = answer-to f; row = row-in (f .buffer) at }

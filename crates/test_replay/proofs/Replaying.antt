@@ -11,7 +11,7 @@ use lib.Dec.{eqb}
 use Rattle.definitions.specs.Program.{text, hex, hex-digit, refused, program-capacity}
 use Rattle.memory_header.specs.Opening.{open-memory}
 use Rattle.saving.specs.Saving.{Saving}
-use Rattle.saving.specs.Answers.{saved-as}
+use Rattle.saving.specs.Answers.{saved-for}
 use Rattle.saving.specs.declared.Saved.the-variants as S
 use Rattle.lines.specs.Cut.{line-end}
 use Rattle.replies.specs.Written.{Written, reply-bytes}
@@ -44,7 +44,7 @@ hex-all s i e = ap hex (ap (λ (n : ℕ). take n s) e ∙ take-length s)
 -- ── a save ──
 
 module _ (s : Saving) where
-  pub saved-line : (n k : ℕ) (image : List ℕ) → S.Bytes n ≡ saved-as (s .refusal) (s .size) → image ≡ s .buffer → length image ≡ 73600 → k ≡ min n 73600 → image-line (take k image) ≡ save-line s
+  pub saved-line : (n k : ℕ) (image : List ℕ) → S.Bytes n ≡ saved-for s → image ≡ s .buffer → length image ≡ 73600 → k ≡ min n 73600 → image-line (take k image) ≡ save-line s
   saved-line n k image e f h g =
       ap (λ (x : ℕ). image-line (take x image)) g ∙ ap image-line (take-limit n 73600 image h) ∙ ap (λ (x : List ℕ). image-line (take n x)) f ∙ go (eqb (s .refusal) 0) e
     where
@@ -54,7 +54,7 @@ module _ (s : Saving) where
           ap (λ (x : ℕ). image-line (take x (s .buffer))) i
       go false k = absurd (let z : _≡_ {A = ℕ} 0 1 = cc in omega arith)
 
-  pub refused-line : (n : ℕ) → S.Refused n ≡ saved-as (s .refusal) (s .size) → reply-bytes (refused n) ≡ save-line s
+  pub refused-line : (n : ℕ) → S.Refused n ≡ saved-for s → reply-bytes (refused n) ≡ save-line s
   refused-line n e = go (eqb (s .refusal) 0) e
     where
       go : (o : Bool) → S.Refused n ≡ cond o (S.Bytes (s .size)) (S.Refused (s .refusal)) → reply-bytes (refused n) ≡ cond o (image-line (take (s .size) (s .buffer))) (reply-bytes (refused (s .refusal)))

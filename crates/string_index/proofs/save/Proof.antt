@@ -4,7 +4,7 @@ use borrow.Author.Needs.{needs}
 use denote.Ref.{now}
 use Rattle.inspecting.specs.Held.{Inspects}
 use Rattle.saving.specs.Saving.{Saving}
-use Rattle.saving.specs.Answers.{saved-as}
+use Rattle.saving.specs.Answers.{saved-for}
 use Rattle.saving.proofs.Laws.{save-as}
 use Rattle.string_index.proofs.save.Statement.{statement}
 use Rattle.string_index.proofs.save.Tie as tie
@@ -23,7 +23,7 @@ returns c =
     let a = c₂ .before .before .before .args in
     let w = subst (Inspects (now (a .mem))) (c .enum-told .given .1) (c₂ .inspect .ensures) in
     let e = save-as (now (a .mem)) (now (a .out)) _ (w .holds) in
-    (ap (λ (f : Saving). saved-as (f .refusal) (f .size)) e, ap (λ (f : Saving). f .buffer) e)
+    (ap saved-for e, ap (λ (f : Saving). f .buffer) e)
 
 returns-2 : tie.Need-returns-2
 returns-2 c =
@@ -31,7 +31,7 @@ returns-2 c =
     let a = c₂ .before .before .before .args in
     let w = subst (Inspects (now (a .mem))) (c .enum-told2 .given .1) (c₂ .inspect .ensures) in
     let e = save-as (now (a .mem)) (now (a .out)) _ (w .holds) in
-    (ap (λ (f : Saving). saved-as (f .refusal) (f .size)) e, ap (λ (f : Saving). f .buffer) e)
+    (ap saved-for e, ap (λ (f : Saving). f .buffer) e)
 
 returns-3 : tie.Need-returns-3
 returns-3 c =

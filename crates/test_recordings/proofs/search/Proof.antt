@@ -53,7 +53,7 @@ use Rattle.rows.specs.Rows.{numbers-of}
 use Rattle.rows.proofs.Row as T
 use Rattle.rows.proofs.Row.Laws as T′
 use Rattle.handing_over.specs.declared.Answer.{Answer}
-use Rattle.handing_over.specs.Answers.{answer-as}
+use Rattle.handing_over.specs.Answers.{answer-to}
 use Rattle.handing_over.specs.Search.{Found, search-memory}
 use Rattle.handing_over.proofs.Answer as E
 use Rattle.handing_over.proofs.Answer.Laws as E′
@@ -222,8 +222,8 @@ module _ {M : Type 1} (𝓤 : URA M) (H : Heap 𝓤) (A : Atoms 𝓤) (W : Given
         -- [its pre; the lender's part; _15; …; _7; …; that _6 dies; _5; …; _0; …]
         calls-at ! fm (Callee 𝓤 H A at-mem run) known (to-g l₆ ν δ) (and-then ! (load ! (from ! (stop !)) (look ! 29 refl)) (and-then ! (load ! (from ! (stop !)) (look ! 27 refl)) (and-then ! (load ! (from ! (stop !)) (look ! 14 refl)) (and-then ! (load ! (from ! (stop !)) (look ! 10 refl)) (no-more !))))) (λ v.
         use1 W (later (some (λ (a : Answer). (Tokens ν ⊛ ‵ (ER .own a (v ∷ []))) ⊛ raw (ensured 𝓤 H A g.ended (g.clauses 𝓤 H A at-mem run) (κm, (κq, (κs, (ν ∷ [], tt)))) (g-arg l₆ δ) tt a)))) (id⊢ 𝓤 _) $ await ! tt $ pick ! (λ a.
-        split ! $ move ! (1 ∷ []) $ use1 W (some (λ (ws : Unit {0} × (Unit {0} × (List ℕ × (List Row × Unit {0})))). ‵ (lasts g.ended (κm, (κq, (κs, (ν ∷ [], tt)))) (g-arg l₆ δ) ws) ⊛ (raw (fact 𝓤 (a ≡ answer-as (found .refusal) (found .count))) ⊛ (raw (fact 𝓤 (numbers-of (ws .1 .1 .1 .0) ≡ found .buffer)) ⊛ raw (fact 𝓤 (ScratchAfter (found .refusal) (x .now) (ws .1 .1 .0))))))) (id⊢ 𝓤 _) $ pick ! (λ ws.
-        split ! $ move ! (1 ∷ []) $ split ! $ heard ! (a ≡ answer-as (found .refusal) (found .count)) (λ e. split ! $ heard ! (numbers-of (ws .1 .1 .1 .0) ≡ found .buffer) (λ left. heard ! (ScratchAfter (found .refusal) (x .now) (ws .1 .1 .0)) (λ kept.
+        split ! $ move ! (1 ∷ []) $ use1 W (some (λ (ws : Unit {0} × (Unit {0} × (List ℕ × (List Row × Unit {0})))). ‵ (lasts g.ended (κm, (κq, (κs, (ν ∷ [], tt)))) (g-arg l₆ δ) ws) ⊛ (raw (fact 𝓤 (a ≡ answer-to found)) ⊛ (raw (fact 𝓤 (numbers-of (ws .1 .1 .1 .0) ≡ found .buffer)) ⊛ raw (fact 𝓤 (ScratchAfter (found .refusal) (x .now) (ws .1 .1 .0))))))) (id⊢ 𝓤 _) $ pick ! (λ ws.
+        split ! $ move ! (1 ∷ []) $ split ! $ heard ! (a ≡ answer-to found) (λ e. split ! $ heard ! (numbers-of (ws .1 .1 .1 .0) ≡ found .buffer) (λ left. heard ! (ScratchAfter (found .refusal) (x .now) (ws .1 .1 .0)) (λ kept.
         fsplit ! $ drop ! $ fsplit ! $ drop ! $ fsplit ! $ fsplit ! $ move ! (1 ∷ []) $ feqL ! (λ len. move ! (1 ∷ []) $ fsplit ! $ fsplit ! $ move ! (1 ∷ []) $ feqL ! (λ len′.
         -- [the last rows; …; the last bytes; the tokens and the answer; the lender's part; _15; …]
         move ! (3 ∷ []) $ split ! $ move ! (1 ∷ []) $ peeks ! ER (Is ER) (shows 𝓤 H A ER) a (v ∷ []) (λ is. drop ! $
