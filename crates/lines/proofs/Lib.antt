@@ -1,2 +1,2 @@
--- `Cutting` has the laws of lines. Assumes nothing.
-pub mod Cutting
+-- `LineEnds` has where a line ends. Assumes nothing.
+pub mod LineEnds

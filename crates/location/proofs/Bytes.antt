@@ -6,7 +6,7 @@ use mathlib.Core.Logic.{_⊎_, inl, inr}
 use mathlib.Core.List.{List, _++_}
 use lib.ListN.{length, getD, length-append}
 use lib.Seq.{sets}
-use Rattle.words.specs.Words.{le64, setLe64, bytes64}
+use Rattle.words.specs.Words.{setLe64, bytes64}
 use Rattle.words.proofs.Laws.{length-setLe64, le64-setLe64, le64-setLe64-other, le64-lt}
 use Rattle.words.proofs.Parts.{sets-append, length-bytes64, setLe64-sets, le64-sets-other}
 use Rattle.definitions.proofs.Order.{location-path}
@@ -60,11 +60,6 @@ module _ (xs : List ℕ) (at : ℕ) (l : Location) where
       ∙ le64-setLe64 xs at (l .address) (omega arith) (f .address))
       (le64-setLe64-other xs₂ (at + 16) (l .destroyed) (at + 8) (inl (omega arith)) ∙ le64-setLe64 xs₁ (at + 8) (l .created) (omega arith) (f .created))
       (le64-setLe64 xs₂ (at + 16) (l .destroyed) (omega arith) (f .destroyed)))
-
-  -- what lies elsewhere is as it was
-  pub location-elsewhere : (p : ℕ) → (p + 24 ≤ at) ⊎ (at + 24 ≤ p) → location-at (sets xs at (location-bytes l)) p ≡ location-at xs p
-  location-elsewhere p (inl h) = location-other (location-bytes l) xs at p (inl h)
-  location-elsewhere p (inr h) = location-other (location-bytes l) xs at p (inr (omega (arith, length-location l)))
 
 -- what is read from bytes fits
 pub location-fits : (xs : List ℕ) (at : ℕ) → ((k : ℕ) → getD xs k 0 < 256) → Fits (location-at xs at)

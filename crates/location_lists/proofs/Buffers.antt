@@ -89,15 +89,6 @@ module _ (lists : List ℕ) (count at n : ℕ) where
       go true = refl
       go false = length-both
 
-  -- numbers of the lists that were there are as they were
-  pub with-list-below : (j : ℕ) → j < count * 2 → getD (with-list lists count at n) j 0 ≡ getD lists j 0
-  unfolding both-set
-  with-list-below j h = go (eqb n 0)
-    where
-      go : (o : Bool) → getD (cond o lists both-set) j 0 ≡ getD lists j 0
-      go true = refl
-      go false = below-set j h
-
 pub count-with-le : (count n : ℕ) → count-with count n ≤ count + 1
 count-with-le count n = go (eqb n 0)
   where

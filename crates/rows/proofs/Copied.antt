@@ -9,10 +9,6 @@ use Rattle.definitions.specs.Location.{location-at, locations-in}
 use Rattle.rows.specs.declared.Row.{Row}
 use Rattle.rows.specs.Rows.{row-of, rows-of}
 
--- rows with the same three numbers
-pub row-path : {a b d x y z : ℕ} → a ≡ x → b ≡ y → d ≡ z → _≡_ {A = Row} (record { address = a; «created_at» = b; «destroyed_at» = d }) (record { address = x; «created_at» = y; «destroyed_at» = z })
-row-path e f g = λ i. record { address = e i; «created_at» = f i; «destroyed_at» = g i }
-
 -- row i of those at the front of bytes
 abbrev pub row-in : List ℕ → ℕ → Row
 row-in s i = row-of (location-at s (i * 24))

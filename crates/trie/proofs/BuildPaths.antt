@@ -4,7 +4,7 @@ use native.Mathlib.Nat.{not-suc-le-zero, le-of-suc-le-suc}
 use native.Mathlib.Omega.{arith}
 use mathlib.Core.Path.{_≡_, refl, sym, ap, _∙_, subst}
 use mathlib.Core.Bool.{Bool, true, false, cond}
-use mathlib.Core.Logic.{_⊎_, inl, inr, _↔_}
+use mathlib.Core.Logic.{_⊎_, inl, inr}
 use mathlib.Core.List.{List, [], _∷_, _++_, List·Memᴰ as Mem, List·Memᴰ·head as here, List·Memᴰ·tail as later, List·Memᴰ·cases-cons as split, List·Memᴰ·not-nil as not-nil, List·Memᴰ·eq-of-singleton as only-one, List·Memᴰ·append-cases as append-cases, Memᴰ·append-left as append-left, Memᴰ·append-right as append-right, Memᴰ·cast as cast}
 use mathlib.Core.Option.{Option, none, some}
 use lib.ListN.{length}
@@ -261,9 +261,6 @@ node-is d u es m e = go u e
         let h : some m ≡ some (build (d - length (b ∷ v)) (down (b ∷ v) es)) = sym f ∙ g in
         cc
 
-pub through-node : (d : ℕ) (u : List ℕ) (es : List Entry) → length u ≤ d → Through es u → IsNode (build d es) u
-through-node d u es h t = record { node = build (d - length u) (down u es); there = node-there d u es h t }
-
 -- the lists at a path are those of what goes on from there
 pub lists-at-build : (d : ℕ) (u : List ℕ) (es : List Entry) → length u ≤ d → lists-at (build d es) u ≡ lists-of (down u es)
 lists-at-build d [] es h = ap (λ (n : Node). n .lists) (made d)
@@ -277,15 +274,3 @@ lists-at-build d (b ∷ u) es h = ap lists-or-none (node-at-build d (b ∷ u) es
     here-lists k [] = refl
     here-lists zero (x ∷ xs) = refl
     here-lists (suc k) (x ∷ xs) = refl
-
--- no node stands at a path exactly if it has bytes and no entry's path begins with it
-pub no-node : (d : ℕ) (u : List ℕ) (es : List Entry) → length u ≤ d → (node-at (build d es) u ≡ none) ↔ ((0 < length u) × (Through es u → ⊥))
-no-node d u es h = (λ e. (some-bytes u e, λ t. none-not-some (sym e ∙ node-there d u es h t)), λ k. none-there (down u es) refl (k .0) (k .1))
-  where
-    some-bytes : (v : List ℕ) → node-at (build d es) v ≡ none → 0 < length v
-    some-bytes [] e = absurd (none-not-some (sym e))
-    some-bytes (b ∷ v) e = omega arith
-
-    none-there : (xs : List Entry) → down u es ≡ xs → 0 < length u → (Through es u → ⊥) → node-at (build d es) u ≡ none
-    none-there [] e p n = node-at-build d u es p h ∙ ap (node-or-none (d - length u)) e
-    none-there (x ∷ xs) e p n = absurd (n (record { rest = x; listed = down-mem u es (subst (λ (ys : List Entry). Mem x ys) (sym e) (here refl)) }))

@@ -7,7 +7,7 @@ use lib.ListN.{length}
 use denote.Ref.{now}
 use borrow.Author.Needs.{needs}
 use Rattle.lines.specs.Cut.{line-end, Ends}
-use Rattle.lines.proofs.Cutting.{line-ends}
+use Rattle.lines.proofs.LineEnds.{line-ends}
 use Rattle.answering.specs.Contracts.{begun}
 use Rattle.answering.proofs.Feeding.{Going, going-start, going-done, going-kept, going-on, going-full}
 use Rattle.answering.proofs.answer_lines.Statement.{statement}

@@ -5,7 +5,7 @@ use mathlib.Core.Path.{_≡_, refl, _∙_}
 use lib.ListN.{length}
 use denote.Ref.{now}
 use Rattle.lines.specs.Cut.{line-end}
-use Rattle.lines.proofs.Cutting.{end-out, end-here, end-on}
+use Rattle.lines.proofs.LineEnds.{end-out, end-here, end-on}
 use Rattle.lines.proofs.line_end.Statement.{statement}
 use Rattle.lines.proofs.line_end.Tie as tie
 

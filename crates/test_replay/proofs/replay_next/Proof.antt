@@ -6,7 +6,7 @@ use mathlib.Core.List.{List}
 use lib.ListN.{length, length-take}
 use denote.Ref.{now}
 use Rattle.lines.specs.Cut.{line-end, Ends}
-use Rattle.lines.proofs.Cutting.{line-ends}
+use Rattle.lines.proofs.LineEnds.{line-ends}
 use Rattle.test_replay.proofs.Replaying.{next-taken, next-end}
 use borrow.Author.Needs.{needs}
 use Rattle.test_replay.proofs.replay_next.Statement.{statement}

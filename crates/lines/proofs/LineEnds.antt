@@ -1,4 +1,4 @@
--- Where a line ends, and that cutting there gives the lines of an input. Assumes nothing.
+-- Where a line ends: at the first newline, or at the end of the input. Assumes nothing.
 use Prim.Native.Nat.{ℕ, zero, suc, _+_, _-_, _≤_, _<_}
 use native.Mathlib.Omega.{arith}
 use native.Mathlib.Numerals.{add-one}
@@ -6,11 +6,11 @@ use mathlib.Core.Path.{_≡_, refl, sym, ap, _∙_}
 use mathlib.Core.Bool.{Bool, true, false, cond}
 use mathlib.Core.List.{List, [], _∷_}
 use lib.ListN.{length, getD, take, drop, drop-of-length-le, length-drop}
-use lib.Seq.{drop-cons, drop-drop, getD-drop}
+use lib.Seq.{drop-cons, getD-drop}
 use lib.Dec.{eqb}
 use borrow.Author.Tests.{eq-eqb, ne-eqb}
 use Rattle.definitions.proofs.Views.{Eq, eq}
-use Rattle.lines.specs.Cut.{first-line, line-end, in-front, lines-of, Ends}
+use Rattle.lines.specs.Cut.{first-line, line-end, Ends}
 
 -- ── the loop of `line_end` ──
 
@@ -73,39 +73,3 @@ module _ (s : List ℕ) (at : ℕ) where
             let p : at + (k - at) ≡ k = omega arith in
             r .first (k - at) (omega arith) (getD-drop at s (k - at) 0 ∙ ap (λ (j : ℕ). getD s j 0) p ∙ e);
       }
-
--- ── cutting ──
-
-cut-first : (b : ℕ) (bs : List ℕ) → lines-of (b ∷ bs) ≡ first-line (b ∷ bs) ∷ lines-of (drop (suc (length (first-line (b ∷ bs)))) (b ∷ bs))
-unfolding lines-of first-line
-cut-first b [] = go (eqb b 10)
-  where
-    go : (o : Bool) → cond o ([] ∷ lines-of []) (in-front b (lines-of [])) ≡ cond o [] (b ∷ []) ∷ lines-of (drop (suc (length (cond o [] (b ∷ [])))) (b ∷ []))
-    go true = refl
-    go false = refl
-cut-first b (c ∷ cs) = go (eqb b 10) (cut-first c cs)
-  where
-    go : (o : Bool) → lines-of (c ∷ cs) ≡ first-line (c ∷ cs) ∷ lines-of (drop (suc (length (first-line (c ∷ cs)))) (c ∷ cs))
-        → cond o ([] ∷ lines-of (c ∷ cs)) (in-front b (lines-of (c ∷ cs)))
-        ≡ cond o [] (b ∷ first-line (c ∷ cs)) ∷ lines-of (drop (suc (length (cond o [] (b ∷ first-line (c ∷ cs))))) (b ∷ c ∷ cs))
-    go true e = refl
-    go false e = ap (in-front b) e
-
-cut-text : (t : List ℕ) → 0 < length t → lines-of t ≡ take (length (first-line t)) t ∷ lines-of (drop (suc (length (first-line t))) t)
-cut-text [] h = absurd (omega arith)
-cut-text (b ∷ bs) h =
-    let e = front (b ∷ bs) .same in
-    cut-first b bs ∙ ap (λ (l : List ℕ). l ∷ lines-of (drop (suc (length (first-line (b ∷ bs)))) (b ∷ bs))) (sym e)
-
--- the line that begins at an index, and the lines behind its newline
-pub lines-cut : (s : List ℕ) (at : ℕ) → at < length s
-    → lines-of (drop at s) ≡ take (line-end s at - at) (drop at s) ∷ lines-of (drop (line-end s at + 1) s)
-unfolding line-end
-lines-cut s at h =
-    let t = drop at s in
-    let n = length (first-line t) in
-    let p : at + n - at ≡ n = omega arith in
-    let q : at + suc n ≡ at + n + 1 = omega arith in
-    cut-text t (omega (arith, length-drop at s))
-    ∙ ap (λ (m : ℕ). take m t ∷ lines-of (drop (suc n) t)) (sym p)
-    ∙ ap (λ (l : List ℕ). take (at + n - at) t ∷ lines-of l) (drop-drop (suc n) at s ∙ ap (λ (m : ℕ). drop m s) q)
