@@ -1,7 +1,7 @@
 //! Times the calls against the published index on the same blocks, and the test of an image against reading it once.
 //!
 //!     rt staticlib helmapricot && rt staticlib bench_parts
-//!     cd oracle && RUSTFLAGS="-L ../target/staticlib" cargo run --release --offline --features parts --bin bench
+//!     cd oracle && cargo run --release --offline --features parts --bin bench
 use dataflow::prelude::SpaceKind;
 use oracle::index::string_index::StringIndex;
 use oracle::index::{Index, SpacetimeBlock};

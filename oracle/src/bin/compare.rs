@@ -1,7 +1,7 @@
 //! Compares the port's calls with the published index, with document 01 done slowly (src/model.rs), and with longest runs
 //! counted tick by tick, on recordings made from a seed.
 //!
-//!     rt staticlib helmapricot && cd oracle && RUSTFLAGS="-L ../target/staticlib" cargo run --release --offline --features calls --bin compare -- SEED COUNT
+//!     rt staticlib helmapricot && cd oracle && cargo run --release --offline --features calls --bin compare -- SEED COUNT
 //!
 //! SEED is 1 and COUNT 10,000 where they are left out; a third number, FIRST, begins at that recording. Prints how much of
 //! each thing was compared. At the first difference it prints the recording in the forms of `places`, and the smallest one

@@ -2,7 +2,7 @@
 //! as in src/answers.rs. To see that the port gives the answers of the sample:
 //!
 //!     rt staticlib helmapricot
-//!     cd oracle && RUSTFLAGS="-L ../target/staticlib" cargo run --release --offline --features calls --bin replay < ../crates/test_replay/data/recordings | cmp - ../crates/test_replay/stdout
+//!     cd oracle && cargo run --release --offline --features calls --bin replay < ../crates/test_replay/data/recordings | cmp - ../crates/test_replay/stdout
 //!
 //! Lines are not checked for their form here.
 use oracle::answers::{bytes, words};
