@@ -38,7 +38,7 @@ use Rattle.form_answers.specs.Memory.{unless-number, found-replies, form-answer
 use Rattle.answering.specs.Parts.{part, output, all-of}
 use Rattle.answering.specs.Promises.{MemoryAnswers, PartsProgram}
 use Rattle.row_replies.proofs.PlaceReplies.{replies-append}
-use Rattle.answering.proofs.Counted.{counted-by-set}
+use Rattle.definitions.proofs.Counted.{counted-by-set}
 use Rattle.answering.proofs.Cutting.{parts-answered}
 
 -- ── a refusal by its number and by its cause ──

@@ -3,6 +3,9 @@ ghost use mathlib.Core.Path.{_≡_};
 ghost use Rattle.definitions.specs.BlockStream.{read-block, data-of};
 ghost use Rattle.block_stream.specs.Answer.{read-of, Starts};
 
+// A block up to its data.
+const HEAD_SIZE: usize = 33;
+
 // A block of the stream. Its data are the bytes from start to next, and the next block stands at next.
 pub struct Block {
     pub kind: u8,
@@ -37,14 +40,14 @@ pub fn read_block(s: &[u8], at: usize) -> Read
     if definitions::LAST_KIND < kind {
         return Read::Refused(definitions::UNKNOWN_KIND);
     }
-    if left < 33 {
+    if left < HEAD_SIZE {
         return Read::Refused(definitions::CUT_SHORT);
     }
     let n = words::get64(s, at + 9);
-    if ((left - 33) as u64) < n {
+    if ((left - HEAD_SIZE) as u64) < n {
         return Read::Refused(definitions::CUT_SHORT);
     }
-    let start = at + 33;
+    let start = at + HEAD_SIZE;
     Read::Block(Block {
         kind,
         address: words::get64(s, at + 1),

@@ -1,5 +1,6 @@
 -- Tests and orders; then a query's places against where it stands; then rows against runs; then whole recordings.
 pub mod Views
+pub mod Tests
 pub mod Decimal
 pub mod Order
 pub mod Locations
@@ -7,6 +8,7 @@ pub mod Held
 pub mod Tails
 pub mod Joins
 pub mod Chains
+pub mod Counted
 pub mod Sound
 pub mod Complete
 pub mod Single

@@ -13,7 +13,8 @@ use Rattle.definitions.specs.Calls.{Capacity, last-number}
 use Rattle.definitions.specs.Recording.{Call, record-block, finish, search, taken, Finished}
 use Rattle.memory_header.specs.Opening.{open-memory}
 use Rattle.recording.specs.Record.{record-memory}
-use Rattle.row_buffer.specs.Numbers.{row-numbers}
+use Rattle.rows.specs.declared.Row.{Row}
+use Rattle.rows.specs.Rows.{rows-of}
 use Rattle.string_index.specs.Finish.{finish-memory}
 use Rattle.handing_over.specs.Search.{Found, search-memory}
 
@@ -56,14 +57,14 @@ final r = memory-after-all (open-memory (r .memory) (r .capacity) .memory) (r .c
 abbrev pub taken-in : Recording → List Block
 taken-in r = taken (r .capacity) (r .calls)
 
--- a search after the recording, with scratch of so many bytes and this row buffer
-abbrev pub searched : Recording → List ℕ → ℕ → List ℕ → Found
-searched r q scratch buffer = search-memory (final r) q scratch buffer
+-- a search after the recording, with scratch of so many bytes and these rows lent
+abbrev pub searched : Recording → List ℕ → ℕ → List Row → Found
+searched r q scratch lent = search-memory (final r) q scratch lent
 
 -- the records that a search hands over
 pub record HandsOver (f : Found) (rs : List Location) : Type 0 where
   pub count : f .count ≡ length rs
-  pub records : take (length (row-numbers rs)) (f .buffer) ≡ row-numbers rs
+  pub records : take (length rs) (f .rows) ≡ rows-of rs
 
 -- the rows that it hands over are exactly the longest runs of what was taken, each once, by address and then first tick
 pub record Exactly (r : Recording) (q : List ℕ) (rs : List Location) : Type 0 where
@@ -72,23 +73,23 @@ pub record Exactly (r : Recording) (q : List ℕ) (rs : List Location) : Type 0 
 
 -- wherever it answers, a search of a non-empty query of up to 256 bytes hands over exactly the longest runs
 abbrev pub RowsExact : Recording → Type 0
-RowsExact r = (q : List ℕ) → Query q → 0 < length q → (scratch : ℕ) (buffer : List ℕ) → searched r q scratch buffer .refusal ≡ 0 → (rs : List Location) × HandsOver (searched r q scratch buffer) rs × Exactly r q rs
+RowsExact r = (q : List ℕ) → Query q → 0 < length q → (scratch : ℕ) (lent : List Row) → searched r q scratch lent .refusal ≡ 0 → (rs : List Location) × HandsOver (searched r q scratch lent) rs × Exactly r q rs
 
 -- an empty query has none
 abbrev pub EmptyQuery : Recording → Type 0
-EmptyQuery r = (scratch : ℕ) (buffer : List ℕ) → (searched r [] scratch buffer .refusal ≡ 0) × (searched r [] scratch buffer .count ≡ 0) × (searched r [] scratch buffer .buffer ≡ buffer)
+EmptyQuery r = (scratch : ℕ) (lent : List Row) → (searched r [] scratch lent .refusal ≡ 0) × (searched r [] scratch lent .count ≡ 0) × (searched r [] scratch lent .rows ≡ lent)
 
 -- a search of up to 256 bytes is refused by nothing but 10 and 11
 abbrev pub OnlyBuffers : Recording → Type 0
-OnlyBuffers r = (q : List ℕ) → Query q → (scratch : ℕ) (buffer : List ℕ) → (searched r q scratch buffer .refusal ≡ 0) ⊎ ((searched r q scratch buffer .refusal ≡ number scratch-too-small) ⊎ (searched r q scratch buffer .refusal ≡ number too-many-rows))
+OnlyBuffers r = (q : List ℕ) → Query q → (scratch : ℕ) (lent : List Row) → (searched r q scratch lent .refusal ≡ 0) ⊎ ((searched r q scratch lent .refusal ≡ number scratch-too-small) ⊎ (searched r q scratch lent .refusal ≡ number too-many-rows))
 
 -- there are sizes of buffers with which it answers, and larger ones answer too
 abbrev pub Answers : Recording → Type 0
-Answers r = (q : List ℕ) → Query q → (places : ℕ) × (numbers : ℕ) × ((scratch : ℕ) (buffer : List ℕ) → places ≤ scratch → numbers ≤ length buffer → searched r q scratch buffer .refusal ≡ 0)
+Answers r = (q : List ℕ) → Query q → (bytes : ℕ) × (room : ℕ) × ((scratch : ℕ) (lent : List Row) → bytes ≤ scratch → room ≤ length lent → searched r q scratch lent .refusal ≡ 0)
 
 -- the rows of two recordings are the same: row for row, wherever both searches answer
 abbrev pub SameAnswers : Recording → Recording → Type 0
-SameAnswers r r′ = (q : List ℕ) → Query q → (scratch scratch′ : ℕ) (buffer buffer′ : List ℕ) → searched r q scratch buffer .refusal ≡ 0 → searched r′ q scratch′ buffer′ .refusal ≡ 0 → (rs : List Location) × HandsOver (searched r q scratch buffer) rs × HandsOver (searched r′ q scratch′ buffer′) rs
+SameAnswers r r′ = (q : List ℕ) → Query q → (scratch scratch′ : ℕ) (lent lent′ : List Row) → searched r q scratch lent .refusal ≡ 0 → searched r′ q scratch′ lent′ .refusal ≡ 0 → (rs : List Location) × HandsOver (searched r q scratch lent) rs × HandsOver (searched r′ q scratch′ lent′) rs
 
 -- demand 3
 pub record Demand3 : Type 1 where

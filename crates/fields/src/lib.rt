@@ -1,5 +1,8 @@
 // The fields of one node of an image in layout order.
 use definitions::LOCATION_SIZE;
+use image_format::DENSE_ENTRIES;
+use image_format::DENSE_SIZE;
+use image_format::SLOT_SIZE;
 ghost use mathlib.Core.Path.{_≡_};
 ghost use Prim.Native.Nat.{_+_, _*_, _≤_, _<_};
 ghost use lib.ListN.{length};
@@ -162,15 +165,15 @@ fn open_dense(s: &[u8], at: usize) -> Children
     requires { ⌜ at ≤ length (now s) ⌝ }
     ensures { λ r. ⌜ table-of r ≡ open-table (now (s .entry)) 1 at ⌝ }
 {
-    if s.len() - at < 2048 {
+    if s.len() - at < DENSE_SIZE {
         return refuse_children(definitions::CUT_SHORT);
     }
     Children {
         kind: 1,
         base: at,
         count: 0,
-        start: at + 2048,
-        turns: 256,
+        start: at + DENSE_SIZE,
+        turns: DENSE_ENTRIES,
         refusal: 0,
     }
 }
@@ -179,7 +182,7 @@ fn open_dense(s: &[u8], at: usize) -> Children
 fn turns_of(kind: u8, n: usize) -> usize
     ensures { λ r. ⌜ r ≡ cond (eqb kind 3) n 256 ⌝ }
 {
-    if kind == 3 { n } else { 256 }
+    if kind == 3 { n } else { DENSE_ENTRIES }
 }
 
 // The table at an index, of a node of kind 1, 2 or 3.
@@ -206,7 +209,7 @@ pub fn open_table(s: &[u8], kind: u8, at: usize) -> Children
         kind,
         base,
         count: n,
-        start: base + n * 9,
+        start: base + n * SLOT_SIZE,
         turns: turns_of(kind, n),
         refusal: 0,
     }
@@ -246,11 +249,11 @@ pub fn turn_at(s: &[u8], c: Children, i: usize, at: usize) -> Due
         return flag_at(s, c.kind, words::get64(s, base + i * 8), at);
     }
     if c.kind == 3 {
-        return flag_at(s, c.kind, words::get64(s, base + i * 9 + 1), at);
+        return flag_at(s, c.kind, words::get64(s, base + i * SLOT_SIZE + 1), at);
     }
     let j = tables::find_byte(s, base, c.count, i as u8);
     if j < c.count {
-        return flag_at(s, c.kind, words::get64(s, base + j * 9 + 1), at);
+        return flag_at(s, c.kind, words::get64(s, base + j * SLOT_SIZE + 1), at);
     }
     Due::Nothing
 }

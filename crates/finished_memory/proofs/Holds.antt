@@ -30,7 +30,7 @@ use Rattle.index_memory.specs.Index.{Index, broken, opened, finished, log-right
 use Rattle.memory_header.proofs.HeaderBytes.{HeaderFits, length-header, header-written, first-zero, second-zero}
 use Rattle.memory_header.proofs.HeaderFacts.{HeaderFacts, header-facts, facts-room, heading-some}
 use Rattle.index_memory.proofs.Holding.{index-by-image}
-use Rattle.memory_header.proofs.Tests.{and-left, and-right}
+use Rattle.definitions.proofs.Tests.{and-left, and-right}
 use Rattle.finished_memory.specs.Finished.{finished-header, finished-memory}
 use Rattle.finished_memory.specs.Room.{capacity-of, Within}
 

@@ -23,6 +23,7 @@ use Rattle.tails.specs.Runs.{SoundPath}
 use Rattle.tails.specs.Weights.{weights}
 use Rattle.tails.proofs.High.{sound-bytes}
 use Rattle.tails.proofs.Keep.{SameTails}
+use Rattle.tails.proofs.Grouped.{numbered-mem}
 use Rattle.tails.proofs.Runs.{run-all}
 use Rattle.tails.proofs.Budget.{sorted-weights, weights-charged}
 use Rattle.tails.proofs.Finished.{SoundPieces, sound-entered, finished-node, sorted-tails}
@@ -36,10 +37,6 @@ use Rattle.node_writer.specs.Images.{tails-trie, ImageAsked}
 use Rattle.finishing.specs.Steps.{tail-count, TailsAsked, TailsSorted}
 
 -- ── tails of sound entries ──
-
-numbered-entry : {t : Tail} (n : ℕ) (es : List Entry) → Mem t (numbered n es) → Mem (t .entry) es
-numbered-entry n (e ∷ es) (here p) = here (ap (λ (u : Tail). u .entry) p)
-numbered-entry n (e ∷ es) (later m) = later (numbered-entry (suc n) es m)
 
 -- a tail weighs one entry at least
 light : (d : ℕ) (ts : List Tail) → length ts ≤ weights d ts
@@ -127,7 +124,7 @@ module _ (m : List ℕ) (c : Capacity) (pieces : ℕ) (b : Bytes m) (o : OpenIs 
   sound-pieces p k = record { short = o .sound p k .small; bytes = byte-of (p .bytes) (open-bytes m c ps b o p k) }
 
   sound-all : (t : Tail) → Mem t all → SoundPath (t .entry .path)
-  sound-all t k = sound-entered ps sound-pieces (t .entry) (numbered-entry 0 (entered-all ps) k)
+  sound-all t k = sound-entered ps sound-pieces (t .entry) (numbered-mem 0 (entered-all ps) k)
 
   module _ (s : List ℕ) (n : ℕ) (w : TailsSorted m s pieces work n) where
     abbrev ts : List Tail

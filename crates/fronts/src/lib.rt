@@ -1,4 +1,5 @@
 // The nodes whose paths have one byte more in front.
+use image_format::DENSE_ENTRIES;
 use image_walk::Child;
 use image_walk::Node;
 use image_walk::Slot;
@@ -219,7 +220,7 @@ fn mask_of(s: &[u8], table: usize, children: usize) -> usize
     requires { ⌜ HasTable (now s) table children ⌝ }
     ensures { λ r. ⌜ SaysMask (now (s .entry)) table children r ⌝ }
 {
-    if children == 256 {
+    if children == DENSE_ENTRIES {
         return 0;
     }
     let mut mask = 0;

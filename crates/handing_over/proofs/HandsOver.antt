@@ -56,10 +56,8 @@ use Rattle.handing_over.proofs.answer_of as a
 use Rattle.handing_over.proofs.answer_of.Symbol.{name as #handing-over·answer-of}
 use denote.Memory.{pointee}
 use Rattle.rows.proofs.Row.Laws as T′
-use Rattle.rows.specs.Rows.{rows-of}
+use Rattle.rows.specs.Rows.{rows-over}
 use Rattle.definitions.specs.Location.{locations-in}
-use mathlib.Core.List.{_++_}
-use lib.ListN.{drop as dropped}
 
 -- the rows of the three types: of a row, of what was found, and of the answer
 abbrev R : RattleType
@@ -75,7 +73,7 @@ ER = E.the-row
 
 -- the rows after a call: those at the front of bytes s over the first ones
 abbrev pub rows-after : List ℕ → ℕ → List Row → List Row
-rows-after s count rows = rows-of (locations-in s count 0) ++ dropped count rows
+rows-after s count rows = rows-over (locations-in s count 0) rows
 
 -- ── the MIR, with the engine's name for a parameter ──
 

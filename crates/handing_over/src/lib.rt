@@ -4,7 +4,6 @@ use rows::Row;
 ghost use mathlib.Core.Path.{_≡_};
 ghost use lib.ListN.{length};
 ghost use Rattle.definitions.specs.Causes.{ScratchAfter};
-ghost use Rattle.rows.specs.Rows.{numbers-of};
 ghost use Rattle.handing_over.specs.Search.{search-memory};
 ghost use Rattle.handing_over.specs.Answers.{answer-as, answer-to};
 
@@ -27,9 +26,9 @@ fn answer_of(f: Finding) -> Answer
 
 // The rows of a query, handed over in the slice that is lent for them; rows after the last stay.
 pub fn search(mem: &[u8], q: &[u8], scratch: &mut [u8], rows: &mut [Row]) -> Answer
-    ensures answer { λ r. ⌜ r ≡ answer-to (search-memory (now (mem .entry)) (now (q .entry)) (length (now (scratch .entry))) (numbers-of (now (rows .entry)))) ⌝ }
-    ensures rows { λ _. ⌜ numbers-of (now (rows .exit)) ≡ search-memory (now (mem .entry)) (now (q .entry)) (length (now (scratch .entry))) (numbers-of (now (rows .entry))) .buffer ⌝ }
-    ensures scratch { λ _. ⌜ ScratchAfter (search-memory (now (mem .entry)) (now (q .entry)) (length (now (scratch .entry))) (numbers-of (now (rows .entry))) .refusal) (now (scratch .entry)) (now (scratch .exit)) ⌝ }
+    ensures answer { λ r. ⌜ r ≡ answer-to (search-memory (now (mem .entry)) (now (q .entry)) (length (now (scratch .entry))) (now (rows .entry))) ⌝ }
+    ensures rows { λ _. ⌜ now (rows .exit) ≡ search-memory (now (mem .entry)) (now (q .entry)) (length (now (scratch .entry))) (now (rows .entry)) .rows ⌝ }
+    ensures scratch { λ _. ⌜ ScratchAfter (search-memory (now (mem .entry)) (now (q .entry)) (length (now (scratch .entry))) (now (rows .entry)) .refusal) (now (scratch .entry)) (now (scratch .exit)) ⌝ }
 {
     let f = finding::find(mem, q, scratch, rows.len());
     rows::put_rows(rows, scratch, f.count);

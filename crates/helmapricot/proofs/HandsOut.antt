@@ -39,7 +39,6 @@ use denote.Exit.{yes}
 use denote.Signature.{plain, shrSliceOf}
 use Rattle.definitions.specs.Causes.{ScratchAfter}
 use Rattle.rows.specs.declared.Row.{Row}
-use Rattle.rows.specs.Rows.{numbers-of}
 use Rattle.rows.proofs.Row as T
 use Rattle.handing_over.specs.declared.Answer.{Answer}
 use Rattle.handing_over.specs.Search.{Found}
@@ -69,7 +68,7 @@ CR = Array u64 1
 -- its name, and what it finds
 pub record Call : Type 0 where
   pub name : Name
-  pub found : List ℕ → List ℕ → ℕ → List ℕ → Found
+  pub found : List ℕ → List ℕ → ℕ → List Row → Found
 
 -- ── the MIR, with the call's name for a parameter ──
 
@@ -126,17 +125,17 @@ ended = record {
 
 module _ {M : Type 1} (𝓤 : URA M) (𝓔 : Call) where
   abbrev pub call-clauses : Clauses 𝓤 call-ended
-  call-clauses κs a = let f = 𝓔 .found (a .0 .now) (a .1 .0 .now) (length (a .1 .1 .0 .now)) (numbers-of (a .1 .1 .1 .0 .now)) in record {
+  call-clauses κs a = let f = 𝓔 .found (a .0 .now) (a .1 .0 .now) (length (a .1 .1 .0 .now)) (a .1 .1 .1 .0 .now) in record {
     ghost = Unit {0};
     requires = λ _. emp 𝓤;
-    ensures = λ _ r e. sep 𝓤 (fact 𝓤 (r ≡ answer-to f)) (sep 𝓤 (fact 𝓤 (numbers-of (e .1 .1 .1 .0 .now) ≡ f .buffer)) (fact 𝓤 (ScratchAfter (f .refusal) (a .1 .1 .0 .now) (e .1 .1 .0 .now))));
+    ensures = λ _ r e. sep 𝓤 (fact 𝓤 (r ≡ answer-to f)) (sep 𝓤 (fact 𝓤 (e .1 .1 .1 .0 .now ≡ f .rows)) (fact 𝓤 (ScratchAfter (f .refusal) (a .1 .1 .0 .now) (e .1 .1 .0 .now))));
   }
 
   abbrev pub clauses : Clauses 𝓤 ended
-  clauses κs a = let f = 𝓔 .found (a .0 .now) (a .1 .0 .now) (length (a .1 .1 .0 .now)) (numbers-of (a .1 .1 .1 .0 .now)) in record {
+  clauses κs a = let f = 𝓔 .found (a .0 .now) (a .1 .0 .now) (length (a .1 .1 .0 .now)) (a .1 .1 .1 .0 .now) in record {
     ghost = Unit {0};
     requires = λ _. emp 𝓤;
-    ensures = λ _ r e. sep 𝓤 (fact 𝓤 (r ≡ f .refusal)) (sep 𝓤 (fact 𝓤 (numbers-of (e .1 .1 .1 .0 .now) ≡ f .buffer)) (sep 𝓤 (fact 𝓤 (e .1 .1 .1 .1 .0 .now ≡ put-unless-refused (f .refusal) (f .count) (a .1 .1 .1 .1 .0 .now))) (fact 𝓤 (ScratchAfter (f .refusal) (a .1 .1 .0 .now) (e .1 .1 .0 .now)))));
+    ensures = λ _ r e. sep 𝓤 (fact 𝓤 (r ≡ f .refusal)) (sep 𝓤 (fact 𝓤 (e .1 .1 .1 .0 .now ≡ f .rows)) (sep 𝓤 (fact 𝓤 (e .1 .1 .1 .1 .0 .now ≡ put-unless-refused (f .refusal) (f .count) (a .1 .1 .1 .1 .0 .now))) (fact 𝓤 (ScratchAfter (f .refusal) (a .1 .1 .0 .now) (e .1 .1 .0 .now)))));
   }
 
 -- what is lent is passed on, and of memory and query nothing is asked at exit
@@ -188,7 +187,7 @@ module _ {M : Type 1} (𝓤 : URA M) (H : Heap 𝓤) (A : Atoms 𝓤) (W : Given
 
   -- what is found
   abbrev found : Found
-  found = 𝓔 .found (z .now) (y .now) (length (x .now)) (numbers-of (w .now))
+  found = 𝓔 .found (z .now) (y .now) (length (x .now)) (w .now)
 
   -- what the parameters own
   abbrev Mem : Fml
@@ -233,7 +232,7 @@ module _ {M : Type 1} (𝓤 : URA M) (H : Heap 𝓤) (A : Atoms 𝓤) (W : Given
       nothing ! $ move ! (2 ∷ 0 ∷ []) $ join ! $ join ! $ frame ! $ nothing ! $ done !
 
   -- the exit, at the answer's number r, the last bytes xs, the last rows rs, and the last count cs′
-  exits : (r : ℕ) (u : Val) (xs : List ℕ) (rs : List Row) (cs′ : List ℕ) → Counted found r (numbers-of rs) cs cs′ (x .now) xs → length xs ≡ length (x .now) → length rs ≡ length (w .now)
+  exits : (r : ℕ) (u : Val) (xs : List ℕ) (rs : List Row) (cs′ : List ℕ) → Counted found r rs cs cs′ (x .now) xs → length xs ≡ length (x .now) → length rs ≡ length (w .now)
       → ent 𝓤 (⋆ 𝓤 H A (‵ (u64 .own r (u ∷ [])) ∷ (‵ (flft κc qc) ⊛ ‵ ftrue) ∷ ‵ (fres ε (CR .coded .code cs′)) ∷ Tokens ∷ ‵ (finally R (w .name) rs) ∷ ‵ (finally u8 (x .name) xs) ∷ [])) (Post u)
   exits r u xs rs cs′ told len len′ =
       qed W (‵ (u64 .own r (u ∷ [])) ∷ (‵ (flft κc qc) ⊛ ‵ ftrue) ∷ ‵ (fres ε (CR .coded .code cs′)) ∷ Tokens ∷ ‵ (finally R (w .name) rs) ∷ ‵ (finally u8 (x .name) xs) ∷ []) ∵
@@ -241,7 +240,7 @@ module _ {M : Type 1} (𝓤 : URA M) (H : Heap 𝓤) (A : Atoms 𝓤) (W : Given
       move ! (1 ∷ []) $ split ! $ move ! (4 ∷ []) $ split ! $ move ! (1 ∷ []) $ split ! $ move ! (1 ∷ []) $ split ! $ move ! (1 ∷ []) $ split ! $ move ! (4 ∷ 3 ∷ 2 ∷ 0 ∷ 5 ∷ 6 ∷ []) $ group ! 6 $
       -- [the tokens; true; the number; the last count; the last rows; the last bytes]
       nothing ! $ move ! (4 ∷ 0 ∷ []) $ fjoin ! $ move ! (4 ∷ 0 ∷ []) $ fjoin ! $ move ! (4 ∷ 0 ∷ []) $ fjoin ! $ nothing ! $ fjoin ! $ nothing ! $ fjoin ! $ move ! (1 ∷ 0 ∷ 3 ∷ []) $ group ! 3 $ frame ! $ drop ! $
-      use0 W (raw (fact 𝓤 (ScratchAfter (found .refusal) (x .now) xs))) (factI 𝓤 _ (emp 𝓤) (told .scratch)) $ use0 W (raw (fact 𝓤 (cs′ ≡ put-unless-refused (found .refusal) (found .count) cs))) (factI 𝓤 _ (emp 𝓤) (told .count)) $ use0 W (raw (fact 𝓤 (numbers-of rs ≡ found .buffer))) (factI 𝓤 _ (emp 𝓤) (told .rows)) $ use0 W (raw (fact 𝓤 (r ≡ found .refusal))) (factI 𝓤 _ (emp 𝓤) (told .number)) $ done !
+      use0 W (raw (fact 𝓤 (ScratchAfter (found .refusal) (x .now) xs))) (factI 𝓤 _ (emp 𝓤) (told .scratch)) $ use0 W (raw (fact 𝓤 (cs′ ≡ put-unless-refused (found .refusal) (found .count) cs))) (factI 𝓤 _ (emp 𝓤) (told .count)) $ use0 W (raw (fact 𝓤 (rs ≡ found .rows))) (factI 𝓤 _ (emp 𝓤) (told .rows)) $ use0 W (raw (fact 𝓤 (r ≡ found .refusal))) (factI 𝓤 _ (emp 𝓤) (told .number)) $ done !
 
   typed-answer : (a : Answer) (v : Val) → Is ER a (v ∷ []) → Holds (hasTy E′.mir v) × WT v
   typed-answer a v is = EL.lawful E.the-type E′.the-laws 𝓤 H A W tt .typed a _ is .0
@@ -265,8 +264,8 @@ module _ {M : Type 1} (𝓤 : URA M) (H : Heap 𝓤) (A : Atoms 𝓤) (W : Given
         -- [its pre; _11; …; _0; …; count; its token]
         calls-at ! fm (Search 𝓤 H A mem run 𝓔) known-search to-search (and-then ! (load ! (from ! (stop !)) (look ! 21 refl)) (and-then ! (load ! (from ! (stop !)) (look ! 19 refl)) (and-then ! (load ! (from ! (stop !)) (look ! 7 refl)) (and-then ! (load ! (from ! (stop !)) (look ! 3 refl)) (no-more !))))) (λ v.
         use1 W (later (some (λ (a : Answer). (Tokens ⊛ ‵ (ER .own a (v ∷ []))) ⊛ raw (ensured 𝓤 H A call-ended (call-clauses 𝓤 𝓔) (κm, (κq, (κs, (κr, tt)))) search-arg tt a)))) (id⊢ 𝓤 _) $ await ! tt $ pick ! (λ a.
-        split ! $ move ! (1 ∷ []) $ use1 W (some (λ (ws : Unit {0} × (Unit {0} × (List ℕ × (List Row × Unit {0})))). ‵ (lasts call-ended (κm, (κq, (κs, (κr, tt)))) search-arg ws) ⊛ (raw (fact 𝓤 (a ≡ answer-to found)) ⊛ (raw (fact 𝓤 (numbers-of (ws .1 .1 .1 .0) ≡ found .buffer)) ⊛ raw (fact 𝓤 (ScratchAfter (found .refusal) (x .now) (ws .1 .1 .0))))))) (id⊢ 𝓤 _) $ pick ! (λ ws.
-        split ! $ move ! (1 ∷ []) $ split ! $ heard ! (a ≡ answer-to found) (λ e. split ! $ heard ! (numbers-of (ws .1 .1 .1 .0) ≡ found .buffer) (λ left. heard ! (ScratchAfter (found .refusal) (x .now) (ws .1 .1 .0)) (λ kept.
+        split ! $ move ! (1 ∷ []) $ use1 W (some (λ (ws : Unit {0} × (Unit {0} × (List ℕ × (List Row × Unit {0})))). ‵ (lasts call-ended (κm, (κq, (κs, (κr, tt)))) search-arg ws) ⊛ (raw (fact 𝓤 (a ≡ answer-to found)) ⊛ (raw (fact 𝓤 (ws .1 .1 .1 .0 ≡ found .rows)) ⊛ raw (fact 𝓤 (ScratchAfter (found .refusal) (x .now) (ws .1 .1 .0))))))) (id⊢ 𝓤 _) $ pick ! (λ ws.
+        split ! $ move ! (1 ∷ []) $ split ! $ heard ! (a ≡ answer-to found) (λ e. split ! $ heard ! (ws .1 .1 .1 .0 ≡ found .rows) (λ left. heard ! (ScratchAfter (found .refusal) (x .now) (ws .1 .1 .0)) (λ kept.
         fsplit ! $ drop ! $ fsplit ! $ drop ! $ fsplit ! $ fsplit ! $ move ! (1 ∷ []) $ feqL ! (λ len. move ! (1 ∷ []) $ fsplit ! $ fsplit ! $ move ! (1 ∷ []) $ feqL ! (λ len′.
         -- [the last rows; …; the last bytes; the tokens and the answer; _11; …; _0; …; count; its token]
         move ! (3 ∷ []) $ split ! $ move ! (1 ∷ []) $ peeks ! ER (Is ER) (shows 𝓤 H A ER) a (v ∷ []) (λ is. drop ! $

@@ -18,7 +18,6 @@ ghost use Rattle.memory_header.specs.Opening.{open-memory};
 ghost use Rattle.memory_header.specs.Answers.{outcome-number};
 ghost use Rattle.recording.specs.Record.{record-memory};
 ghost use Rattle.recording.specs.Recorded.{recorded-number};
-ghost use Rattle.rows.specs.Rows.{numbers-of};
 ghost use Rattle.string_index.specs.Finish.{finish-memory};
 ghost use Rattle.handing_over.specs.Search.{search-memory};
 ghost use Rattle.handing_over.specs.Answers.{answer-number};
@@ -102,10 +101,10 @@ pub extern "C" fn helmapricot_search(
     rows: &mut [Row],
     count: &mut [u64; 1],
 ) -> u64
-    ensures answer { λ r. ⌜ r ≡ search-memory (now (mem .entry)) (now (q .entry)) (length (now (scratch .entry))) (numbers-of (now (rows .entry))) .refusal ⌝ }
-    ensures rows { λ _. ⌜ numbers-of (now (rows .exit)) ≡ search-memory (now (mem .entry)) (now (q .entry)) (length (now (scratch .entry))) (numbers-of (now (rows .entry))) .buffer ⌝ }
-    ensures count { λ _. ⌜ now (count .exit) ≡ put-unless-refused (search-memory (now (mem .entry)) (now (q .entry)) (length (now (scratch .entry))) (numbers-of (now (rows .entry))) .refusal) (search-memory (now (mem .entry)) (now (q .entry)) (length (now (scratch .entry))) (numbers-of (now (rows .entry))) .count) (now (count .entry)) ⌝ }
-    ensures scratch { λ _. ⌜ ScratchAfter (search-memory (now (mem .entry)) (now (q .entry)) (length (now (scratch .entry))) (numbers-of (now (rows .entry))) .refusal) (now (scratch .entry)) (now (scratch .exit)) ⌝ }
+    ensures answer { λ r. ⌜ r ≡ search-memory (now (mem .entry)) (now (q .entry)) (length (now (scratch .entry))) (now (rows .entry)) .refusal ⌝ }
+    ensures rows { λ _. ⌜ now (rows .exit) ≡ search-memory (now (mem .entry)) (now (q .entry)) (length (now (scratch .entry))) (now (rows .entry)) .rows ⌝ }
+    ensures count { λ _. ⌜ now (count .exit) ≡ put-unless-refused (search-memory (now (mem .entry)) (now (q .entry)) (length (now (scratch .entry))) (now (rows .entry)) .refusal) (search-memory (now (mem .entry)) (now (q .entry)) (length (now (scratch .entry))) (now (rows .entry)) .count) (now (count .entry)) ⌝ }
+    ensures scratch { λ _. ⌜ ScratchAfter (search-memory (now (mem .entry)) (now (q .entry)) (length (now (scratch .entry))) (now (rows .entry)) .refusal) (now (scratch .entry)) (now (scratch .exit)) ⌝ }
 {
     let a = string_index::search(mem, q, scratch, rows);
     put_count(count, a)

@@ -28,17 +28,20 @@ fn digit_value(b: u8) -> u64
     words::wide(b - b'a' + 10)
 }
 
-// The byte of two hexadecimal digits, 256 where one of them is none.
+// No byte.
+const NO_BYTE: u64 = 256;
+
+// The byte of two hexadecimal digits, or no byte where one of them is none.
 fn pair_value(a: u8, b: u8) -> u64
     ensures { λ r. ⌜ r ≡ pair a b ⌝ }
 {
     let h = digit_value(a);
     let l = digit_value(b);
     if 15 < h {
-        return 256;
+        return NO_BYTE;
     }
     if 15 < l {
-        return 256;
+        return NO_BYTE;
     }
     h * 16 + l
 }

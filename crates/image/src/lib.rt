@@ -91,7 +91,7 @@ fn read_empty(s: &[u8]) -> Past
         i += 1;
     }
     Past {
-        at: 25,
+        at: image_format::EMPTY_SIZE,
         refusal: 0,
         nodes: 1,
         entries: 0,

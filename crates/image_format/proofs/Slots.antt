@@ -15,7 +15,7 @@ at-self [] k rest a b = simp (eq-eqb (k .byte) (k .byte) refl) (ap (λ (l : List
 at-self (x ∷ seen) k rest a b = simp (ne-eqb (x .byte) (k .byte) (a .0)) (at-self seen k rest (a .1) b)
 
 -- a child with a lower byte has no slot any more
-past-at : (b : ℕ) (k : Child) (ks : List Child) → k .byte < b → with-byte b (k ∷ ks) ≡ with-byte b ks
+pub past-at : (b : ℕ) (k : Child) (ks : List Child) → k .byte < b → with-byte b (k ∷ ks) ≡ with-byte b ks
 unfolding with-byte
 past-at b k ks h = let n : k .byte ≡ b → ⊥ = omega arith in simp (ne-eqb (k .byte) b n)
 

@@ -52,9 +52,9 @@ lists-back s all at =
     let p = locations-in s (le64 s a1) (a1 + 8) in
     let c = locations-in s (le64 s a2) (a2 + 8) in
     let u = locations-in s (le64 s a3) (a3 + 8) in
-    let lp = locs-count (le64 s a1) (a1 + 8) in
-    let lc = locs-count (le64 s a2) (a2 + 8) in
-    let lu = locs-count (le64 s a3) (a3 + 8) in (
+    let lp = length-locations (le64 s a1) s (a1 + 8) in
+    let lc = length-locations (le64 s a2) s (a2 + 8) in
+    let lu = length-locations (le64 s a3) s (a3 + 8) in (
       holds-append s a1 (8 + 24 * le64 s a1) (list-bytes p) (list-bytes c ++ list-bytes u) (list-length p ∙ ap (λ (n : ℕ). 8 + 24 * n) lp) (one-list a1)
           (holds-at s a2 (a1 + (8 + 24 * le64 s a1)) (list-bytes c ++ list-bytes u) (omega arith)
           (holds-append s a2 (8 + 24 * le64 s a2) (list-bytes c) (list-bytes u) (list-length c ∙ ap (λ (n : ℕ). 8 + 24 * n) lc) (one-list a2)
@@ -62,8 +62,5 @@ lists-back s all at =
       omega (arith, lp, lc, lu),
     )
   where
-    locs-count : (n x : ℕ) → length (locations-in s n x) ≡ n
-    locs-count n x = length-locations n s x
-
     one-list : (x : ℕ) → Holds s x (list-bytes (locations-in s (le64 s x) (x + 8)))
     one-list x = list-read s x all

@@ -1,5 +1,7 @@
 // Nodes of an image, found in place by their index.
 use definitions::LOCATION_SIZE;
+use image_format::DENSE_ENTRIES;
+use image_format::SLOT_SIZE;
 ghost use mathlib.Core.Path.{_≡_};
 ghost use mathlib.Core.Bool.{cond};
 ghost use Prim.Native.Nat.{ℕ, _+_, _*_, _^_, _≤_, _<_};
@@ -51,7 +53,7 @@ fn count_of(s: &[u8], kind: u8, at: usize) -> usize
     requires { ⌜ at + 8 ≤ length (now s) ⌝ }
     ensures { λ r. ⌜ r ≡ cond (eqb kind 1) 256 (le64 (now (s .entry)) at) ⌝ }
 {
-    if kind == 1 { 256 } else { size_at(s, at) }
+    if kind == 1 { DENSE_ENTRIES } else { size_at(s, at) }
 }
 
 // Where that table starts: in kinds 2 and 3 behind its count.
@@ -107,10 +109,10 @@ pub fn slot_in(s: &[u8], table: usize, children: usize, j: usize) -> Slot
     requires { ⌜ TableHere (now s) table children × (j < children) ⌝ }
     ensures { λ r. ⌜ entry-of-answer r ≡ slot-in (now (s .entry)) table children j ⌝ }
 {
-    if children == 256 {
+    if children == DENSE_ENTRIES {
         return dense_slot(s, table, j);
     }
-    let e = table + j * 9;
+    let e = table + j * SLOT_SIZE;
     Slot::Taken {
         byte: s[e],
         at: size_at(s, e + 1) + 1,
@@ -124,7 +126,7 @@ fn sparse_child(s: &[u8], table: usize, n: usize, byte: u8) -> Child
 {
     let mut j = 0;
     while j < n {
-        let e = table + j * 9;
+        let e = table + j * SLOT_SIZE;
         if s[e] == byte {
             return Child::At(size_at(s, e + 1) + 1);
         }
@@ -138,7 +140,7 @@ pub fn child_in(s: &[u8], table: usize, children: usize, byte: u8) -> Child
     requires { ⌜ TableHere (now s) table children ⌝ }
     ensures { λ r. ⌜ child-of-answer r ≡ node-for (entries-at (now (s .entry)) table children) byte ⌝ }
 {
-    if children == 256 {
+    if children == DENSE_ENTRIES {
         let slot = dense_slot(s, table, byte as usize);
         let Slot::Taken { byte: _, at } = slot else {
             return Child::Nothing;

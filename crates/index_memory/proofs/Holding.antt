@@ -19,7 +19,7 @@ use Rattle.memory_header.specs.Opening.{open-memory}
 use Rattle.index_memory.specs.Log.{log-in, log-sound}
 use Rattle.index_memory.specs.Index.{broken, opened, finished, open-header, log-right, open-index, finished-index, if-right, read-index, image-part}
 use Rattle.memory_header.specs.Answers.{heading-at}
-use Rattle.memory_header.proofs.Tests.{and-left, and-right, both}
+use Rattle.definitions.proofs.Tests.{and-left, and-right, and-true}
 use Rattle.index_memory.proofs.LogBytes.{AllSound, log-elsewhere, log-in-bytes, length-log-in, log-sound-is, is-log-sound}
 use Rattle.index_memory.proofs.Charges.{charge-count}
 use Rattle.memory_header.proofs.HeaderBytes.{length-header}
@@ -162,8 +162,8 @@ put-holds m c ps o n e s l =
     let log : log-in (with-header m h) (length ps) 64 ≡ ps =
     log-elsewhere (header-bytes h) m 0 (length ps) 64 (omega (arith, o .held)) (subst AllSound (sym l) s) (inr (omega (arith, length-header h))) ∙ l in
     let t : log-right (with-header m h) h ≡ true =
-    both (is-log-sound (with-header m h) (length ps) 64 (open-room (with-header m h) h f refl) (subst AllSound (sym log) s))
-    (both (eq-eqb (nodes-tallied ps) _ (ap nodes-tallied (sym log))) (eq-eqb (entries-tallied ps) _ (ap entries-tallied (sym log)))) in
+    and-true (is-log-sound (with-header m h) (length ps) 64 (open-room (with-header m h) h f refl) (subst AllSound (sym log) s))
+    (and-true (eq-eqb (nodes-tallied ps) _ (ap nodes-tallied (sym log))) (eq-eqb (entries-tallied ps) _ (ap entries-tallied (sym log)))) in
     let head : some h ≡ heading-at (with-header m h) = ap {B = Option Header} some (sym at) ∙ heading-some (with-header m h) (subst (HeaderFacts (with-header m h)) (sym at) f) in
     open-by-log (with-header m h) h (sym head) refl t ∙ ap (opened c) log
 

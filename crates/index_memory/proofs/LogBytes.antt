@@ -16,7 +16,7 @@ use Rattle.definitions.specs.Calls.{last-number}
 use Rattle.definitions.proofs.Views.{lt-or-le}
 use Rattle.index_memory.specs.Log.{AllSmall, piece-in, piece-bytes, log-in, log-bytes, piece-sound, log-sound}
 use Rattle.index_memory.proofs.PieceBytes.{PieceFits, length-piece, size-written, piece-written, piece-ext}
-use Rattle.memory_header.proofs.Tests.{and-left, and-right, both}
+use Rattle.definitions.proofs.Tests.{and-left, and-right, and-true}
 
 -- ---- what is written is read back
 
@@ -118,9 +118,9 @@ module _ (xs : List ℕ) (p : ℕ) (h : p + 48 ≤ length xs) where
       let v : p + 24 + 16 ≡ p + 40 = omega arith in
       let u′ = ap (le64 xs) u in
       let v′ = ap (le64 xs) v in
-      both
+      and-true
       (le-leb n 16 s)
-      (both
+      (and-true
       (lt-ltb (le64 xs (p + 32)) (le64 xs (p + 40)) (omega (arith, f .alive)))
       (le-leb (le64 xs (p + 24) + n) last-number (omega (arith, f .below, piece-length s))))
 
@@ -140,7 +140,7 @@ pub is-log-sound : (xs : List ℕ) (n p : ℕ) → p + 48 * n ≤ length xs → 
 unfolding log-sound log-in
 is-log-sound xs zero p h f = refl
 is-log-sound xs (suc n) p h f =
-    both (is-sound xs p (omega arith) (f (piece-in xs p) (here refl))) (is-log-sound xs n (p + 48) (omega arith) (λ q m. f q (later m)))
+    and-true (is-sound xs p (omega arith) (f (piece-in xs p) (here refl))) (is-log-sound xs n (p + 48) (omega arith) (λ q m. f q (later m)))
 
 -- a sound log lies in its bytes
 log-ext : (n p : ℕ) (xs ys : List ℕ) → length xs ≡ length ys → p + 48 * n ≤ length xs → AllSound (log-in xs n p)

@@ -17,7 +17,7 @@ use Rattle.index_memory.specs.Log.{piece-in, log-in, piece-sound, log-so
 use Rattle.index_memory.specs.Index.{log-right}
 use Rattle.memory_header.specs.Answers.{heading-at}
 use Rattle.index_memory.proofs.Charges.{node-bound, entry-max}
-use Rattle.memory_header.proofs.Tests.{and-left}
+use Rattle.definitions.proofs.Tests.{and-left}
 use Rattle.index_memory.proofs.LogBytes.{piece-length}
 use Rattle.memory_header.proofs.HeaderFacts.{HeaderFacts, heading-is, open-payload}
 

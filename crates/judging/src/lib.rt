@@ -8,12 +8,15 @@ ghost use Rattle.location.specs.Plain.{plain};
 ghost use Rattle.memory_header.specs.Answers.{header-of};
 ghost use Rattle.judging.specs.Judged.{block-nodes, judged};
 
+// The nodes that a piece of 16 bytes charges.
+const WHOLE_PIECE_NODES: usize = 136;
+
 // The nodes that the pieces of a block of n bytes charge together.
 pub fn block_nodes(n: usize) -> usize
     requires { ⌜ n ≤ 4096 ⌝ }
     ensures { λ r. ⌜ r ≡ block-nodes n ⌝ }
 {
-    n / PIECE_SIZE * 136 + index_memory::piece_nodes(n % PIECE_SIZE)
+    n / PIECE_SIZE * WHOLE_PIECE_NODES + index_memory::piece_nodes(n % PIECE_SIZE)
 }
 
 // The number of the refusal of a Memory block of n bytes behind the pieces that h counts, 0 where it is taken.

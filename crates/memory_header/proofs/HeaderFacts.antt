@@ -13,7 +13,7 @@ use Rattle.definitions.specs.Calls.{Capacity, out-of-range, needed}
 use Rattle.definitions.proofs.Views.{Eq, eq, Lt, lt, Le, le}
 use Rattle.memory_header.specs.Layout.{Room, Header, header-at, header-right, header-sound, payload-size}
 use Rattle.memory_header.specs.Answers.{heading-at, Front}
-use Rattle.memory_header.proofs.Tests.{and-left, and-right, both}
+use Rattle.definitions.proofs.Tests.{and-left, and-right, and-true}
 
 -- ---- a number that a capacity may be
 
@@ -118,15 +118,15 @@ module _ (m : List ℕ) (h : Header) where
 
   pub facts-header : HeaderFacts m h → (leb 64 (length m) && header-sound m h) ≡ true
   facts-header f =
-      both (le-leb 64 (length m) (f .room))
-      (both (is-in-range (h .capacity .nodes) (f .some-nodes) (f .few-nodes))
-      (both (is-in-range (h .capacity .entries) (f .some-entries) (f .few-entries))
-      (both (le-leb (needed (h .capacity)) (length m) (f .held))
-      (both (eq-eqb (le64 m 48) 0 (f .first-zero))
-      (both (eq-eqb (le64 m 56) 0 (f .second-zero))
-      (both (le-leb (h .phase) 1 (f .phase))
-      (both (le-leb (h .nodes) (h .capacity .nodes) (f .nodes))
-      (both (le-leb (h .entries) (h .capacity .entries) (f .entries))
+      and-true (le-leb 64 (length m) (f .room))
+      (and-true (is-in-range (h .capacity .nodes) (f .some-nodes) (f .few-nodes))
+      (and-true (is-in-range (h .capacity .entries) (f .some-entries) (f .few-entries))
+      (and-true (le-leb (needed (h .capacity)) (length m) (f .held))
+      (and-true (eq-eqb (le64 m 48) 0 (f .first-zero))
+      (and-true (eq-eqb (le64 m 56) 0 (f .second-zero))
+      (and-true (le-leb (h .phase) 1 (f .phase))
+      (and-true (le-leb (h .nodes) (h .capacity .nodes) (f .nodes))
+      (and-true (le-leb (h .entries) (h .capacity .entries) (f .entries))
       (le-leb (h .payload) (cond (eqb (h .phase) 0) (h .capacity .entries) (payload-size (h .capacity))) (f .payload))))))))))
 
   -- the memory has room for the capacity

@@ -1,7 +1,6 @@
 -- `Numbers`, `HeaderBytes`: what is written is read back; `HeaderFacts`: what a sound header tells; `Opening`: what opening
--- answers; `Tests`: tests one after another. Assumes nothing.
+-- answers. Assumes nothing.
 pub mod Numbers
-pub mod Tests
 pub mod HeaderBytes
 pub mod HeaderFacts
 pub mod Opening

@@ -17,7 +17,8 @@ use Rattle.image_format.specs.Image.{Child, with-byte, slot-size, slot-bytes, s
 use Rattle.image_format.proofs.KindOne.{offsets-length}
 use Rattle.single_writer.specs.Kids.{no-child, sizes}
 use Rattle.single_writer.proofs.Sized.{Sized, sized-with, slot-length, slots-length}
-use Rattle.single_writer.proofs.Orders.{Climbs, climbs-less, climbs-none, past-with}
+use Rattle.single_writer.proofs.Orders.{Climbs, climbs-less, climbs-none}
+use Rattle.image_format.proofs.Slots.{past-at}
 
 -- ── one more slot ──
 
@@ -154,6 +155,6 @@ module _ (base start o : ℕ) (ws : List Child) (z : Sized ws) (table : base + 2
           offsets = r .0;
           slots = r .1;
           size = rw (add-one j, slots-more j 0 ws, u, n, add-one met, take-suc ws met no-child i) (omega (arith, w .size, sizes-snoc (take met ws) (getD ws met no-child)));
-          passed = λ b h. w .passed b (omega arith) ∙ ap (with-byte b) cut ∙ past-with b (getD ws met no-child) (drop (suc met) ws) (omega arith) ∙ ap (λ (x : ℕ). with-byte b (drop x ws)) (sym (add-one met));
+          passed = λ b h. w .passed b (omega arith) ∙ ap (with-byte b) cut ∙ past-at b (getD ws met no-child) (drop (suc met) ws) (omega arith) ∙ ap (λ (x : ℕ). with-byte b (drop x ws)) (sym (add-one met));
           rest = rw (add-one met) (climbs-less (getD ws met no-child .byte + 1) (j + 1) (drop (suc met) ws) (omega arith) (cl .2));
         }

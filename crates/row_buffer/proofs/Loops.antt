@@ -13,7 +13,7 @@ use Rattle.definitions.specs.Rows.{combine-split-times}
 use Rattle.definitions.proofs.Order.{location-path}
 use Rattle.location.proofs.Bytes.{length-location}
 use Rattle.place_buffer.proofs.Scratch.{locations-ext}
-use Rattle.row_buffer.specs.Numbers.{row-at, row-size}
+use Rattle.row_buffer.specs.RowPlaces.{row-at, row-size}
 use Rattle.row_buffer.proofs.Rows.{locations-none, row-some, row-within, rows-first}
 
 -- the rows of n places from byte p on

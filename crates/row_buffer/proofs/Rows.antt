@@ -10,7 +10,7 @@ use borrow.Author.Tests.{eq-eqb, ne-eqb}
 use Rattle.words.specs.Words.{le64}
 use Rattle.definitions.specs.Location.{Location, location-at, locations-in}
 use Rattle.definitions.specs.Rows.{goes-on, lengthened, combined, combine-split-times}
-use Rattle.row_buffer.specs.Numbers.{row-at, ended, going-on, row-size}
+use Rattle.row_buffer.specs.RowPlaces.{row-at, ended, going-on, row-size}
 
 module _ (s : List ℕ) where
   -- the first of n places, and those behind it

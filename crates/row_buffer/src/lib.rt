@@ -7,7 +7,7 @@ ghost use lib.ListN.{length};
 ghost use lib.Seq.{sets};
 ghost use Rattle.definitions.specs.Location.{location-at, location-bytes, locations-in, locations-bytes};
 ghost use Rattle.definitions.specs.Rows.{goes-on, combine-split-times};
-ghost use Rattle.row_buffer.specs.Numbers.{row-size, row-at, ended};
+ghost use Rattle.row_buffer.specs.RowPlaces.{row-size, row-at, ended};
 ghost use Rattle.row_buffer.specs.Answer.{refused, finding-of, AtFront, rows-answer};
 
 // What a search finds: the number of a refusal (0 for none), and how many rows stand at the front of scratch.

@@ -1,6 +1,7 @@
--- Locations as rows, and rows as numbers. Assumes nothing.
+-- Locations as rows, and rows put over lent ones. Assumes nothing.
 use Prim.Native.Nat.{ℕ}
-use mathlib.Core.List.{List, [], _∷_}
+use mathlib.Core.List.{List, [], _∷_, _++_}
+use lib.ListN.{length, drop}
 use Rattle.definitions.specs.Location.{Location}
 use Rattle.rows.specs.declared.Row.{Row}
 
@@ -13,7 +14,6 @@ unfoldable pub rows-of : List Location → List Row
 rows-of [] = []
 rows-of (l ∷ ls) = row-of l ∷ rows-of ls
 
--- the numbers of rows: address, first tick and end of each
-unfoldable pub numbers-of : List Row → List ℕ
-numbers-of [] = []
-numbers-of (r ∷ rs) = r .address ∷ r .«created_at» ∷ r .«destroyed_at» ∷ numbers-of rs
+-- lent rows after others are handed over in them: those after the last stay
+abbrev pub rows-over : List Location → List Row → List Row
+rows-over ls lent = rows-of ls ++ drop (length ls) lent

@@ -2,10 +2,9 @@
 use definitions::LOCATION_SIZE;
 ghost use mathlib.Core.Path.{_≡_};
 ghost use Prim.Native.Nat.{_+_, _*_, _≤_};
-ghost use mathlib.Core.List.{_++_};
-ghost use lib.ListN.{length, drop};
+ghost use lib.ListN.{length};
 ghost use Rattle.definitions.specs.Location.{location-at, locations-in};
-ghost use Rattle.rows.specs.Rows.{row-of, rows-of};
+ghost use Rattle.rows.specs.Rows.{row-of, rows-over};
 
 // Three numbers side by side, so that programs in other languages can lend rows.
 #[repr(C)]
@@ -31,7 +30,7 @@ fn row_at(s: &[u8], p: usize) -> Row
 // Hands over the n rows at the front of bytes. Rows after the last are left as they are.
 pub fn put_rows(rows: &mut [Row], from: &[u8], n: usize)
     requires { ⌜ (n ≤ length (now rows)) × (n * 24 ≤ length (now from)) ⌝ }
-    ensures { λ _. ⌜ now (rows .exit) ≡ rows-of (locations-in (now (from .entry)) n 0) ++ drop n (now (rows .entry)) ⌝ }
+    ensures { λ _. ⌜ now (rows .exit) ≡ rows-over (locations-in (now (from .entry)) n 0) (now (rows .entry)) ⌝ }
 {
     let mut i = 0;
     while i < n {

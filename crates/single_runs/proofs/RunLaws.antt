@@ -14,7 +14,7 @@ use Rattle.definitions.proofs.Views.{Eq, eq}
 use Rattle.definitions.specs.Location.{Location, location-at, locations-in}
 use Rattle.trie.specs.Trie.{Lists, Forest, leaf, more, Node}
 use Rattle.trie.specs.Test.{all-ended, and-list, child-lists, front-lists, is-union}
-use Rattle.trie.proofs.Union.{both}
+use Rattle.definitions.proofs.Tests.{both}
 use Rattle.location_lists.specs.Lists.{Lists as ListsIn, lists-in, count-with}
 use Rattle.image_format.specs.Held.{Entry}
 pub use Rattle.fields.proofs.Singles.{by-test, not-so}

@@ -1,5 +1,6 @@
 // Runs of nodes with one child, stepped over at once.
 use definitions::LOCATION_SIZE;
+use image_format::HEAD_SIZE;
 use image_walk::Node;
 use image_walk::Slot;
 ghost use mathlib.Core.Path.{_≡_};
@@ -13,6 +14,23 @@ ghost use Rattle.image_walk.specs.Here.{Laid};
 ghost use Rattle.node_rule.specs.Parts.{HasTable};
 ghost use Rattle.definitions.specs.Location.{location-at};
 ghost use Rattle.single_runs.specs.Singles.{SingleWithSuffix, SingleIn, SinglesTo};
+
+// Where the parts of a node without prefixes and chunks stand: its suffix count, its first suffix, and its child count where
+// it has one suffix.
+const SUFFIX_COUNT: usize = 17;
+
+const SUFFIXES: usize = 25;
+
+const CHILD_COUNT: usize = 49;
+
+// From a table of one entry to the child behind it; to that child's one suffix, to its table, and to the next one's suffix.
+const TO_CHILD: usize = 10;
+
+const TO_SUFFIX: usize = 35;
+
+const TO_TABLE: usize = 67;
+
+const TO_NEXT_SUFFIX: usize = 102;
 
 // Whether a node is a leaf with one prefix, and neither chunk nor suffix.
 pub fn is_leaf(n: Node) -> bool
@@ -49,11 +67,11 @@ fn bare_single_table(s: &[u8], at: usize) -> usize
     if !fields::is_bare(s, at) {
         return 0;
     }
-    let n = words::get64(s, at + 17) as usize;
+    let n = words::get64(s, at + SUFFIX_COUNT) as usize;
     if n == 0 {
-        return single_table(s, at + 25);
+        return single_table(s, at + SUFFIXES);
     }
-    single_table(s, at + 25 + LOCATION_SIZE * n)
+    single_table(s, at + SUFFIXES + LOCATION_SIZE * n)
 }
 
 // No byte.
@@ -68,14 +86,11 @@ fn byte_behind(s: &[u8], table: usize) -> usize
     let Slot::Taken { byte, at } = slot else {
         return NO_BYTE;
     };
-    if at != table + 10 {
+    if at != table + TO_CHILD {
         return NO_BYTE;
     }
     byte as usize
 }
-
-// The bytes of a node without lists up to its table.
-const HEAD_SIZE: usize = 33;
 
 // The tables of two nodes, if both is true.
 struct Pair {
@@ -100,8 +115,8 @@ fn both_down(s: &[u8], table: usize, other: usize) -> Pair
     ensures { λ r. ⌜ (r .both ≡ true → Down (now (s .entry)) table other (r .table) (r .other)) ⌝ }
 {
     // The child stands behind the table. A sum, and not the offset, lets the next loads start before this one ends.
-    let due = table + 10;
-    let front_due = other + 10;
+    let due = table + TO_CHILD;
+    let front_due = other + TO_CHILD;
     let byte = byte_behind(s, table);
     if byte == NO_BYTE {
         return apart();
@@ -166,10 +181,10 @@ fn is_single_with_suffix(s: &[u8], at: usize) -> bool
     if !fields::is_bare(s, at) {
         return false;
     }
-    if words::get64(s, at + 17) != 1 {
+    if words::get64(s, at + SUFFIX_COUNT) != 1 {
         return false;
     }
-    words::get64(s, at + 49) == 1
+    words::get64(s, at + CHILD_COUNT) == 1
 }
 
 // Whether the child in a table of one entry stands behind it and is such a node.
@@ -180,7 +195,7 @@ fn has_single_with_suffix(s: &[u8], table: usize) -> bool
     if byte_behind(s, table) == NO_BYTE {
         return false;
     }
-    is_single_with_suffix(s, table + 10)
+    is_single_with_suffix(s, table + TO_CHILD)
 }
 
 // Whether the node in a table, which is such a node, has a child that is one too, with the same suffix.
@@ -188,10 +203,14 @@ fn goes_on(s: &[u8], table: usize) -> bool
     requires { ⌜ HasTable (now s) table 1 × SingleIn (now s) table ⌝ }
     ensures { λ r. ⌜ (r ≡ true → SingleIn (now (s .entry)) (table + 67) × (location-at (now (s .entry)) (table + 35) ≡ location-at (now (s .entry)) (table + 102))) ⌝ }
 {
-    if !has_single_with_suffix(s, table + 67) {
+    if !has_single_with_suffix(s, table + TO_TABLE) {
         return false;
     }
-    location_lists::is_at(s, table + 102, location::location_at(s, table + 35))
+    location_lists::is_at(
+        s,
+        table + TO_NEXT_SUFFIX,
+        location::location_at(s, table + TO_SUFFIX),
+    )
 }
 
 // How many levels such a run goes on, and the table where it ends.
@@ -214,7 +233,7 @@ pub fn single_run(s: &[u8], table: usize, most: usize) -> SingleRun
         if !goes_on(s, t) {
             return SingleRun { levels, table: t };
         }
-        t += 67;
+        t += TO_TABLE;
         levels += 1;
     }
     SingleRun { levels, table: t }

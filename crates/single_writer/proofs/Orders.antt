@@ -14,6 +14,7 @@ use Rattle.tails.specs.Tails.{Tail}
 use Rattle.tails.specs.Groups.{Group, arrive, by-arrival, group-forest}
 use Rattle.image_format.specs.Image.{Child, as-child, children-of, with-byte, ascending, size-below, children-size}
 use Rattle.image_format.proofs.ByByte.{total}
+use Rattle.image_format.proofs.Slots.{past-at}
 use Rattle.tails.proofs.ByArrival.{by-arrival-mem, sum, sum-either}
 use Rattle.tail_groups.specs.Found.{no-group}
 use Rattle.single_writer.specs.Kids.{kid, kids, no-child}
@@ -80,15 +81,11 @@ climbs-none b c [] h r = refl
 climbs-none b c (k ∷ ks) h r = rw (ne-eqb (k .byte) c (omega (arith, r .0))) (climbs-none (k .byte + 1) c ks (omega (arith, r .0)) (r .2))
 
 -- one that is passed is not met again
-pub past-with : (b : ℕ) (k : Child) (ks : List Child) → k .byte < b → with-byte b (k ∷ ks) ≡ with-byte b ks
-unfolding with-byte
-past-with b k ks h = rw (ne-eqb (k .byte) b (omega arith))
-
 past-ascending : (m b : ℕ) (k : Child) (ks : List Child) → k .byte < b → ascending m b (k ∷ ks) ≡ ascending m b ks
 unfolding ascending
 past-ascending zero b k ks h = refl
 past-ascending (suc m) b k ks h =
-    let e = past-with b k ks h in
+    let e = past-at b k ks h in
     let r = past-ascending m (b + 1) k ks (omega arith) in
     cc
 

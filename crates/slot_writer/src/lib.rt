@@ -1,5 +1,10 @@
 // The slots of a table, written entry by entry.
+use image_format::DENSE_ENTRIES;
+use image_format::DENSE_SIZE;
+use image_format::SLOT_SIZE;
 use list_writer::End;
+use tail_groups::LEAST;
+use tail_groups::LEVEL_SIZE;
 ghost use mathlib.Core.Path.{_≡_};
 ghost use Prim.Native.Nat.{_+_, _-_, _*_, _≤_, _<_};
 ghost use lib.ListN.{length, set};
@@ -48,15 +53,15 @@ pub fn put_count(mem: &mut [u8], at: usize, n: usize) -> Table
         return Table {
             kind,
             base: at,
-            start: at + 2048,
-            turns: 256,
+            start: at + DENSE_SIZE,
+            turns: DENSE_ENTRIES,
         };
     }
     words::put64(mem, at, n as u64);
     Table {
         kind,
         base: at + 8,
-        start: at + 8 + n * 9,
+        start: at + 8 + n * SLOT_SIZE,
         turns: n,
     }
 }
@@ -87,9 +92,9 @@ pub fn put_entry(mem: &mut [u8], b: Branches, base: usize, groups: &[usize], g: 
     requires { ⌜ EntryAsked (now mem) (b .work) (b .lo) (b .hi) (b .depth) base (b .count) (now groups) g at ⌝ }
     ensures { λ _. ⌜ GroupEntry (now (mem .entry)) (now (mem .exit)) (b .work) (b .lo) (b .hi) (b .depth) base g at ⌝ }
 {
-    let starts = b.depth * 513;
-    let least = starts + 257;
-    let place = base + tail_groups::rank(groups, least, b.count, groups[least + g]) * 9;
+    let starts = b.depth * LEVEL_SIZE;
+    let least = starts + LEAST;
+    let place = base + tail_groups::rank(groups, least, b.count, groups[least + g]) * SLOT_SIZE;
     let byte = tail_groups::tail_byte(mem, b.work, groups[starts + g], b.depth);
     mem[place] = byte;
     put_slot(mem, place + 1, at, 1);
@@ -100,9 +105,9 @@ pub fn group_of(mem: &[u8], b: Branches, t: Table, groups: &[usize], j: usize, m
     requires { ⌜ TurnAsked (now mem) (b .work) (b .lo) (b .hi) (b .depth) t (b .count) (now groups) j met ⌝ }
     ensures { λ r. ⌜ Picked (now (mem .entry)) (b .work) (b .lo) (b .hi) (b .depth) t (b .count) j met r ⌝ }
 {
-    let starts = b.depth * 513;
+    let starts = b.depth * LEVEL_SIZE;
     if t.kind == 3 {
-        return tail_groups::with_rank(groups, starts + 257, b.count, j);
+        return tail_groups::with_rank(groups, starts + LEAST, b.count, j);
     }
     if t.kind == 2 {
         return j;
@@ -122,7 +127,7 @@ pub fn child_span(groups: &[usize], b: Branches, g: usize) -> Span
     requires { ⌜ (b .depth < 16) × (g < 256) × (8721 ≤ length (now groups)) ⌝ }
     ensures { λ r. ⌜ r ≡ child-in (now (groups .entry)) b g ⌝ }
 {
-    let start = b.depth * 513 + g;
+    let start = b.depth * LEVEL_SIZE + g;
     Span {
         work: b.work,
         lo: groups[start],

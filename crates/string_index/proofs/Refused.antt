@@ -15,6 +15,7 @@ use Rattle.memory_header.specs.Opening.{fresh-memory, open-memory}
 use Rattle.index_memory.specs.Index.{standing-of, read-index}
 use Rattle.recording.specs.Record.{appended, record-memory}
 use Rattle.memory_header.proofs.Opening.{refused-leaves}
+use Rattle.rows.specs.declared.Row.{Row}
 use Rattle.saving.proofs.Theorems.{save-leaves, load-leaves}
 use Rattle.string_index.specs.Finish.{finished-by, finish-memory}
 use Rattle.handing_over.specs.Search.{found-or-refused, search-memory}
@@ -34,14 +35,14 @@ finish-leaves : (m : List ℕ) → (finish-memory m .refusal ≡ 0 → ⊥) → 
 unfolding finish-memory
 finish-leaves m = refused-leaves (first-cause (finish-checks (standing-of (read-index m)))) m (finished-by (read-index m) m)
 
-found-leaves : (o : Option Cause) (rs : List Location) (buffer : List ℕ) → (found-or-refused o rs buffer .refusal ≡ 0 → ⊥) → found-or-refused o rs buffer .buffer ≡ buffer
-found-leaves none rs buffer f = absurd (f refl)
-found-leaves (some c) rs buffer f = refl
+found-leaves : (o : Option Cause) (rs : List Location) (lent : List Row) → (found-or-refused o rs lent .refusal ≡ 0 → ⊥) → found-or-refused o rs lent .rows ≡ lent
+found-leaves none rs lent f = absurd (f refl)
+found-leaves (some c) rs lent f = refl
 
-search-leaves : (m q : List ℕ) (scratch : ℕ) (buffer : List ℕ) → (search-memory m q scratch buffer .refusal ≡ 0 → ⊥) → search-memory m q scratch buffer .buffer ≡ buffer
+search-leaves : (m q : List ℕ) (scratch : ℕ) (lent : List Row) → (search-memory m q scratch lent .refusal ≡ 0 → ⊥) → search-memory m q scratch lent .rows ≡ lent
 unfolding search-memory
-search-leaves m q scratch buffer =
-    found-leaves (first-cause (search-checks (standing-of (read-index m)) q (scratch / 24) (length buffer / 3))) (rows (standing-of (read-index m) .pieces) q) buffer
+search-leaves m q scratch lent =
+    found-leaves (first-cause (search-checks (standing-of (read-index m)) q (scratch / 24) (length lent))) (rows (standing-of (read-index m) .pieces) q) lent
 
 pub all-leave : RefusedLeaves
 all-leave = record { open-leaves = open-leaves; record-leaves = record-leaves; finish-leaves = finish-leaves; search-leaves = search-leaves; save-leaves = save-leaves; load-leaves = load-leaves }

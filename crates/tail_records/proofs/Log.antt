@@ -16,7 +16,7 @@ use Rattle.definitions.specs.Blocks.{Piece}
 use Rattle.definitions.specs.Calls.{last-number}
 use Rattle.definitions.proofs.Order.{location-path}
 use Rattle.trie.specs.Build.{Entry, parts, entered}
-use Rattle.memory_header.proofs.Tests.{and-left, and-right}
+use Rattle.definitions.proofs.Tests.{and-left, and-right}
 use Rattle.index_memory.specs.Log.{piece-in, log-in, piece-sound, log-sound}
 use Rattle.tail_records.specs.Log.{SoundPiece, SoundLog, tail-from}
 use Rattle.tail_words.proofs.Part.{part-ext}

@@ -1,3 +1,2 @@
--- `Arrays` and `Returned` serve `search`: a local array of rows, and the row that is returned. Assumes nothing.
+-- `Arrays` serves `search`: a local array of rows. Assumes nothing.
 pub mod Arrays
-pub mod Returned

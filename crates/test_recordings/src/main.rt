@@ -12,7 +12,7 @@ ghost use Prim.Native.Nat.{_+_, _*_, _<_, _≤_};
 ghost use lib.ListN.{length, replicate};
 ghost use Rattle.handing_over.specs.Search.{search-memory};
 ghost use Rattle.test_recordings.specs.Counting.{counting-up};
-ghost use Rattle.test_recordings.specs.Handed.{handed};
+ghost use Rattle.test_recordings.specs.Handed.{before, handed};
 
 fn print_number(n: u64) {
     io::write_all(STDOUT_FILENO, b" ");
@@ -163,7 +163,7 @@ struct Handed {
 // A search with four rows lent, whose numbers are 7 before: its answer, and the row at an index afterwards.
 fn search(mem: &[u8], q: &[u8], scratch: &mut [u8], at: usize) -> Handed
     requires { ⌜ at < 4 ⌝ }
-    ensures { λ r. ⌜ r ≡ handed (search-memory (now (mem .entry)) (now (q .entry)) (length (now (scratch .entry))) (replicate 12 7)) at ⌝ }
+    ensures { λ r. ⌜ r ≡ handed (search-memory (now (mem .entry)) (now (q .entry)) (length (now (scratch .entry))) (replicate 4 before)) at ⌝ }
 {
     let before = Row {
         address: 7,

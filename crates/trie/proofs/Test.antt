@@ -21,7 +21,8 @@ use Rattle.trie.specs.Local.{FromChild, FromFront, HasChild, HasEnd, Loc
 use Rattle.trie.specs.Test.{is-ascending, all-pass, and-list, is-nil, is-union, child-lists, is-owed, lists-right, node-right, next-fronts, front-lists, is-some, within, fronts-within, forest-right, siblings, rule-test}
 use Rattle.trie.proofs.Walk.{lost, root-node, in-chunks-node, in-prefixes-node, in-suffixes-node, walk-append}
 use Rattle.trie.proofs.Stands.{apart-at}
-use Rattle.trie.proofs.Union.{both, and-true, InLists, FromLists, Union, union-holds, AllSorted, holds-union, is-ascending-sorted}
+use Rattle.definitions.proofs.Tests.{both, and-true}
+use Rattle.trie.proofs.Union.{InLists, FromLists, Union, union-holds, AllSorted, holds-union, is-ascending-sorted}
 use Rattle.trie.proofs.Fronts.{never-some, same-some, child-first, absent-none, child-later, ChildOf, FrontOf, Fronts, fronts-root, walk-last, Parent, parent, fronts-next, Ends, front-lists-are, Under, child-lists-are}
 use Rattle.trie.proofs.Local.{local-is-rule}
 

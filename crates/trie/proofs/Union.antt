@@ -8,22 +8,9 @@ use mathlib.Core.List.{List, [], _∷_, List·Memᴰ as Mem, List·Memᴰ·head 
 use lib.Dec.{leb, isEq}
 use borrow.Author.Tests.{leb-true, le-leb}
 use Rattle.definitions.specs.Location.{Location, moved, order, is-lt, Sorted, Less}
+use Rattle.definitions.proofs.Tests.{both, and-true}
 use Rattle.definitions.proofs.Order.{less-asym, less-trans, Cmp, cmp, location-path}
 use Rattle.trie.specs.Test.{is-ascending, ascending-from, and-list, moved-back, begins, step-over, any-begins, step-over-all, is-nil, all-ended, is-union}
-
--- ── a conjunction that holds ──
-
-pub both : (a b : Bool) → (a && b) ≡ true → (a ≡ true) × (b ≡ true)
-both true true e = (refl, refl)
-both true false e = absurd (let z : _≡_ {A = ℕ} 0 1 = cc in omega arith)
-both false b e = absurd (let z : _≡_ {A = ℕ} 0 1 = cc in omega arith)
-
-pub and-true : {a b : Bool} → a ≡ true → b ≡ true → (a && b) ≡ true
-and-true {a} {b} = go a b
-  where
-    go : (a b : Bool) → a ≡ true → b ≡ true → (a && b) ≡ true
-    go true b e f = f
-    go false b e f = e
 
 either : (a b : Bool) → (a || b) ≡ true → (a ≡ true) ⊎ (b ≡ true)
 either true b e = inl refl

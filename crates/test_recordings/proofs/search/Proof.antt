@@ -49,7 +49,6 @@ use denote.Exit.{yes}
 use denote.Signature.{plain, shrSliceOf}
 use Rattle.definitions.specs.Causes.{ScratchAfter}
 use Rattle.rows.specs.declared.Row.{Row}
-use Rattle.rows.specs.Rows.{numbers-of}
 use Rattle.rows.proofs.Row as T
 use Rattle.rows.proofs.Row.Laws as T′
 use Rattle.handing_over.specs.declared.Answer.{Answer}
@@ -61,10 +60,9 @@ use Rattle.handing_over.proofs.search as g
 use Rattle.handing_over.proofs.search.Symbol as g-def
 use Rattle.handing_over.proofs.search.Met as g-thm
 use Rattle.test_recordings.specs.declared.Handed.{Handed}
-use Rattle.test_recordings.specs.Handed.{handed}
+use Rattle.test_recordings.specs.Handed.{before, handed}
 use Rattle.test_recordings.proofs.Handed.Laws as S′
 use Rattle.test_recordings.proofs.Handed as S
-use Rattle.test_recordings.proofs.Returned.{before, is-handed}
 use Rattle.test_recordings.proofs.Arrays.{R, mach, array-out, array-room}
 use Rattle.test_recordings.proofs.search as f
 use Rattle.test_recordings.proofs.search.Statement as stated
@@ -142,10 +140,13 @@ module _ {M : Type 1} (𝓤 : URA M) (H : Heap 𝓤) (A : Atoms 𝓤) (W : Given
 
   -- what is found, and what is returned where a is the answer and zs are the rows afterwards
   abbrev found : Found
-  found = search-memory (z .now) (y .now) (length (x .now)) (numbers-of xs)
+  found = search-memory (z .now) (y .now) (length (x .now)) xs
 
   abbrev result : Answer → List Row → Handed
   result a zs = record { answer = a; row = getD zs k before }
+
+  is-handed : (a : Answer) (zs : List Row) → a ≡ answer-to found → zs ≡ found .rows → result a zs ≡ handed found k
+  is-handed a zs e left = λ i. record { answer = e i; row = getD (left i) k before }
 
   typed : (r : Row) → Is R r (mach r ∷ []) → Holds (hasTy T′.mir (mach r)) × WT (mach r)
   typed r is = LL.lawful T.the-type T′.the-laws 𝓤 H A W .typed r _ is .0
@@ -159,7 +160,7 @@ module _ {M : Type 1} (𝓤 : URA M) (H : Heap 𝓤) (A : Atoms 𝓤) (W : Given
   is-result : (a : Answer) (zs : List Row) (v : Val) → Is ER a (v ∷ []) → Is R (getD zs k before) (mach (getD zs k before) ∷ []) → Is HR (result a zs) (mach-handed (result a zs) ∷ [])
   is-result a zs v is is-r = LL.owes S.the-type S′.the-laws (result a zs) (subst (λ (us : List Val). Is ER a us) (EL.tells E.the-type E′.the-laws a (v ∷ []) is) is, (is-r, tt))
 
-  exits : (h : Handed) (ss : List ℕ) → Is HR h (mach-handed h ∷ []) → h ≡ handed (search-memory (z .now) (y .now) (length (x .now)) (replicate 12 7)) k → length ss ≡ length (x .now)
+  exits : (h : Handed) (ss : List ℕ) → Is HR h (mach-handed h ∷ []) → h ≡ handed (search-memory (z .now) (y .now) (length (x .now)) xs) k → length ss ≡ length (x .now)
       → ent 𝓤 (⋆ 𝓤 H A (‵ (flft κs qs) ∷ ‵ (flft κq qq) ∷ ‵ (flft κm qm) ∷ ‵ (finally u8 (x .name) ss) ∷ [])) (Post (mach-handed h))
   exits h ss is told len =
       qed W (‵ (flft κs qs) ∷ ‵ (flft κq qq) ∷ ‵ (flft κm qm) ∷ ‵ (finally u8 (x .name) ss) ∷ []) ∵
@@ -222,8 +223,8 @@ module _ {M : Type 1} (𝓤 : URA M) (H : Heap 𝓤) (A : Atoms 𝓤) (W : Given
         -- [its pre; the lender's part; _15; …; _7; …; that _6 dies; _5; …; _0; …]
         calls-at ! fm (Callee 𝓤 H A at-mem run) known (to-g l₆ ν δ) (and-then ! (load ! (from ! (stop !)) (look ! 29 refl)) (and-then ! (load ! (from ! (stop !)) (look ! 27 refl)) (and-then ! (load ! (from ! (stop !)) (look ! 14 refl)) (and-then ! (load ! (from ! (stop !)) (look ! 10 refl)) (no-more !))))) (λ v.
         use1 W (later (some (λ (a : Answer). (Tokens ν ⊛ ‵ (ER .own a (v ∷ []))) ⊛ raw (ensured 𝓤 H A g.ended (g.clauses 𝓤 H A at-mem run) (κm, (κq, (κs, (ν ∷ [], tt)))) (g-arg l₆ δ) tt a)))) (id⊢ 𝓤 _) $ await ! tt $ pick ! (λ a.
-        split ! $ move ! (1 ∷ []) $ use1 W (some (λ (ws : Unit {0} × (Unit {0} × (List ℕ × (List Row × Unit {0})))). ‵ (lasts g.ended (κm, (κq, (κs, (ν ∷ [], tt)))) (g-arg l₆ δ) ws) ⊛ (raw (fact 𝓤 (a ≡ answer-to found)) ⊛ (raw (fact 𝓤 (numbers-of (ws .1 .1 .1 .0) ≡ found .buffer)) ⊛ raw (fact 𝓤 (ScratchAfter (found .refusal) (x .now) (ws .1 .1 .0))))))) (id⊢ 𝓤 _) $ pick ! (λ ws.
-        split ! $ move ! (1 ∷ []) $ split ! $ heard ! (a ≡ answer-to found) (λ e. split ! $ heard ! (numbers-of (ws .1 .1 .1 .0) ≡ found .buffer) (λ left. heard ! (ScratchAfter (found .refusal) (x .now) (ws .1 .1 .0)) (λ kept.
+        split ! $ move ! (1 ∷ []) $ use1 W (some (λ (ws : Unit {0} × (Unit {0} × (List ℕ × (List Row × Unit {0})))). ‵ (lasts g.ended (κm, (κq, (κs, (ν ∷ [], tt)))) (g-arg l₆ δ) ws) ⊛ (raw (fact 𝓤 (a ≡ answer-to found)) ⊛ (raw (fact 𝓤 (ws .1 .1 .1 .0 ≡ found .rows)) ⊛ raw (fact 𝓤 (ScratchAfter (found .refusal) (x .now) (ws .1 .1 .0))))))) (id⊢ 𝓤 _) $ pick ! (λ ws.
+        split ! $ move ! (1 ∷ []) $ split ! $ heard ! (a ≡ answer-to found) (λ e. split ! $ heard ! (ws .1 .1 .1 .0 ≡ found .rows) (λ left. heard ! (ScratchAfter (found .refusal) (x .now) (ws .1 .1 .0)) (λ kept.
         fsplit ! $ drop ! $ fsplit ! $ drop ! $ fsplit ! $ fsplit ! $ move ! (1 ∷ []) $ feqL ! (λ len. move ! (1 ∷ []) $ fsplit ! $ fsplit ! $ move ! (1 ∷ []) $ feqL ! (λ len′.
         -- [the last rows; …; the last bytes; the tokens and the answer; the lender's part; _15; …]
         move ! (3 ∷ []) $ split ! $ move ! (1 ∷ []) $ peeks ! ER (Is ER) (shows 𝓤 H A ER) a (v ∷ []) (λ is. drop ! $
@@ -244,7 +245,7 @@ module _ {M : Type 1} (𝓤 : URA M) (H : Heap 𝓤) (A : Atoms 𝓤) (W : Given
         returns ! (look ! 34 refl) $ forget ! 5 refl $ forget ! 7 refl $ forget ! 9 refl $ forget ! 11 refl $ forget ! 13 refl $ forget ! 15 refl $ forget ! 17 refl $ forget ! 19 refl $ forget ! 21 refl $ forget ! 24 refl $ forget ! 26 refl $ forget ! 28 refl $ forget ! 30 refl $ forget ! 32 refl $ forget ! 34 refl $
         move ! (34 ∷ 35 ∷ []) $ free1 ! $ move ! (32 ∷ 33 ∷ []) $ free1 ! $ move ! (30 ∷ 31 ∷ []) $ free1 ! $ move ! (28 ∷ 29 ∷ []) $ free1 ! $ move ! (26 ∷ 27 ∷ []) $ free1 ! $ move ! (24 ∷ 25 ∷ []) $ free1 ! $ move ! (0 ∷ 23 ∷ []) $ free1 ! $
         move ! (20 ∷ 21 ∷ []) $ free1 ! $ move ! (18 ∷ 19 ∷ []) $ free1 ! $ move ! (16 ∷ 17 ∷ []) $ free1 ! $ move ! (14 ∷ 15 ∷ []) $ free1 ! $ move ! (12 ∷ 13 ∷ []) $ free1 ! $ move ! (10 ∷ 11 ∷ []) $ free1 ! $ move ! (8 ∷ 9 ∷ []) $ free1 ! $ move ! (6 ∷ 7 ∷ []) $ free1 ! $ move ! (4 ∷ 5 ∷ []) $ free1 ! $ free0 ! $
-        by ! (exits (result a (ws .1 .1 .1 .0)) (ws .1 .1 .0) (is-result a (ws .1 .1 .1 .0) v is is-r) (is-handed (z .now) (y .now) (length (x .now)) k (ws .1 .1 .1 .0) a (within (ws .1 .1 .1 .0) len′) e left) len)))))))))))))))))))))))))))))
+        by ! (exits (result a (ws .1 .1 .1 .0)) (ws .1 .1 .0) (is-result a (ws .1 .1 .1 .0) v is is-r) (is-handed a (ws .1 .1 .1 .0) e left) len)))))))))))))))))))))))))))))
 
 module _ {M : Type 1} (𝓤 : URA M) (H : Heap 𝓤) (A : Atoms 𝓤) (W : Given 𝓤 H A) (mem : Memory → SProp 𝓤) (run : Routine → Fun 𝓤) where
   f-walks : (C : Calls 𝓤 H) (Λ : Loops 𝓤 H) → FmC 𝓤 H (W .laws) C → Triple 𝓤 (C #handing-over·search) (Callee 𝓤 H A mem run) → Walks 𝓤 H A f.ended stayed (WpFn 𝓤 H C Λ code.function) (f.clauses 𝓤 H A mem run)

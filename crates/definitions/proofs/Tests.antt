@@ -11,5 +11,8 @@ and-right true b e = e
 and-right false true e = refl
 and-right false false e = e
 
-pub both : {a b : Bool} → a ≡ true → b ≡ true → (a && b) ≡ true
-both {a} {b} e f = rw (e, f)
+pub both : (a b : Bool) → (a && b) ≡ true → (a ≡ true) × (b ≡ true)
+both a b e = (and-left a b e, and-right a b e)
+
+pub and-true : {a b : Bool} → a ≡ true → b ≡ true → (a && b) ≡ true
+and-true {a} {b} e f = rw (e, f)

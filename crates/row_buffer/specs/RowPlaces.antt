@@ -1,4 +1,4 @@
--- The places of a row, and rows as numbers. Assumes nothing.
+-- The places of a row. Assumes nothing.
 use Prim.Native.Nat.{ℕ, suc}
 use mathlib.Core.Bool.{cond}
 use mathlib.Core.List.{List, [], _∷_}
@@ -22,8 +22,3 @@ going-on l (m ∷ ms) = cond (goes-on l m) (suc (going-on (lengthened l m) ms)) 
 unfoldable pub row-size : List Location → ℕ
 row-size [] = 0
 row-size (l ∷ ls) = suc (going-on l ls)
-
--- the numbers of rows: address, first tick and end of each
-unfoldable pub row-numbers : List Location → List ℕ
-row-numbers [] = []
-row-numbers (l ∷ ls) = l .address ∷ l .created ∷ l .destroyed ∷ row-numbers ls
