@@ -53,7 +53,11 @@ fn count_of(s: &[u8], kind: u8, at: usize) -> usize
     requires { ⌜ at + 8 ≤ length (now s) ⌝ }
     ensures { λ r. ⌜ r ≡ cond (eqb kind 1) 256 (le64 (now (s .entry)) at) ⌝ }
 {
-    if kind == 1 { DENSE_ENTRIES } else { size_at(s, at) }
+    if kind == 1 {
+        DENSE_ENTRIES
+    } else {
+        size_at(s, at)
+    }
 }
 
 // Where that table starts: in kinds 2 and 3 behind its count.
