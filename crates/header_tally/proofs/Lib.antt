@@ -1,2 +1,2 @@
--- `LentTally` has the calls of a function that lends a header's tally. Assumes nothing.
-pub mod LentTally
+-- `Lent` has the walk of a function that lends a header's tally. Assumes nothing.
+pub mod Lent

@@ -1,4 +1,5 @@
--- `Lends`: a local tally that is lent for one call. `RecordCall`, `FinishCall`: the calls of `record` and `finish`. Assumes nothing.
+-- `ValueCall`: calls by value. `Change`: what `record` and `finish` share. `Stored`: the walk of both. `Lends`: calls of them. Assumes nothing.
+pub mod ValueCall
+pub mod Change
+pub mod Stored
 pub mod Lends
-pub mod RecordCall
-pub mod FinishCall

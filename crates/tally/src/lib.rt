@@ -23,8 +23,8 @@ fn recorded(t: Tally, nodes: usize, entries: usize) -> Tally
     }
 }
 
-// The tally of a finished index that is left with these nodes and entries.
-fn finished(nodes: usize, entries: usize) -> Tally
+// The tally of a finished index that is left with these nodes and entries, whatever it was before.
+fn finished(t: Tally, nodes: usize, entries: usize) -> Tally
     ensures { λ r. ⌜ r ≡ finished nodes entries ⌝ }
 {
     Tally {
@@ -46,5 +46,5 @@ pub fn record(t: &mut Tally, nodes: usize, entries: usize)
 pub fn finish(t: &mut Tally, nodes: usize, entries: usize)
     ensures { λ _. ⌜ now (t .exit) ≡ finished nodes entries ⌝ }
 {
-    *t = finished(nodes, entries);
+    *t = finished(*t, nodes, entries);
 }
