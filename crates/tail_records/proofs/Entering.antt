@@ -4,18 +4,93 @@ use native.Mathlib.Omega.{arith}
 use mathlib.Core.Path.{_≡_, refl, sym, ap, subst, _∙_}
 use mathlib.Core.Logic.{inl}
 use mathlib.Core.List.{List, [], _∷_, _++_}
-use lib.ListN.{length, getD, length-append}
+use lib.ListN.{length, getD, take, drop, length-append}
 use lib.Seq.{sets, length-sets}
-use Rattle.words.specs.Words.{le64}
 use Rattle.words.proofs.Parts.{getD-sets-out}
+use Rattle.definitions.specs.Location.{Location, moved}
 use Rattle.definitions.specs.Blocks.{Piece}
 use Rattle.records.specs.Records.{recordBytes, recordsBytes}
-use Rattle.trie.specs.Build.{Entry, entered, entered-all}
+use Rattle.trie.specs.Build.{Entry, parts, entered, entered-all}
 use Rattle.index_memory.specs.Log.{piece-in, log-in}
 use Rattle.tails.specs.Tails.{tail-record}
-use Rattle.tail_records.specs.Log.{SoundPiece, SoundLog, tail-from}
-use Rattle.tail_records.proofs.Write.{piece-length, bytes-from, write-one, write-many}
-use Rattle.tail_records.proofs.Log.{sound-ext, size-ext, piece-ext, still, still-start, still-step, still-done, log-none, log-step}
+use Rattle.tail_records.specs.Log.{SoundPiece, SoundLog}
+use Rattle.tail_records.proofs.Write.{Read, bytes-from, write-one, write-many}
+use Rattle.tail_records.proofs.Log.{sound-ext, piece-ext, part-of, whole-of, still, still-start, still-step, still-done, log-none, log-step}
+
+-- ── the tails of a piece ──
+
+pub record Putting (s₀ : List ℕ) (p : Piece) (work count m : ℕ) (l : Location) (bs s : List ℕ) (t i : ℕ) : Type 0 where
+  pub read : Read p m l bs
+  pub room : work + 56 * (count + length (entered p)) ≤ length s
+  pub from : 1 ≤ i
+  pub long : length s ≡ length s₀
+  pub tails : t + length (still p i) ≡ count + length (entered p)
+  pub bytes : sets s (work + 56 * t) (bytes-from t (still p i)) ≡ sets s₀ (work + 56 * count) (bytes-from count (entered p))
+
+module _ {s₀ : List ℕ} {p : Piece} {work count m : ℕ} {l : Location} {bs : List ℕ} where
+  pub putting-start : Read p m l bs → work + 56 * (count + length (entered p)) ≤ length s₀ → Putting s₀ p work count m l bs s₀ count 1
+  putting-start r room = record {
+    read = r;
+    room = room;
+    from = omega arith;
+    long = refl;
+    tails = ap (λ (es : List Entry). count + length es) (still-start p);
+    bytes = ap (λ (es : List Entry). sets s₀ (work + 56 * count) (bytes-from count es)) (still-start p);
+  }
+
+  module _ {s : List ℕ} {t i : ℕ} (w : Putting s₀ p work count m l bs s t i) where
+    -- at least the whole piece is still to be written
+    pub putting-room : work + 56 * t + 56 ≤ length s
+    putting-room = omega (arith, length-append (parts (moved (p .at) (i - 1)) (drop (i - 1) (p .bytes))) (whole-of (p .at) (p .bytes) ∷ []))
+
+    -- one more tail in the loop
+    step : i < m → still p i ≡ part-of (moved (p .at) i) (drop i (p .bytes)) ∷ still p (i + 1)
+    step h = still-step p i (w .from) (omega arith)
+
+    pub putting-turn : (s′ : List ℕ) (l′ : Location) → i < m → l′ ≡ moved l i
+        → s′ ≡ sets s (work + 56 * t) (recordBytes (tail-record (record { entry = part-of l′ (take (m - i) (drop i bs)); arrival = t })))
+        → Putting s₀ p work count m l bs s′ (t + 1) (i + 1)
+    putting-turn s′ l′ h a e =
+        let b : l′ ≡ moved (p .at) i = a ∙ ap (λ (k : Location). moved k i) (w .read .place) in
+        let f : s′ ≡ sets s (work + 56 * t) (recordBytes (tail-record (record { entry = part-of (moved (p .at) i) (drop i (p .bytes)); arrival = t }))) =
+        e ∙ (λ j. sets s (work + 56 * t) (recordBytes (tail-record (record { entry = part-of (b j) (w .read .part i j); arrival = t })))) in
+        let g : length s′ ≡ length s = ap length f ∙ simp length-sets in
+        record {
+          read = w .read;
+          room = omega arith;
+          from = omega arith;
+          long = g ∙ w .long;
+          tails = omega (arith, ap length (step h));
+          bytes =
+              ap (λ (xs : List ℕ). sets xs (work + 56 * (t + 1)) (bytes-from (t + 1) (still p (i + 1)))) f
+              ∙ sym (write-one s work t (part-of (moved (p .at) i) (drop i (p .bytes))) (still p (i + 1)))
+              ∙ ap (λ (es : List Entry). sets s (work + 56 * t) (bytes-from t es)) (sym (step h)) ∙ w .bytes;
+        }
+
+    -- the whole piece
+    last : m ≤ i → still p i ≡ whole-of (p .at) (p .bytes) ∷ []
+    last h = still-done p i (omega arith)
+
+    pub putting-count : m ≤ i → t + 1 ≡ count + length (entered p)
+    putting-count h = omega (arith, ap length (last h))
+
+    pub putting-done : (s′ : List ℕ) → m ≤ i
+        → s′ ≡ sets s (work + 56 * t) (recordBytes (tail-record (record { entry = whole-of l (take (m - 0) (drop 0 bs)); arrival = t })))
+        → s′ ≡ sets s₀ (work + 56 * count) (bytes-from count (entered p))
+    unfolding recordsBytes
+    putting-done s′ h e =
+        e ∙ (λ j. sets s (work + 56 * t) (recordBytes (tail-record (record { entry = whole-of (w .read .place j) (w .read .part 0 j); arrival = t }))))
+        ∙ sym (write-one s work t (whole-of (p .at) (p .bytes)) [])
+        ∙ ap (λ (es : List Entry). sets s (work + 56 * t) (bytes-from t es)) (sym (last h)) ∙ w .bytes
+
+-- ── the tails of a log ──
+
+-- the entries of the pieces from number j on
+abbrev pub yet : List ℕ → ℕ → ℕ → List Entry
+yet s pieces j = entered-all (log-in s (pieces - j) (64 + 48 * j))
+
+abbrev pub all : List ℕ → ℕ → List Entry
+all s pieces = entered-all (log-in s pieces 64)
 
 -- ys is xs below byte n, and as long
 pub record Front (n : ℕ) (xs ys : List ℕ) : Type 0 where
@@ -28,107 +103,8 @@ front-sets {n} {xs} {ys} zs at f h = record {
   same = λ k l. getD-sets-out zs ys at k (inl (omega arith)) ∙ f .same k l;
 }
 
--- ── the tails of a piece ──
-
--- what `put_tail` asks
-pub record Asks (s : List ℕ) (piece i at : ℕ) : Type 0 where
-  pub sound : SoundPiece s piece
-  pub inside : i ≤ le64 s piece
-  pub before : piece + 48 ≤ at
-  pub room : at + 56 ≤ length s
-
-pub record Putting (s₀ : List ℕ) (piece work count : ℕ) (s : List ℕ) (t i : ℕ) : Type 0 where
-  pub from : 1 ≤ i
-  pub front : Front work s₀ s
-  pub tails : t + length (still (piece-in s₀ piece) i) ≡ count + length (entered (piece-in s₀ piece))
-  pub bytes : sets s (work + 56 * t) (bytes-from t (still (piece-in s₀ piece) i)) ≡ sets s₀ (work + 56 * count) (bytes-from count (entered (piece-in s₀ piece)))
-
-module _ (s₀ : List ℕ) (piece work count : ℕ) (sound : SoundPiece s₀ piece) (before : piece + 48 ≤ work)
-    (room : work + 56 * (count + length (entered (piece-in s₀ piece))) ≤ length s₀) (m : ℕ) (got : m ≡ le64 s₀ piece) where
-  pub putting-start : Putting s₀ piece work count s₀ count 1
-  putting-start =
-      let e = still-start (piece-in s₀ piece) in
-      record {
-        from = omega arith;
-        front = record { long = refl; same = λ k l. refl };
-        tails = ap (λ (es : List Entry). count + length es) e;
-        bytes = ap (λ (es : List Entry). sets s₀ (work + 56 * count) (bytes-from count es)) e;
-      }
-
-  front-sound : {s : List ℕ} → Front work s₀ s → SoundPiece s piece
-  front-sound {s} f = sound-ext s₀ s piece (f .long) (λ k l. f .same k (omega arith)) sound
-
-  front-size : {s : List ℕ} → Front work s₀ s → le64 s piece ≡ le64 s₀ piece
-  front-size {s} f = size-ext s₀ s piece (f .long) (λ k l. f .same k (omega arith))
-
-  front-piece : {s : List ℕ} → Front work s₀ s → piece-in s piece ≡ piece-in s₀ piece
-  front-piece {s} f = piece-ext s₀ s piece (f .long) (λ k l. f .same k (omega arith)) (sound .short)
-
-  size : length (piece-in s₀ piece .bytes) ≡ le64 s₀ piece
-  size = piece-length s₀ piece (sound .short) (omega arith)
-
-  module _ {s : List ℕ} {t i : ℕ} (w : Putting s₀ piece work count s t i) where
-    -- one more tail in the loop
-    step : i < m → still (piece-in s₀ piece) i ≡ tail-from (piece-in s₀ piece) i t .entry ∷ still (piece-in s₀ piece) (i + 1)
-    step h = still-step (piece-in s₀ piece) i t (w .from) (omega (arith, size))
-
-    pub putting-asks : i < m → Asks s piece i (work + 56 * t)
-    putting-asks h = record {
-      sound = front-sound (w .front);
-      inside = omega (arith, front-size (w .front));
-      before = omega arith;
-      room = omega (arith, w .front .long, w .tails, ap length (step h));
-    }
-
-    pub putting-turn : (s′ : List ℕ) → i < m → s′ ≡ sets s (work + 56 * t) (recordBytes (tail-record (tail-from (piece-in s piece) i t)))
-        → Putting s₀ piece work count s′ (t + 1) (i + 1)
-    putting-turn s′ h e =
-        let f : s′ ≡ sets s (work + 56 * t) (recordBytes (tail-record (tail-from (piece-in s₀ piece) i t))) =
-        e ∙ ap (λ (p : Piece). sets s (work + 56 * t) (recordBytes (tail-record (tail-from p i t)))) (front-piece (w .front)) in
-        record {
-          from = omega arith;
-          front = subst (Front work s₀) (sym f) (front-sets (recordBytes (tail-record (tail-from (piece-in s₀ piece) i t))) (work + 56 * t) (w .front) (omega arith));
-          tails = omega (arith, w .tails, ap length (step h));
-          bytes =
-              ap (λ (xs : List ℕ). sets xs (work + 56 * (t + 1)) (bytes-from (t + 1) (still (piece-in s₀ piece) (i + 1)))) f
-              ∙ sym (write-one s work t (tail-from (piece-in s₀ piece) i t .entry) (still (piece-in s₀ piece) (i + 1)))
-              ∙ ap (λ (es : List Entry). sets s (work + 56 * t) (bytes-from t es)) (sym (step h)) ∙ w .bytes;
-        }
-
-    -- the whole piece
-    last : m ≤ i → still (piece-in s₀ piece) i ≡ tail-from (piece-in s₀ piece) 0 t .entry ∷ []
-    last h = still-done (piece-in s₀ piece) i t (omega (arith, size))
-
-    pub putting-asks-last : m ≤ i → Asks s piece 0 (work + 56 * t)
-    putting-asks-last h = record {
-      sound = front-sound (w .front);
-      inside = omega arith;
-      before = omega arith;
-      room = omega (arith, w .front .long, w .tails, ap length (last h));
-    }
-
-    pub putting-count : m ≤ i → t + 1 ≡ count + length (entered (piece-in s₀ piece))
-    putting-count h = omega (arith, w .tails, ap length (last h))
-
-    pub putting-done : (s′ : List ℕ) → m ≤ i → s′ ≡ sets s (work + 56 * t) (recordBytes (tail-record (tail-from (piece-in s piece) 0 t)))
-        → s′ ≡ sets s₀ (work + 56 * count) (bytes-from count (entered (piece-in s₀ piece)))
-    unfolding recordsBytes
-    putting-done s′ h e =
-        e ∙ ap (λ (p : Piece). sets s (work + 56 * t) (recordBytes (tail-record (tail-from p 0 t)))) (front-piece (w .front))
-        ∙ sym (write-one s work t (tail-from (piece-in s₀ piece) 0 t .entry) [])
-        ∙ ap (λ (es : List Entry). sets s (work + 56 * t) (bytes-from t es)) (sym (last h)) ∙ w .bytes
-
--- ── the tails of a log ──
-
--- the entries of the pieces from number j on
-abbrev pub yet : List ℕ → ℕ → ℕ → List Entry
-yet s pieces j = entered-all (log-in s (pieces - j) (64 + 48 * j))
-
-abbrev pub all : List ℕ → ℕ → List Entry
-all s pieces = entered-all (log-in s pieces 64)
-
 -- what `put_tails` asks
-pub record AsksAll (s : List ℕ) (piece work count : ℕ) : Type 0 where
+pub record Asks (s : List ℕ) (piece work count : ℕ) : Type 0 where
   pub sound : SoundPiece s piece
   pub before : piece + 48 ≤ work
   pub room : work + 56 * (count + length (entered (piece-in s piece))) ≤ length s
@@ -169,7 +145,7 @@ module _ (s₀ : List ℕ) (pieces work : ℕ) (sound : SoundLog s₀ pieces 64)
     same-here : j < pieces → piece-in s (64 + 48 * j) ≡ here
     same-here h = piece-ext s₀ s (64 + 48 * j) (w .front .long) (λ k l. w .front .same k (omega arith)) (sound-here h .short)
 
-    pub expanding-asks : j < pieces → AsksAll s (64 + 48 * j) work t
+    pub expanding-asks : j < pieces → Asks s (64 + 48 * j) work t
     expanding-asks h = record {
       sound = sound-ext s₀ s (64 + 48 * j) (w .front .long) (λ k l. w .front .same k (omega arith)) (sound-here h);
       before = omega arith;

@@ -8,7 +8,7 @@ use mathlib.Core.List.{List, [], _∷_, _++_}
 use lib.ListN.{length, getD, take, drop, length-drop}
 use lib.Seq.{drop-cons}
 use lib.Dec.{leb, ltb}
-use borrow.Author.Tests.{ne-eqb, leb-true}
+use borrow.Author.Tests.{leb-true}
 use Rattle.words.specs.Words.{le64}
 use Rattle.words.proofs.Laws.{le64-ext}
 use Rattle.definitions.specs.Location.{Location, moved, location-at}
@@ -18,7 +18,7 @@ use Rattle.definitions.proofs.Order.{location-path}
 use Rattle.trie.specs.Build.{Entry, parts, entered}
 use Rattle.definitions.proofs.Tests.{and-left, and-right}
 use Rattle.index_memory.specs.Log.{piece-in, log-in, piece-sound, log-sound}
-use Rattle.tail_records.specs.Log.{SoundPiece, SoundLog, tail-from}
+use Rattle.tail_records.specs.Log.{SoundPiece, SoundLog}
 use Rattle.tail_words.proofs.Part.{part-ext}
 
 -- ── a piece ──
@@ -33,23 +33,20 @@ module _ (s s′ : List ℕ) (p : ℕ) (long : length s′ ≡ length s) (same :
       let a = number-same (p + 24) (omega arith) in
       record { short = omega (arith, w .short); address = omega (arith, w .address) }
 
-  pub size-ext : le64 s′ p ≡ le64 s p
-  size-ext = number-same p (omega arith)
-
   pub piece-ext : le64 s p ≤ 16 → piece-in s′ p ≡ piece-in s p
   piece-ext h =
       let b : take (le64 s′ p) (drop (p + 8) s′) ≡ take (le64 s p) (drop (p + 8) s) =
-      ap (λ (n : ℕ). take n (drop (p + 8) s′)) size-ext ∙ part-ext (le64 s p) s s′ (p + 8) long (λ k x y. same k (omega arith)) in
+      ap (λ (n : ℕ). take n (drop (p + 8) s′)) (number-same p (omega arith)) ∙ part-ext (le64 s p) s s′ (p + 8) long (λ k x y. same k (omega arith)) in
       let l : location-at s′ (p + 24) ≡ location-at s (p + 24) =
       location-path (number-same (p + 24) (omega arith)) (number-same (p + 24 + 8) (omega arith)) (number-same (p + 24 + 16) (omega arith)) in
       λ i. record { bytes = b i; at = l i }
 
 -- ── its tails ──
 
-abbrev part-of : Location → List ℕ → Entry
+abbrev pub part-of : Location → List ℕ → Entry
 part-of m q = record { path = q; at = m; whole = false }
 
-abbrev whole-of : Location → List ℕ → Entry
+abbrev pub whole-of : Location → List ℕ → Entry
 whole-of m q = record { path = q; at = m; whole = true }
 
 parts-two : (m : Location) (xs ys zs : List ℕ) (b c : ℕ) → xs ≡ b ∷ ys → ys ≡ c ∷ zs → parts m xs ≡ part-of (moved m 1) ys ∷ parts (moved m 1) ys
@@ -79,19 +76,17 @@ module _ (p : Piece) where
       let e : moved (p .at) 0 ≡ p .at = location-path (omega arith) refl refl in
       ap (λ (m : Location). parts m (p .bytes) ++ (whole-of (p .at) (p .bytes) ∷ [])) e
 
-  pub still-step : (i t : ℕ) → 1 ≤ i → i < length (p .bytes) → still p i ≡ tail-from p i t .entry ∷ still p (i + 1)
-  still-step zero t a h = absurd (not-suc-le-zero a)
-  still-step (suc k) t a h =
+  pub still-step : (i : ℕ) → 1 ≤ i → i < length (p .bytes) → still p i ≡ part-of (moved (p .at) i) (drop i (p .bytes)) ∷ still p (i + 1)
+  still-step zero a h = absurd (not-suc-le-zero a)
+  still-step (suc k) a h =
       let e : suc k - 1 ≡ k = omega arith in
       let f : suc k + 1 - 1 ≡ suc k = omega arith in
-      rw (e, f, ne-eqb (suc k) 0 (omega arith)) (ap (λ (es : List Entry). es ++ (whole-of (p .at) (p .bytes) ∷ [])) (parts-step (p .at) (p .bytes) k h))
+      rw (e, f) (ap (λ (es : List Entry). es ++ (whole-of (p .at) (p .bytes) ∷ [])) (parts-step (p .at) (p .bytes) k h))
 
-  pub still-done : (i t : ℕ) → length (p .bytes) ≤ i → still p i ≡ tail-from p 0 t .entry ∷ []
-  still-done i t h =
+  pub still-done : (i : ℕ) → length (p .bytes) ≤ i → still p i ≡ whole-of (p .at) (p .bytes) ∷ []
+  still-done i h =
       let few : parts (moved (p .at) (i - 1)) (drop (i - 1) (p .bytes)) ≡ [] = parts-few (moved (p .at) (i - 1)) (drop (i - 1) (p .bytes)) (omega (arith, length-drop (i - 1) (p .bytes))) in
-      let e : p .at ≡ moved (p .at) 0 = location-path (omega arith) refl refl in
       ap (λ (es : List Entry). es ++ (whole-of (p .at) (p .bytes) ∷ [])) few
-      ∙ ap (λ (m : Location). whole-of m (p .bytes) ∷ []) e
 
 -- ── a log ──
 

@@ -1,22 +1,24 @@
--- Writing tails: the numbers of one record, those of a piece's tail, and one tail after the other. Assumes nothing.
-use Prim.Native.Nat.{ℕ, suc, _+_, _-_, _*_, _≤_}
+-- Writing tails: the numbers of one record, what is read of a piece, and one tail after the other. Assumes nothing.
+use Prim.Native.Nat.{ℕ, suc, _+_, _-_, _*_, _≤_, _<_}
 use native.Mathlib.Numerals.{add-one}
 use native.Mathlib.Omega.{arith}
 use mathlib.Core.Path.{_≡_, refl, sym, ap, _∙_}
+use mathlib.Core.Bool.{Bool}
 use mathlib.Core.List.{List, [], _∷_, _++_}
-use lib.ListN.{length, take, drop, length-take, length-drop}
-use lib.Seq.{sets, drop-drop}
-use lib.Dec.{eqb}
+use lib.ListN.{length, getD, take, drop, length-take, length-drop}
+use lib.Seq.{sets, length-sets, take-all, take-take, ext-getD}
 use Rattle.words.specs.Words.{le64, setLe64}
-use Rattle.words.proofs.Parts.{setLe64-sets}
-use Rattle.definitions.specs.Location.{Location, moved, location-at, location-bytes}
+use Rattle.words.proofs.Parts.{setLe64-sets, take-sets}
+use Rattle.definitions.specs.Location.{Location, location-at, location-bytes}
+use Rattle.definitions.specs.Blocks.{Piece}
+use Rattle.definitions.specs.Calls.{last-number}
 use Rattle.location.proofs.Bytes.{put-numbers}
 use Rattle.records.specs.Records.{recordBytes, recordsBytes}
 use Rattle.records.proofs.Bytes.{recordBytes-sets, recordsBytes-sets}
 use Rattle.trie.specs.Build.{Entry}
 use Rattle.index_memory.specs.Log.{piece-in}
 use Rattle.tails.specs.Tails.{high, mark-of, numbered, tail-record, tail-records}
-use Rattle.tail_records.specs.Log.{tail-from, numbers}
+use Rattle.tail_records.specs.Log.{SoundPiece, numbers}
 use Rattle.tail_words.proofs.Part.{part-drop}
 
 -- ── one record ──
@@ -50,27 +52,67 @@ module _ (at first second mark : ℕ) (l : Location) (arrival : ℕ) where
       → vs ≡ sets us (at + 24) (location-bytes l) → ws ≡ setLe64 vs (at + 48) arrival → ws ≡ sets xs at (recordBytes (numbers first second mark l arrival))
   record-in-turn xs ys zs us vs ws p q r s t = cc (all-numbers xs)
 
--- ── the tail of a piece ──
+-- the numbers of a tail: the second is made of what is behind the first eight bytes of its path, or of none
+module _ (bs : List ℕ) (whole : Bool) (n o first second mark arrival : ℕ) (l : Location) where
+  pub tail-numbers : n ≡ length bs → o ≡ n - 8 → first ≡ high 8 (take n (drop 0 bs)) 0 → second ≡ high 8 (take o (drop (n - o) bs)) 0
+      → mark ≡ 2 * n + mark-of whole → numbers first second mark l arrival ≡ tail-record (record { entry = record { path = bs; at = l; whole = whole }; arrival = arrival })
+  tail-numbers e f p q r =
+      let a : first ≡ high 8 bs 0 = p ∙ ap (λ (ys : List ℕ). high 8 ys 0) (take-all n bs (omega arith)) in
+      let b : second ≡ high 8 (drop 8 bs) 0 = q ∙ ap (λ (ys : List ℕ). high 8 ys 0) rest in
+      let c : mark ≡ 2 * length bs + mark-of whole = r ∙ ap (λ (m : ℕ). 2 * m + mark-of whole) e in
+      λ j. numbers (a j) (b j) (c j) l arrival
+    where
+      same : (k : ℕ) → k < o → getD (drop (n - o) bs) k 0 ≡ getD (drop 8 bs) k 0
+      same k h =
+          let g : n - o ≡ 8 = omega (arith, f) in
+          ap (λ (j : ℕ). getD (drop j bs) k 0) g
+
+      rest : take o (drop (n - o) bs) ≡ drop 8 bs
+      rest =
+          take-all o (drop (n - o) bs) (omega (arith, length-drop (n - o) bs))
+          ∙ ext-getD 0 (drop (n - o) bs) (drop 8 bs) (omega (arith, length-drop (n - o) bs, length-drop 8 bs))
+          (λ k h. same k (omega (arith, length-drop (n - o) bs)))
+
+-- ── a piece ──
 
 -- the length of a piece's bytes
 pub piece-length : (s : List ℕ) (p : ℕ) → le64 s p ≤ 16 → p + 24 ≤ length s → length (piece-in s p .bytes) ≡ le64 s p
 piece-length s p h room = omega (arith, length-take (le64 s p) (drop (p + 8) s), length-drop (p + 8) s)
 
-module _ (s : List ℕ) (piece i n o first second mark arrival : ℕ) (l : Location) where
-  pub tail-numbers : le64 s piece ≤ 16 → piece + 24 ≤ length s → n ≡ le64 s piece - i → o ≡ n - 8
-      → first ≡ high 8 (take n (drop (piece + 8 + i) s)) 0 → second ≡ high 8 (take o (drop (piece + 16 + i) s)) 0
-      → mark ≡ 2 * n + mark-of (eqb i 0) → l ≡ moved (location-at s (piece + 24)) i
-      → numbers first second mark l arrival ≡ tail-record (tail-from (piece-in s piece) i arrival)
-  tail-numbers h room e f p q r k =
-      let bytes : List ℕ = piece-in s piece .bytes in
-      let part : drop i bytes ≡ take n (drop (piece + 8 + i) s) = part-drop (le64 s piece) s (piece + 8) i n (piece + 8 + i) e refl in
-      let rest : drop 8 (drop i bytes) ≡ take o (drop (piece + 16 + i) s) =
-      drop-drop 8 i bytes ∙ part-drop (le64 s piece) s (piece + 8) (i + 8) o (piece + 16 + i) (omega arith) (omega arith) in
-      let long : n ≡ length (drop i bytes) = omega (arith, length-drop i bytes, piece-length s piece h room) in
-      let a : first ≡ high 8 (drop i bytes) 0 = p ∙ ap (λ (bs : List ℕ). high 8 bs 0) (sym part) in
-      let b : second ≡ high 8 (drop 8 (drop i bytes)) 0 = q ∙ ap (λ (bs : List ℕ). high 8 bs 0) (sym rest) in
-      let c : mark ≡ 2 * length (drop i bytes) + mark-of (eqb i 0) = r ∙ ap (λ (m : ℕ). 2 * m + mark-of (eqb i 0)) long in
-      λ j. numbers (a j) (b j) (c j) (k j) arrival
+-- what is read of a piece, once: its length, its location, and its bytes with others behind them
+pub record Read (p : Piece) (m : ℕ) (l : Location) (bytes : List ℕ) : Type 0 where
+  pub short : m ≤ 16
+  pub long : length bytes ≡ 16
+  pub size : length (p .bytes) ≡ m
+  pub place : l ≡ p .at
+  pub address : l .address + m ≤ last-number
+  pub part : (i : ℕ) → take (m - i) (drop i bytes) ≡ drop i (p .bytes)
+
+pub piece-read : (s : List ℕ) (piece m : ℕ) (l : Location) (bytes zs : List ℕ) → SoundPiece s piece → piece + 48 ≤ length s
+    → m ≡ le64 s piece → l ≡ location-at s (piece + 24) → length zs ≡ 16 → bytes ≡ sets zs 0 (take 16 (drop (piece + 8) s)) → Read (piece-in s piece) m l bytes
+piece-read s piece m l bytes zs sound room e f z g = record {
+  short = omega arith;
+  long = ap length g ∙ length-sets zs 0 from ∙ z;
+  size = piece-length s piece (sound .short) (omega arith) ∙ sym e;
+  place = f;
+  address = omega (arith, ap (λ (k : Location). k .address) f);
+  part = part;
+}
+  where
+    from : List ℕ
+    from = take 16 (drop (piece + 8) s)
+
+    all : bytes ≡ from
+    all =
+        let n : length from ≡ 16 = omega (arith, length-take 16 (drop (piece + 8) s), length-drop (piece + 8) s) in
+        g ∙ sym (take-all (length from) (sets zs 0 from) (omega (arith, length-sets zs 0 from))) ∙ take-sets from zs 0 (omega arith)
+
+    part : (i : ℕ) → take (m - i) (drop i bytes) ≡ drop i (piece-in s piece .bytes)
+    part i =
+        ap (λ (bs : List ℕ). take (m - i) (drop i bs)) all
+        ∙ ap (take (m - i)) (part-drop 16 s (piece + 8) i (16 - i) (piece + 8 + i) refl refl)
+        ∙ take-take (m - i) (16 - i) (drop (piece + 8 + i) s) (omega arith)
+        ∙ sym (part-drop (le64 s piece) s (piece + 8) i (m - i) (piece + 8 + i) (omega arith) refl)
 
 -- ── tails one after the other ──
 

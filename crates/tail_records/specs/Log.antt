@@ -1,13 +1,9 @@
--- The log that tails are made of: what is asked of its pieces, and the tail of a piece from its byte i on. Assumes nothing.
+-- The log that tails are made of: what is asked of its pieces; and the numbers of a record. Assumes nothing.
 use Prim.Native.Nat.{ℕ, _+_, _*_, _≤_, _<_}
 use mathlib.Core.List.{List, [], _∷_}
-use lib.ListN.{drop}
-use lib.Dec.{eqb}
 use Rattle.words.specs.Words.{le64}
-use Rattle.definitions.specs.Location.{Location, moved}
-use Rattle.definitions.specs.Blocks.{Piece}
+use Rattle.definitions.specs.Location.{Location}
 use Rattle.definitions.specs.Calls.{last-number}
-use Rattle.tails.specs.Tails.{Tail}
 
 -- the piece at p has at most 16 bytes, and none of them stands behind the last address
 pub record SoundPiece (m : List ℕ) (p : ℕ) : Type 0 where
@@ -17,10 +13,6 @@ pub record SoundPiece (m : List ℕ) (p : ℕ) : Type 0 where
 -- so do n pieces from p on, 48 bytes each
 pub record SoundLog (m : List ℕ) (n p : ℕ) : Type 0 where
   pub each : (j : ℕ) → j < n → SoundPiece m (p + 48 * j)
-
--- the tail of a piece from its byte i on; from byte 0 on it is the whole piece
-abbrev pub tail-from : Piece → ℕ → ℕ → Tail
-tail-from p i arrival = record { entry = record { path = drop i (p .bytes); at = moved (p .at) i; whole = eqb i 0 }; arrival = arrival }
 
 -- a record of these numbers
 abbrev pub numbers : ℕ → ℕ → ℕ → Location → ℕ → List ℕ

@@ -2,53 +2,53 @@
 -- Assumes nothing.
 use Prim.Native.Nat.{_-_}
 use native.Mathlib.Omega.{arith}
-use mathlib.Core.Path.{_∙_}
-use Rattle.tail_records.proofs.Entering.{Putting, putting-start, putting-asks, putting-turn, putting-asks-last, putting-count, putting-done}
+use mathlib.Core.Path.{refl, _∙_}
+use lib.ListN.{length-take, length-drop}
+use Rattle.location.specs.Plain.{plain}
+use Rattle.index_memory.specs.Log.{piece-in}
+use Rattle.tail_records.proofs.Write.{piece-read}
+use Rattle.tail_records.proofs.Entering.{Putting, putting-start, putting-room, putting-turn, putting-count, putting-done}
 use Rattle.tail_records.proofs.put_tails.Statement.{statement}
 use Rattle.tail_records.proofs.put_tails.Tie as tie
 
 abbrev Inv-loop : tie.InvT-loop
-Inv-loop mem₀ piece work count m t₀ i₀ mem t i = Putting mem₀ piece work count mem t i
+Inv-loop mem₀ piece work count m l bytes t₀ i₀ mem t i = Putting mem₀ (piece-in mem₀ piece) work count m (plain l) bytes mem t i
 
 abbrev μ-loop : tie.MeasureT-loop
-μ-loop mem₀ piece work count m t₀ i₀ mem t i = m - i
+μ-loop mem₀ piece work count m l bytes t₀ i₀ mem t i = m - i
 
 loop-holds : tie.Need-loop-holds Inv-loop μ-loop
 loop-holds c =
-    let p = c .before .before .before .pre in
-    putting-start _ _ _ _ (p .0) (p .1) (p .2) _ (c .get64 .ensures)
+    let c₄ = c .before .before .before .before in
+    let p = c₄ .before .before .before .before .before .pre in
+    putting-start (piece-read _ _ _ _ _ _ (p .0) (omega arith) (c₄ .before .before .get64 .ensures) (c₄ .location-at .ensures) refl (c .before .copy .ensures)) (p .2)
+
+add-put-tail : tie.Need-add-put-tail Inv-loop μ-loop
+add-put-tail c = omega (arith, putting-room (c .before .before .loop .inv))
 
 put-tail-requires : tie.Need-put-tail-requires Inv-loop μ-loop
 put-tail-requires c κs =
-    let w = c .before .before .loop .inv in
-    let g = c .before .before .before .get64 .ensures in
-    let p = c .before .before .before .before .before .before .pre in
-    let q = putting-asks _ _ _ _ (p .0) (p .1) (p .2) _ g w (c .before .loop-test .taken) in
-    (q .sound, q .inside, q .before, q .room)
+    let w = c .before .before .before .before .before .loop .inv in
+    (putting-room w, simp (length-take, length-drop) (omega arith))
 
 loop-again : tie.Need-loop-again Inv-loop μ-loop
 loop-again c =
-    let turn = c .before .before .before .before in
-    let w = turn .before .loop .inv in
-    let g = turn .before .before .get64 .ensures in
-    let p = turn .before .before .before .before .before .pre in
-    putting-turn _ _ _ _ (p .0) (p .1) (p .2) _ g w _ (turn .loop-test .taken) (c .before .before .put-tail .ensures)
+    let c₇ = c .before .before .before .before .before .before .before in
+    putting-turn (c₇ .before .loop .inv) _ _ (c₇ .loop-test .taken) (c .before .before .before .moved .ensures) (c .before .before .put-tail .ensures)
+
+add-put-tail-2 : tie.Need-add-put-tail-2 Inv-loop μ-loop
+add-put-tail-2 c = omega (arith, putting-room (c .before .before .loop .inv))
 
 put-tail-requires-2 : tie.Need-put-tail-requires-2 Inv-loop μ-loop
 put-tail-requires-2 c κs =
-    let w = c .before .before .loop .inv in
-    let g = c .before .before .before .get64 .ensures in
-    let p = c .before .before .before .before .before .before .pre in
-    let q = putting-asks-last _ _ _ _ (p .0) (p .1) (p .2) _ g w (c .before .loop-test .left) in
-    (q .sound, q .inside, q .before, q .room)
+    let w = c .before .before .before .before .loop .inv in
+    (putting-room w, simp length-take (omega arith))
 
 returns : tie.Need-returns Inv-loop μ-loop
 returns c =
-    let turn = c .before .before .before .before in
-    let w = turn .before .loop .inv in
-    let g = turn .before .before .get64 .ensures in
-    let p = turn .before .before .before .before .before .pre in
-    (putting-count _ _ _ _ (p .0) (p .1) (p .2) _ g w (turn .loop-test .left), putting-done _ _ _ _ (p .0) (p .1) (p .2) _ g w _ (turn .loop-test .left) (c .before .before .put-tail2 .ensures))
+    let c₆ = c .before .before .before .before .before .before in
+    let w = c₆ .before .loop .inv in
+    (putting-count w (c₆ .loop-test .left), putting-done w _ (c₆ .loop-test .left) (c .before .before .put-tail2 .ensures))
 
 pub put-tails-spec : {M : Type 1} → statement M
 put-tails-spec =
@@ -57,17 +57,29 @@ put-tails-spec =
     Inv-loop
     μ-loop
     (λ c κs. omega arith)
+    (λ c. omega arith)
+    (λ c κs. omega arith)
+    (λ c. omega arith)
+    (λ c. refl)
+    (λ c κs. omega arith)
     loop-holds
-    (λ c. omega (arith, put-tail-requires c (c .before .before .before .before .before .before .κs) .3))
-    (λ c. omega (arith, put-tail-requires c (c .before .before .before .before .before .before .κs) .3))
+    (λ c. omega (arith, add-put-tail c .fits))
+    add-put-tail
+    (λ c. omega arith)
+    (λ c. omega arith)
+    (λ c. omega arith)
+    (λ c κs. omega arith)
     put-tail-requires
-    (λ c. omega (arith, put-tail-requires (c .before .before .before) (c .before .before .before .before .before .before .before .before .before .κs) .3))
+    (λ c. omega (arith, add-put-tail (c .before .before .before .before .before .before) .fits))
     (λ c. omega arith)
     (λ c. omega arith)
     loop-again
-    (λ c. omega (arith, put-tail-requires-2 c (c .before .before .before .before .before .before .κs) .3))
-    (λ c. omega (arith, put-tail-requires-2 c (c .before .before .before .before .before .before .κs) .3))
+    (λ c. omega (arith, add-put-tail-2 c .fits))
+    add-put-tail-2
+    (λ c. omega arith)
+    (λ c. omega arith)
+    (λ c. omega arith)
     put-tail-requires-2
-    (λ c. omega (arith, put-tail-requires-2 (c .before .before .before) (c .before .before .before .before .before .before .before .before .before .κs) .3))
-    (λ c. c .before .before .put-tail2 .kept .0 ∙ c .before .before .before .before .before .loop .inv .front .long)
+    (λ c. omega (arith, add-put-tail-2 (c .before .before .before .before .before) .fits))
+    (λ c. c .before .before .put-tail2 .kept .0 ∙ c .before .before .before .before .before .before .before .loop .inv .long)
     returns)
