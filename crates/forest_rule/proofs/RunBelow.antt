@@ -5,8 +5,6 @@ use mathlib.Core.Path.{_≡_, refl, sym, ap, subst, _∙_}
 use mathlib.Core.Bool.{Bool, true, false, _&&_}
 use mathlib.Core.List.{List, [], _∷_}
 use lib.ListN.{length, getD}
-use lib.Dec.{eqb}
-use Rattle.definitions.proofs.Views.{Eq, eq}
 use Rattle.trie.specs.Trie.{Forest, Node}
 use Rattle.node_rule.specs.Parts.{TableOf, HasTable}
 use Rattle.fronts.specs.Fronts.{FrontsFrom, FrontsHere, with-front}
@@ -14,7 +12,7 @@ use Rattle.single_runs.specs.Says.{children-right, ChildrenAsked, ChildrenSays}
 use Rattle.single_runs.specs.Runs.{RunTo, Further, RunSays, LeafSays, SaysNone}
 use Rattle.fronts.proofs.MaskLaws.{no-mask}
 use Rattle.fronts.proofs.Fronts.{fronts-put, kept-front, kept-none, kept-then}
-use Rattle.single_runs.proofs.RunLaws.{not-so}
+use Rattle.single_runs.proofs.RunLaws.{not-so, passed}
 
 -- the one front on the stack
 record OneFront (s : List ℕ) (d : ℕ) (fronts : List ℕ) (p : ℕ) (fs : List Node) : Type 0 where
@@ -93,19 +91,12 @@ module _ (s : List ℕ) (table children depth : ℕ) (old : List ℕ) (count lef
       RunSays s table children depth old count left old 0 table right true
   below-leaf k t o run c n f right r = record { few = omega arith; kept = kept-none ((depth + 1) * 768) old; is = λ e. not-so (sym e); end = λ _. end }
     where
-      passed : (b : Bool) {v : Bool} → (k ≡ 0 → b ≡ true) → ((k ≡ 0 → ⊥) → b ≡ v) → v ≡ true → b ≡ true
-      passed b f g e = go (eqb k 0) (eq k 0)
-        where
-          go : (i : Bool) → Eq i k 0 → b ≡ true
-          go true z = f z
-          go false z = g z ∙ e
-
       end : (g : Forest) (fs : List Node) → TableOf s left table children g → FrontsHere s (left - 1) old (depth * 768) count fs → right ≡ children-right depth fs g
       end g fs h w =
           let x = one-front s (left - 1) old (depth * 768) fs (w .many ∙ n) (w .each) in
           let y = run .is depth left (left - 1) g (x .node) (subst (λ (i : ℕ). TableOf s left table i g) c h) (subst (λ (i : ℕ). TableOf s (left - 1) (getD old (depth * 768) 0) i (x .node .children)) f (x .leads)) in
           let l = r (depth + k) (left - k) (left - 1 - k) (y .below) (y .last) (y .leads) (y .front-leads) in
-          let u : y .right ≡ true = passed (y .right) (y .first) (y .after) (l .none) in
+          let u : y .right ≡ true = passed k (y .right) (y .first) (y .after) (l .none) in
           l .says ∙ ap (λ (i : Bool). i && children-right (depth + k) (y .last ∷ []) (y .below)) (sym u) ∙ y .same ∙ ap (λ (i : List Node). children-right depth i g) (x .is)
 
   pub below-leaves : (k t o : ℕ) → RunTo s table (getD old (depth * 768) 0) left k t o → children ≡ 1 → count ≡ 1 → getD old (depth * 768 + 1) 0 ≡ 1 → (v : Bool) → LeafSays s t o v →

@@ -201,6 +201,14 @@ pub and-true : (b : Bool) → (b && true) ≡ b
 and-true true = refl
 and-true false = refl
 
+-- what holds before a run of no level, and is what a run of some levels says
+pub passed : (k : ℕ) (b : Bool) {v : Bool} → (k ≡ 0 → b ≡ true) → ((k ≡ 0 → ⊥) → b ≡ v) → v ≡ true → b ≡ true
+passed k b f g e = go (eqb k 0) (eq k 0)
+  where
+    go : (i : Bool) → Eq i k 0 → b ≡ true
+    go true z = f z
+    go false z = g z ∙ e
+
 -- one level: all but the suffixes of the node holds, and what stands below
 one-level : (depth b : ℕ) (h : Lists) (below : Forest) (front last : Node) → front .children ≡ more b (last .lists) (last .children) leaf →
     [] ≡ h .prefixes → [] ≡ h .chunks → [] ≡ h .suffixes → [] ≡ last .lists .chunks → [] ≡ last .lists .prefixes → (below ≡ leaf → ⊥) →
@@ -320,13 +328,6 @@ module _ (s : List ℕ) (table other most : ℕ) where
         more-than : k + 1 ≡ 0 → ⊥
         more-than i = omega arith
 
-        passed : (b : Bool) {v : Bool} → (k ≡ 0 → b ≡ true) → ((k ≡ 0 → ⊥) → b ≡ v) → v ≡ true → b ≡ true
-        passed b f g e = go (eqb k 0) (eq k 0)
-          where
-            go : (i : Bool) → Eq i k 0 → b ≡ true
-            go true z = f z
-            go false z = g z ∙ e
-
         is : (depth d e : ℕ) (g : Forest) (front : Node) → TableOf s d table 1 g → TableOf s e other 1 (front .children) → RunAt s depth d e (k + 1) t′ o′ g front
         is depth d e g front m n =
             let x = r .is depth d e g front m n in
@@ -334,7 +335,7 @@ module _ (s : List ℕ) (table other most : ℕ) where
             let a : d - k - 1 ≡ d - (k + 1) = omega arith in
             let b : e - k - 1 ≡ e - (k + 1) = omega arith in
             let c : depth + (k + 1) ≡ depth + k + 1 = omega arith in
-            let u : x .right ≡ true = passed (x .right) (x .first) (x .after) (none-owed (x .below) (y .byte) (y .lists) (y .below) (y .is) (y .chunks) (y .suffixes)) in
+            let u : x .right ≡ true = passed k (x .right) (x .first) (x .after) (none-owed (x .below) (y .byte) (y .lists) (y .below) (y .is) (y .chunks) (y .suffixes)) in
             let v : (all-ended (child-lists (y .below)) && children-right (suc (depth + k)) (y .front ∷ []) (y .below)) ≡ children-right (depth + k) (x .last ∷ []) (x .below) =
             one-level (depth + k) (y .byte) (y .lists) (y .below) (x .last) (y .front) (y .front-is) (y .prefixes) (y .chunks) (y .suffixes) (y .front-chunks) (y .front-prefixes) (y .some) ∙ ap (children-right (depth + k) (x .last ∷ [])) (sym (y .is)) in
             record {

@@ -10,7 +10,7 @@ use mathlib.Core.List.{List, [], _∷_, _++_, append-assoc}
 use lib.ListN.{length, getD, set, take, drop, length-set, length-take, length-drop}
 use lib.Seq.{sets, length-sets, sets-eq, getD-set-same, getD-set-other, getD-take, getD-drop, drop-cons, drop-at, take-append-seam, ext-getD}
 use Rattle.words.specs.Words.{leN, setN, bytesN, le64, setLe64, bytes64}
-use Rattle.words.proofs.Laws.{top, Outside, le64-ext}
+use Rattle.words.proofs.Laws.{Outside, le64-ext}
 
 pub lt-or-ge : (m n : ℕ) → (m < n) ⊎ (n ≤ m)
 lt-or-ge m n = go (decLt m n)
@@ -103,20 +103,6 @@ pub setN-sets : (n : ℕ) (xs : List ℕ) (at v : ℕ) → setN n xs at v ≡ se
 unfolding setN bytesN
 setN-sets zero xs at v = refl
 setN-sets (suc n) xs at v = rw (add-one at) (setN-sets n (set xs at (v % 256)) (suc at) (v / 256))
-
--- the number of a place is v where its bytes are those of v
-leN-at : (n : ℕ) (xs : List ℕ) (at v : ℕ) → ((k : ℕ) → k < n → getD xs (at + k) 0 ≡ getD (bytesN n v) k 0) → v < top n → leN n xs at ≡ v
-unfolding leN bytesN top
-leN-at zero xs at v h l = omega arith
-leN-at (suc n) xs at v h l =
-    let e : getD xs at 0 ≡ v % 256 = rw (add-zero at) at (h 0 (omega arith)) in
-    let r = leN-at n xs (at + 1) (v / 256) (λ k b.
-    let f : at + 1 + k ≡ at + suc k = omega arith in
-    rw f (h (suc k) (omega arith))) (omega arith) in
-    omega arith
-
-pub leN-bytesN : (n : ℕ) (xs : List ℕ) (at v : ℕ) → take n (drop at xs) ≡ bytesN n v → v < top n → leN n xs at ≡ v
-leN-bytesN n xs at v e l = leN-at n xs at v (λ k b. sym (getD-part n xs at k b) ∙ ap (λ (ys : List ℕ). getD ys k 0) e) l
 
 -- a place holds the bytes of its number
 pub bytesN-leN : (n : ℕ) (xs : List ℕ) (at : ℕ) → ((k : ℕ) → getD xs k 0 < 256) → at + n ≤ length xs → take n (drop at xs) ≡ bytesN n (leN n xs at)

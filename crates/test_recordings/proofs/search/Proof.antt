@@ -77,9 +77,6 @@ ER = E.the-row
 abbrev HR : RattleType
 HR = S.the-row
 
-abbrev mach-answer : Answer → Val
-mach-answer a = EL.val E.the-type E′.the-laws a
-
 abbrev mach-handed : Handed → Val
 mach-handed h = LL.val S.the-type S′.the-laws h
 
