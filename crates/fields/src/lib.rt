@@ -321,7 +321,7 @@ pub fn is_single_without_lists(s: &[u8], at: usize) -> bool
 }
 
 // The bytes of such a node up to its child, where that is due.
-const SINGLE_SIZE: usize = 43;
+pub const SINGLE_SIZE: usize = 43;
 
 // Whether such a node stands at an index, with its child where it is due.
 fn is_single_before_child(s: &[u8], at: usize) -> bool

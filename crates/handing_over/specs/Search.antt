@@ -17,6 +17,7 @@ pub record Found : Type 0 where
   pub count : ℕ
   pub rows : List Row
 
+-- the rows are handed over in the first of those lent, or all is left
 abbrev pub found-or-refused : Option Cause → List Location → List Row → Found
 found-or-refused none rs lent = record { refusal = 0; count = length rs; rows = rows-over rs lent }
 found-or-refused (some c) rs lent = record { refusal = number c; count = 0; rows = lent }

@@ -49,12 +49,12 @@ fn read_node(s: &[u8], at: usize, left: usize) -> Past
     requires { ⌜ at ≤ length (now s) ⌝ }
     ensures { λ r. ⌜ step-of r ≡ read-node (now (s .entry)) left at ⌝ }
 {
-    let thin = fields::singles_below(s, at, left);
-    let levels = left - thin;
+    let singles = fields::singles_below(s, at, left);
+    let levels = left - singles;
     if levels == 0 {
         return fields::refuse(definitions::IMAGE_BROKEN);
     }
-    let h = fields::read_head(s, at + 43 * thin);
+    let h = fields::read_head(s, at + fields::SINGLE_SIZE * singles);
     if h.refusal != 0 {
         return fields::refuse(h.refusal);
     }
@@ -69,7 +69,7 @@ fn read_node(s: &[u8], at: usize, left: usize) -> Past
     Past {
         at: t.at,
         refusal: 0,
-        nodes: t.nodes + 1 + thin,
+        nodes: t.nodes + 1 + singles,
         entries: h.entries + t.entries,
     }
 }
