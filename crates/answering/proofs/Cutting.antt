@@ -10,9 +10,11 @@ use lib.Dec.{eqb}
 use Rattle.definitions.proofs.Views.{lt-or-le}
 use Rattle.lines.specs.Cut.{in-front, lines-of}
 use Rattle.form_answers.specs.Memory.{line-answer, lines-answer}
-use Rattle.answering.specs.Parts.{Kept, part, too-long, keeps, keeps-byte, kept-answer, kept-memory, end-answer, State, line-ended, still-kept, after-byte, after-bytes, at-start, output, all-of}
+use Rattle.lines.specs.Kept.{Kept, part, too-long, keeps, keeps-byte}
+use Rattle.answering.specs.Parts.{kept-answer, kept-memory, end-answer, State, line-ended, still-kept, after-byte, after-bytes, at-start, output, all-of}
 use Rattle.answering.specs.Promises.{PartsAnswered}
-use Rattle.answering.proofs.Keeping.{keeps-fit, keeps-over, keeps-append, line-kept, memory-kept}
+use Rattle.lines.proofs.Keeping.{keeps-fit, keeps-over, keeps-append}
+use Rattle.answering.proofs.Keeping.{line-kept, memory-kept}
 
 -- ── bytes in front of the first of lines ──
 

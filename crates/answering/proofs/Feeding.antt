@@ -11,9 +11,10 @@ use lib.Dec.{ltb}
 use borrow.Author.Tests.{lt-ltb, le-ltb, ne-eqb}
 use Rattle.lines.specs.Cut.{Ends}
 use Rattle.replies.proofs.Writing.{written-both, written-same}
-use Rattle.answering.specs.Parts.{Kept, part, keeps, keeps-byte, kept-answer, kept-memory, State, line-ended, still-kept, after-bytes, used}
-use Rattle.answering.proofs.Keeping.{few-kept}
-use Rattle.answering.specs.Contracts.{kept-in, begun, used-part, KeepsBehind, HoldsState, AnswersLines}
+use Rattle.lines.specs.Kept.{Kept, part, keeps, keeps-byte, kept-in, KeepsBehind}
+use Rattle.answering.specs.Parts.{kept-answer, kept-memory, State, line-ended, still-kept, after-bytes, used}
+use Rattle.lines.proofs.Keeping.{few-kept}
+use Rattle.answering.specs.Contracts.{begun, used-part, HoldsState, AnswersLines}
 use Rattle.form_answers.specs.Answered.{AnsweredBy}
 
 -- ── bytes without a newline ──

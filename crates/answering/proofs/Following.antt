@@ -32,10 +32,11 @@ use Rattle.forms.specs.ReadLine.{read-line}
 use Rattle.forms.specs.Answers.{Is}
 use Rattle.forms.proofs.Lines.{read-line-is}
 use Rattle.lines.specs.Cut.{lines-of}
+use Rattle.lines.specs.Kept.{part}
 use Rattle.answering.specs.Program.{after-form, line-replies, program}
 use Rattle.replies.specs.Replies.{replies-bytes}
 use Rattle.form_answers.specs.Memory.{unless-number, found-replies, form-answer, memory-after-form, line-answer, memory-after-line, lines-answer}
-use Rattle.answering.specs.Parts.{part, output, all-of}
+use Rattle.answering.specs.Parts.{output, all-of}
 use Rattle.answering.specs.Promises.{MemoryAnswers, PartsProgram}
 use Rattle.row_replies.proofs.PlaceReplies.{replies-append}
 use Rattle.definitions.proofs.Counted.{counted-by-set}

@@ -8,8 +8,8 @@ use borrow.Author.Tests.{lt-ltb, le-ltb}
 use Rattle.definitions.specs.Program.{refused}
 use Rattle.replies.specs.Written.{Written, reply-bytes}
 use Rattle.form_answers.specs.Memory.{line-answer, memory-after-line}
-use Rattle.answering.specs.Parts.{Kept, part, too-long, keeps, kept-answer, kept-memory, end-answer, end-memory}
-use Rattle.answering.specs.Contracts.{kept-in}
+use Rattle.lines.specs.Kept.{Kept, part, too-long, keeps, kept-in}
+use Rattle.answering.specs.Parts.{kept-answer, kept-memory, end-answer, end-memory}
 use Rattle.form_answers.specs.Answered.{AnsweredBy}
 use Rattle.answering.proofs.Keeping.{line-kept, memory-kept, end-kept}
 use Rattle.form_answers.proofs.Replying.{length-refused}

@@ -4,8 +4,9 @@ use mathlib.Core.Path.{_≡_, refl, sym, ap, _∙_}
 use mathlib.Core.List.{List, [], append-nil}
 use lib.ListN.{length, take, drop, take-append-drop, drop-of-length-le}
 use lib.Seq.{drop-drop}
-use Rattle.answering.specs.Parts.{Kept, State, at-start, after-bytes, used}
-use Rattle.answering.specs.Contracts.{kept-in, begun, AnswersLines, TakesPart}
+use Rattle.lines.specs.Kept.{Kept, kept-in}
+use Rattle.answering.specs.Parts.{State, at-start, after-bytes, used}
+use Rattle.answering.specs.Contracts.{begun, AnswersLines, TakesPart}
 use Rattle.answering.proofs.Cutting.{after-append, behind, after-behind}
 
 -- two states are the same but for what was answered

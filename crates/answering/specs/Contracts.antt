@@ -1,4 +1,4 @@
--- What the contracts cite besides: what is kept in a line buffer, and how the code holds a state. Assumes nothing.
+-- What the contracts cite besides: how the code holds a state. Assumes nothing.
 use Prim.Native.Nat.{ℕ, _+_, _≤_, _<_}
 use mathlib.Core.Path.{_≡_}
 use mathlib.Core.Bool.{cond}
@@ -6,27 +6,9 @@ use mathlib.Core.List.{List}
 use lib.ListN.{length, take, drop}
 use lib.Seq.{sets}
 use lib.Dec.{ltb}
-use Rattle.definitions.specs.Program.{line-limit}
+use Rattle.lines.specs.Kept.{Kept, kept-in}
 use Rattle.replies.specs.Written.{Written}
-use Rattle.answering.specs.Parts.{Kept, part, too-long, keeps, State, at-start, after-bytes, used}
-
--- the first n bytes of a line buffer are kept; a line of over 1,024 is too long
-abbrev pub kept-in : List ℕ → ℕ → Kept
-kept-in line n = cond (ltb line-limit n) too-long (part (take n line))
-
--- how many bytes are kept with these behind n; 1,025 where the line is too long
-abbrev pub count-with : ℕ → List ℕ → ℕ
-count-with n bs = cond (ltb line-limit (n + length bs)) (line-limit + 1) (n + length bs)
-
--- the line buffer then; it stays where the line is too long
-abbrev pub line-with : List ℕ → ℕ → List ℕ → List ℕ
-line-with line n bs = cond (ltb line-limit (n + length bs)) line (sets line n bs)
-
--- bytes are kept behind n of a line
-pub record KeepsBehind (line : List ℕ) (n : ℕ) (bs after : List ℕ) (r : ℕ) : Type 0 where
-  pub count : r ≡ count-with n bs
-  pub buffer : after ≡ line-with line n bs
-  pub keeps-them : kept-in after r ≡ keeps (kept-in line n) bs
+use Rattle.answering.specs.Parts.{State, at-start, after-bytes, used}
 
 -- the code holds a state: its answers stand in front in the output, which was `out` before
 pub record HoldsState (s : State) (out memory line : List ℕ) (kept : ℕ) (out′ : List ℕ) (at : ℕ) : Type 0 where

@@ -1,29 +1,15 @@
--- Input that comes in parts: what is kept of an unfinished line, and what each byte changes. Assumes nothing.
+-- Input that comes in parts: what each byte changes. Assumes nothing.
 use Prim.Native.Nat.{ℕ, suc, _+_}
 use mathlib.Core.Bool.{cond}
 use mathlib.Core.List.{List, [], _∷_, _++_}
 use lib.ListN.{length}
 use lib.Dec.{ltb, eqb}
 use Rattle.definitions.specs.Causes.{number, no-form}
-use Rattle.definitions.specs.Program.{refused, line-limit}
+use Rattle.definitions.specs.Program.{refused}
+use Rattle.lines.specs.Kept.{Kept, part, too-long, keeps-byte}
 use Rattle.replies.specs.Written.{reply-bytes}
 use Rattle.form_answers.specs.Memory.{line-answer, memory-after-line}
 use Rattle.form_answers.specs.Answered.{answer-limit}
-
--- the bytes of an unfinished line, or that it is too long
-pub data Kept : Type 0 where
-  part : List ℕ → Kept
-  too-long : Kept
-
--- one byte more; a line has at most 1,024
-abbrev pub keeps-byte : Kept → ℕ → Kept
-keeps-byte (part l) b = cond (ltb (length l) line-limit) (part (l ++ (b ∷ []))) too-long
-keeps-byte too-long b = too-long
-
--- these bytes more
-abbrev pub keeps : Kept → List ℕ → Kept
-keeps k [] = k
-keeps k (b ∷ bs) = keeps (keeps-byte k b) bs
 
 -- the answer to a line that ends; one that is too long is refused once
 abbrev pub kept-answer : List ℕ → Kept → List ℕ

@@ -7,9 +7,10 @@ use Rattle.definitions.specs.Calls.{needed}
 use Rattle.definitions.specs.Program.{program-capacity}
 use Rattle.lines.specs.Cut.{lines-of}
 use Rattle.memory_header.specs.Opening.{open-memory}
+use Rattle.lines.specs.Kept.{part}
 use Rattle.answering.specs.Program.{program}
 use Rattle.form_answers.specs.Memory.{lines-answer}
-use Rattle.answering.specs.Parts.{part, output, all-of}
+use Rattle.answering.specs.Parts.{output, all-of}
 
 -- input in parts, however it was cut, is answered line by line
 abbrev pub PartsAnswered : Type 0

@@ -1,9 +1,10 @@
 // Answers the forms of the program `places`: each line by a call of the index, each reply into an output that is lent.
-use forms::LINE_LIMIT;
+use lines::LINE_LIMIT;
 ghost use Prim.Native.Nat.{_+_, _≤_};
 ghost use lib.ListN.{length};
-ghost use Rattle.answering.specs.Parts.{keeps, kept-answer, kept-memory, end-answer, end-memory};
-ghost use Rattle.answering.specs.Contracts.{kept-in, KeepsBehind, AnswersLines};
+ghost use Rattle.answering.specs.Parts.{kept-answer, kept-memory, end-answer, end-memory};
+ghost use Rattle.answering.specs.Contracts.{AnswersLines};
+ghost use Rattle.lines.specs.Kept.{keeps, kept-in};
 ghost use Rattle.form_answers.specs.Answered.{AnsweredBy};
 
 // The lent memory that the capacity of the program needs: 1,000 nodes, 400 entries.
@@ -11,21 +12,6 @@ pub const MEMORY_SIZE: usize = 105664;
 
 // The longest answer to a line: 64 places of 71 bytes, and the end of 27.
 pub const ANSWER_LIMIT: usize = 4571;
-
-// Keeps a part of a line behind n bytes of it; how many there are then, 1,025 where the line is too long.
-pub fn keep(line: &mut [u8], n: usize, part: &[u8]) -> usize
-    requires { ⌜ 1024 ≤ length (now line) ⌝ }
-    ensures { λ r. ⌜ KeepsBehind (now (line .entry)) n (now (part .entry)) (now (line .exit)) r ⌝ }
-{
-    if LINE_LIMIT < n {
-        return LINE_LIMIT + 1;
-    }
-    if LINE_LIMIT - n < part.len() {
-        return LINE_LIMIT + 1;
-    }
-    copying::copy(part, 0, line, n, part.len());
-    n + part.len()
-}
 
 // Answers the n bytes of a line that were kept; one that is too long is refused once.
 fn answer_kept(mem: &mut [u8], line: &[u8], n: usize, out: &mut [u8], at: usize) -> usize
@@ -53,7 +39,7 @@ fn end_line(
     if n == 0 {
         return form_answers::answer(mem, part, out, at);
     }
-    let k = keep(line, n, part);
+    let k = lines::keep(line, n, part);
     answer_kept(mem, line, k, out, at)
 }
 
@@ -83,7 +69,7 @@ pub fn answer_lines(
     while next < input.len() {
         let e = lines::line_end(input, next);
         if e == input.len() {
-            let k = keep(line, kept, &input[next..]);
+            let k = lines::keep(line, kept, &input[next..]);
             return Progress {
                 kept: k,
                 at,

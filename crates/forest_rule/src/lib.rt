@@ -58,7 +58,7 @@ fn leaf_right(s: &[u8], table: usize, other: usize, lists: &mut [usize]) -> Leaf
     if f.children != 0 {
         return no_leaf();
     }
-    let n = fronts::add_front(lists, 0, f);
+    let n = node_rule::add_front(lists, 0, f);
     Leaf {
         found: true,
         right: location_lists::is_union(s, c.prefixes, c.prefix_count, 1, lists, n),

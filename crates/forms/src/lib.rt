@@ -1,5 +1,6 @@
 // The forms of a line: a block, finish, find, or no form at all.
 use hex_pairs::Count;
+use lines::LINE_LIMIT;
 use numerals::Number;
 ghost use mathlib.Core.Path.{_≡_};
 ghost use Prim.Native.Nat.{_*_};
@@ -9,9 +10,6 @@ ghost use Rattle.forms.specs.ReadLine.{with-bytes, read-block, read-line
 ghost use Rattle.numerals.specs.Numerals.{starts};
 ghost use Rattle.hex_pairs.specs.HexBytes.{last-bytes};
 ghost use Rattle.forms.specs.Answers.{answer-of, byte-count, Reads};
-
-// The longest line that can be a form.
-pub const LINE_LIMIT: usize = 1024;
 
 // A form. Its bytes stand in the buffer that the reader was lent; here is how many they are.
 pub enum Form {

@@ -4,13 +4,11 @@ use image_walk::Child;
 use image_walk::Node;
 use image_walk::Slot;
 ghost use mathlib.Core.Path.{_≡_};
-ghost use Prim.Native.Nat.{_+_, _*_, _^_, _≤_, _<_, _/_, min};
+ghost use Prim.Native.Nat.{_+_, _*_, _≤_, _<_, _/_, min};
 ghost use lib.ListN.{length, set};
-ghost use Rattle.location_lists.specs.Lists.{count-with};
 ghost use Rattle.node_rule.specs.Parts.{HasTable};
 ghost use Rattle.fronts.specs.Fronts.{HasFronts, with-front};
 ghost use Rattle.fronts.specs.FrontRule.{RootFronts, NextFronts, SaysWithin, SaysFronts};
-ghost use Rattle.node_rule.specs.OneNode.{with-two};
 ghost use mathlib.Core.Bool.{cond};
 ghost use lib.Dec.{eqb};
 ghost use Rattle.fronts.specs.Ahead.{part-read, shares-read};
@@ -22,21 +20,6 @@ ghost use Rattle.fronts.specs.Marks.{Unmarked, SaysMarks, SaysMarked, Sa
 
 // The numbers of a depth on the stack: 256 fronts of three.
 pub const LEVEL_SIZE: usize = 768;
-
-// Adds the chunks and prefixes of a front to count lists; how many there are then.
-pub fn add_front(lists: &mut [usize], count: usize, n: Node) -> usize
-    requires { ⌜ (count * 2 + 4 ≤ length (now lists)) × (n .chunks + n .«chunk_count» * 24 < 2 ^ 64) × (n .prefixes + n .«prefix_count» * 24 < 2 ^ 64) ⌝ }
-    ensures { λ r. ⌜ (now (lists .exit) ≡ with-two (now (lists .entry)) count (n .chunks) (n .«chunk_count») (n .prefixes) (n .«prefix_count»)) × (r ≡ count-with (count-with count (n .«chunk_count»)) (n .«prefix_count»)) ⌝ }
-{
-    node_rule::add_two(
-        lists,
-        count,
-        n.chunks,
-        n.chunk_count,
-        n.prefixes,
-        n.prefix_count,
-    )
-}
 
 // Puts a front at an index of the stack.
 pub fn put_front(fronts: &mut [usize], at: usize, table: usize, children: usize, mask: usize)
@@ -101,7 +84,7 @@ fn fronts_by(
                 let mask = mask_of(s, n.table, n.children);
                 put_front(fronts, to + met * 3, n.table, n.children, mask);
                 met += 1;
-                listed = add_front(lists, listed, n);
+                listed = node_rule::add_front(lists, listed, n);
             }
         }
     }

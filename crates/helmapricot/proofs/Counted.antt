@@ -7,7 +7,7 @@ use Rattle.rows.specs.declared.Row.{Row}
 use Rattle.handing_over.specs.declared.Answer.{Answer}
 use Rattle.handing_over.specs.Search.{Found}
 use Rattle.handing_over.specs.Answers.{answer-to, answer-number}
-use Rattle.helmapricot.specs.Counts.{put-unless-refused, count-after}
+use Rattle.answer_numbers.specs.Counts.{put-unless-refused, count-after}
 use Rattle.helmapricot.proofs.Numbers.{answer-back}
 
 -- the number r, the rows rs, the count's place cs′, and scratch x′

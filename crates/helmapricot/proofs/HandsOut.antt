@@ -43,15 +43,15 @@ use Rattle.rows.proofs.Row as T
 use Rattle.handing_over.specs.declared.Answer.{Answer}
 use Rattle.handing_over.specs.Search.{Found}
 use Rattle.handing_over.specs.Answers.{answer-to, answer-number}
-use Rattle.helmapricot.specs.Counts.{put-unless-refused, count-after}
+use Rattle.answer_numbers.specs.Counts.{put-unless-refused, count-after}
 use Rattle.handing_over.proofs.Answer as E
 use Rattle.handing_over.proofs.Answer.Laws as E′
 use Rattle.helmapricot.proofs.Counted.{Counted, counted}
-use Rattle.helmapricot.proofs.put_count as p
+use Rattle.answer_numbers.proofs.put_count as p
 use denote.Memory.{pointee}
 use Rattle.rows.proofs.Row.Laws as T′
 use lib.Dec.{T as Holds}
-use Rattle.helmapricot.proofs.put_count.Symbol.{name as #helmapricot·put-count}
+use Rattle.answer_numbers.proofs.put_count.Symbol.{name as #answer-numbers·put-count}
 
 -- the rows of the types: of a row, of the answer, and of the count
 abbrev R : RattleType
@@ -95,7 +95,7 @@ function call-name = record {
       seq (assign (place 10 []) (aggregate (copy (place 9 []) ∷ copy (place 4 (field 1 ∷ [])) ∷ []))) (
       seq (call call-name (copy (place 1 []) ∷ copy (place 2 []) ∷ copy (place 8 []) ∷ copy (place 10 []) ∷ []) (place 6 [])) (
       seq (assign (place 11 []) (addrOf (place 5 (deref (tyArray (tyInt w64) 1) ∷ [])))) (
-      seq (call #helmapricot·put-count (copy (place 11 []) ∷ copy (place 6 []) ∷ []) (place 0 [])) return))))));
+      seq (call #answer-numbers·put-count (copy (place 11 []) ∷ copy (place 6 []) ∷ []) (place 0 [])) return))))));
 }
 
 -- ── the contracts ──
@@ -245,7 +245,7 @@ module _ {M : Type 1} (𝓤 : URA M) (H : Heap 𝓤) (A : Atoms 𝓤) (W : Given
   typed-answer : (a : Answer) (v : Val) → Is ER a (v ∷ []) → Holds (hasTy E′.mir v) × WT v
   typed-answer a v is = EL.lawful E.the-type E′.the-laws 𝓤 H A W tt .typed a _ is .0
 
-  module _ (C : Calls 𝓤 H) (Λ : Loops 𝓤 H) (fm : FmC 𝓤 H (W .laws) C) (known-search : Triple 𝓤 (C (𝓔 .name)) (Search 𝓤 H A mem run 𝓔)) (known-put : Triple 𝓤 (C #helmapricot·put-count) (PutCount 𝓤 H A mem run 𝓔)) where
+  module _ (C : Calls 𝓤 H) (Λ : Loops 𝓤 H) (fm : FmC 𝓤 H (W .laws) C) (known-search : Triple 𝓤 (C (𝓔 .name)) (Search 𝓤 H A mem run 𝓔)) (known-put : Triple 𝓤 (C #answer-numbers·put-count) (PutCount 𝓤 H A mem run 𝓔)) where
     walk : ent 𝓤 (onEntry 𝓤 H A (ended .signature) (κm, (κq, (κs, (κr, (κc, tt))))) (qm, (qq, (qs, (qr, (qc, tt))))) arg vals) (WpFn 𝓤 H C Λ (function (𝓔 .name)) (vm ∷ vq ∷ vs ∷ vr ∷ vptr c d ∷ []) Post)
     walk =
         qed W ((‵ (flft κm qm) ⊛ ‵ (flft κq qq) ⊛ ‵ (flft κs qs) ⊛ ‵ (flft κr qr) ⊛ ‵ (flft κc qc) ⊛ ‵ ftrue) ∷ ‵ (owns (ShrSlice (named 0) κm u8 ∷ ShrSlice (named 1) κq u8 ∷ MutSlice (named 2) κs u8 ∷ MutSlice (named 3) κr R ∷ MutRef (named 4) κc CR ∷ []) arg vals) ∷ []) ∵
@@ -286,7 +286,7 @@ module _ {M : Type 1} (𝓤 : URA M) (H : Heap 𝓤) (A : Atoms 𝓤) (W : Given
         keep ! (0 ∷ 1 ∷ 2 ∷ 4 ∷ 5 ∷ 7 ∷ []) $ by ! (exits r u (ws .1 .1 .0) (ws .1 .1 .1 .0) (ws′ .0) (counted a e left kept e′) len len′)))))))))))))))))))))))))))
 
 module _ {M : Type 1} (𝓤 : URA M) (H : Heap 𝓤) (A : Atoms 𝓤) (W : Given 𝓤 H A) (mem : Memory → SProp 𝓤) (run : Routine → Fun 𝓤) (𝓔 : Call) where
-  f-walks : (C : Calls 𝓤 H) (Λ : Loops 𝓤 H) → FmC 𝓤 H (W .laws) C → Triple 𝓤 (C (𝓔 .name)) (Search 𝓤 H A mem run 𝓔) → Triple 𝓤 (C #helmapricot·put-count) (PutCount 𝓤 H A mem run 𝓔) → Walks 𝓤 H A ended stayed (WpFn 𝓤 H C Λ (function (𝓔 .name))) (clauses 𝓤 𝓔)
+  f-walks : (C : Calls 𝓤 H) (Λ : Loops 𝓤 H) → FmC 𝓤 H (W .laws) C → Triple 𝓤 (C (𝓔 .name)) (Search 𝓤 H A mem run 𝓔) → Triple 𝓤 (C #answer-numbers·put-count) (PutCount 𝓤 H A mem run 𝓔) → Walks 𝓤 H A ended stayed (WpFn 𝓤 H C Λ (function (𝓔 .name))) (clauses 𝓤 𝓔)
   f-walks C Λ fm known-search known-put = walked 𝓤 H A ended stayed (clauses 𝓤 𝓔) (WpFn 𝓤 H C Λ (function (𝓔 .name)))
       (λ κs. (slice-vals, (slice-vals, (slice-vals, (slice-vals, (ptr-vals, tt)))))) (λ κs. (shr-slice-tells (named 0) (κs .0) u8, (shr-slice-tells (named 1) (κs .1 .0) u8, (mut-slice-tells (named 2) (κs .1 .1 .0) u8, (mut-slice-tells (named 3) (κs .1 .1 .1 .0) R, (mut-tells (named 4) (κs .1 .1 .1 .1 .0) CR, tt))))))
       (λ κs qs bounds a _ are. via 𝓤 _ (fst∗ 𝓤 _ (emp 𝓤)) (
@@ -302,7 +302,7 @@ module _ {M : Type 1} (𝓤 : URA M) (H : Heap 𝓤) (A : Atoms 𝓤) (W : Given
     ),
   )
 
-pub meets : {M : Type 1} (𝓤 : URA M) (H : Heap 𝓤) (A : Atoms 𝓤) → Given 𝓤 H A → (mem : Memory → SProp 𝓤) (run : Routine → Fun 𝓤) (𝓔 : Call) (𝓣 : Tables 𝓤 H) → Triple 𝓤 (𝓣 .C (𝓔 .name)) (Search 𝓤 H A mem run 𝓔) → Triple 𝓤 (𝓣 .C #helmapricot·put-count) (PutCount 𝓤 H A mem run 𝓔)
+pub meets : {M : Type 1} (𝓤 : URA M) (H : Heap 𝓤) (A : Atoms 𝓤) → Given 𝓤 H A → (mem : Memory → SProp 𝓤) (run : Routine → Fun 𝓤) (𝓔 : Call) (𝓣 : Tables 𝓤 H) → Triple 𝓤 (𝓣 .C (𝓔 .name)) (Search 𝓤 H A mem run 𝓔) → Triple 𝓤 (𝓣 .C #answer-numbers·put-count) (PutCount 𝓤 H A mem run 𝓔)
     → Meets 𝓤 H A (ended .signature) (WpFn 𝓤 H (𝓣 .C) (𝓣 .Λ) (function (𝓔 .name))) (closing 𝓤 H A ended (clauses 𝓤 𝓔))
 meets 𝓤 H A W mem run 𝓔 𝓣 known-search known-put =
     walk-meets 𝓤 H A ended stayed W (goes 𝓤 H A W mem run 𝓔) (clauses 𝓤 𝓔) (WpFn 𝓤 H (𝓣 .C) (𝓣 .Λ) (function (𝓔 .name))) (WpFn-mono 𝓤 H (W .laws) 𝓣 (function (𝓔 .name))) (f-walks 𝓤 H A W mem run 𝓔 (𝓣 .C) (𝓣 .Λ) (fmOf 𝓤 H (W .laws) 𝓣) known-search known-put)

@@ -15,7 +15,7 @@ use Rattle.saving.specs.declared.Saved.the-variants as S
 use Rattle.saving.specs.Answers.{saved-as}
 use Rattle.handing_over.specs.declared.Answer.the-variants as A
 use Rattle.handing_over.specs.Answers.{answer-as, answer-number}
-use Rattle.helmapricot.specs.Counts.{put-unless-refused, count-after}
+use Rattle.answer_numbers.specs.Counts.{put-unless-refused, count-after}
 
 -- the number that a save's answer is handed over as, and the place of the size
 abbrev pub saved-number : Saved → ℕ

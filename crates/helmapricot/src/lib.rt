@@ -2,11 +2,8 @@
 use block_stream::Block;
 use block_stream::Read;
 use location::SpacetimeLocation;
-use memory_header::Outcome;
-use recording::Recorded;
 use rows::Row;
 use saving::Saved;
-use string_index::Answer;
 ghost use mathlib.Core.Path.{_≡_};
 ghost use Prim.Native.Nat.{_-_, _≤_};
 ghost use lib.ListN.{length};
@@ -15,34 +12,12 @@ ghost use mathlib.Core.List.{[], _∷_};
 ghost use Rattle.definitions.specs.BlockStream.{read-block};
 ghost use Rattle.definitions.specs.Causes.{ScratchAfter};
 ghost use Rattle.memory_header.specs.Opening.{open-memory};
-ghost use Rattle.memory_header.specs.Answers.{outcome-number};
 ghost use Rattle.recording.specs.Record.{record-memory};
-ghost use Rattle.recording.specs.Recorded.{recorded-number};
 ghost use Rattle.string_index.specs.Finish.{finish-memory};
 ghost use Rattle.handing_over.specs.Search.{search-memory};
-ghost use Rattle.handing_over.specs.Answers.{answer-number};
 ghost use Rattle.saving.specs.Saving.{save-memory, load-memory};
-ghost use Rattle.helmapricot.specs.Counts.{put-unless-refused, count-after};
+ghost use Rattle.answer_numbers.specs.Counts.{put-unless-refused};
 ghost use Rattle.helmapricot.specs.Stream.{stream-number, with-fields};
-
-// The number of a refusal, 0 where the call is done.
-fn outcome_number(r: Outcome) -> u64
-    ensures { λ n. ⌜ n ≡ outcome-number r ⌝ }
-{
-    match r {
-        Outcome::Done => 0,
-        Outcome::Refused(n) => n,
-    }
-}
-
-fn recorded_number(r: Recorded) -> u64
-    ensures { λ n. ⌜ n ≡ recorded-number r ⌝ }
-{
-    match r {
-        Recorded::Taken => 0,
-        Recorded::Refused(n) => n,
-    }
-}
 
 // Opens an index of a capacity in the lent memory.
 #[no_mangle]
@@ -50,7 +25,7 @@ pub extern "C" fn helmapricot_open(mem: &mut [u8], nodes: u64, entries: u64) -> 
     ensures answer { λ r. ⌜ r ≡ open-memory (now (mem .entry)) (record { nodes = nodes; entries = entries }) .refusal ⌝ }
     ensures memory { λ _. ⌜ now (mem .exit) ≡ open-memory (now (mem .entry)) (record { nodes = nodes; entries = entries }) .memory ⌝ }
 {
-    outcome_number(memory_header::open(mem, nodes, entries))
+    answer_numbers::outcome_number(memory_header::open(mem, nodes, entries))
 }
 
 // Records a block.
@@ -67,7 +42,7 @@ pub extern "C" fn helmapricot_record(
     ensures memory { λ _. ⌜ now (mem .exit) ≡ record-memory (now (mem .entry)) kind (record { bytes = now («data» .entry); at = record { address = address; created = «created_at»; destroyed = «destroyed_at» } }) .memory ⌝ }
 {
     let l = SpacetimeLocation::new(address, created_at, destroyed_at);
-    recorded_number(string_index::record(mem, kind, l, data))
+    answer_numbers::recorded_number(string_index::record(mem, kind, l, data))
 }
 
 // Finishes an index, so that it can be searched and saved.
@@ -76,20 +51,7 @@ pub extern "C" fn helmapricot_finish(mem: &mut [u8]) -> u64
     ensures answer { λ r. ⌜ r ≡ finish-memory (now (mem .entry)) .refusal ⌝ }
     ensures memory { λ _. ⌜ now (mem .exit) ≡ finish-memory (now (mem .entry)) .memory ⌝ }
 {
-    outcome_number(string_index::finish(mem))
-}
-
-// Writes how many rows there are, unless the search is refused, and answers the refusal's number.
-fn put_count(count: &mut [u64; 1], a: Answer) -> u64
-    ensures { λ r. ⌜ (r ≡ answer-number a) × (now (count .exit) ≡ count-after a (now (count .entry))) ⌝ }
-{
-    match a {
-        Answer::Rows(n) => {
-            count[0] = n as u64;
-            0
-        }
-        Answer::Refused(n) => n,
-    }
+    answer_numbers::outcome_number(string_index::finish(mem))
 }
 
 // How many rows there are goes into count; a search that is refused leaves it.
@@ -107,7 +69,7 @@ pub extern "C" fn helmapricot_search(
     ensures scratch { λ _. ⌜ ScratchAfter (search-memory (now (mem .entry)) (now (q .entry)) (length (now (scratch .entry))) (now (rows .entry)) .refusal) (now (scratch .entry)) (now (scratch .exit)) ⌝ }
 {
     let a = string_index::search(mem, q, scratch, rows);
-    put_count(count, a)
+    answer_numbers::put_count(count, a)
 }
 
 // How many bytes the image has goes into size; a save that is refused leaves it.
@@ -132,7 +94,7 @@ pub extern "C" fn helmapricot_load(mem: &mut [u8], img: &[u8]) -> u64
     ensures answer { λ r. ⌜ r ≡ load-memory (now (mem .entry)) (now (img .entry)) .refusal ⌝ }
     ensures memory { λ _. ⌜ now (mem .exit) ≡ load-memory (now (mem .entry)) (now (img .entry)) .memory ⌝ }
 {
-    outcome_number(string_index::load(mem, img))
+    answer_numbers::outcome_number(string_index::load(mem, img))
 }
 
 // Writes what is known of a block, with the length of its data.

@@ -1,2 +1,3 @@
--- `LineEnds` has where a line ends. Assumes nothing.
+-- `LineEnds` has where a line ends, `Keeping` what is kept of one. Assumes nothing.
 pub mod LineEnds
+pub mod Keeping

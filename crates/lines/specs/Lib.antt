@@ -1,2 +1,3 @@
--- `Cut` has the lines of an input. Assumes nothing.
+-- `Cut` has the lines of an input, `Kept` what is kept of an unfinished one. Assumes nothing.
 pub mod Cut
+pub mod Kept

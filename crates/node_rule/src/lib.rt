@@ -58,6 +58,21 @@ pub fn add_two(
     location_lists::add_list(lists, c, then, m)
 }
 
+// Adds the chunks and prefixes of a node whose path has one byte more in front to count lists; how many there are then.
+pub fn add_front(lists: &mut [usize], count: usize, n: Node) -> usize
+    requires { ⌜ (count * 2 + 4 ≤ length (now lists)) × (n .chunks + n .«chunk_count» * 24 < 2 ^ 64) × (n .prefixes + n .«prefix_count» * 24 < 2 ^ 64) ⌝ }
+    ensures { λ r. ⌜ (now (lists .exit) ≡ with-two (now (lists .entry)) count (n .chunks) (n .«chunk_count») (n .prefixes) (n .«prefix_count»)) × (r ≡ count-with (count-with count (n .«chunk_count»)) (n .«prefix_count»)) ⌝ }
+{
+    add_two(
+        lists,
+        count,
+        n.chunks,
+        n.chunk_count,
+        n.prefixes,
+        n.prefix_count,
+    )
+}
+
 // The chunks and suffixes of the children in a table, as lists; how many.
 pub fn child_lists(s: &[u8], table: usize, children: usize, lists: &mut [usize]) -> usize
     requires { ⌜ HasTable (now s) table children × (1025 ≤ length (now lists)) ⌝ }

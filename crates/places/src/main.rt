@@ -94,7 +94,7 @@ fn run(mem: &mut [u8], line: &mut [u8], out: &mut [u8])
 
 fn main() {
     let mut mem = [0u8; answering::MEMORY_SIZE];
-    let mut line = [0u8; forms::LINE_LIMIT];
+    let mut line = [0u8; lines::LINE_LIMIT];
     let mut out = io::large_buffer();
     form_answers::open(&mut mem);
     run(&mut mem, &mut line, &mut out);

@@ -6,8 +6,8 @@ use denote.Triple.Table.{entered, cited}
 use Rattle.handing_over.proofs.search.Symbol as g-def
 use Rattle.handing_over.proofs.search.Met as g-thm
 use Rattle.helmapricot.proofs.HandsOut.{Call, Search, PutCount, meets}
-use Rattle.helmapricot.proofs.put_count.Symbol as p-def
-use Rattle.helmapricot.proofs.put_count.Met as p-thm
+use Rattle.answer_numbers.proofs.put_count.Symbol as p-def
+use Rattle.answer_numbers.proofs.put_count.Met as p-thm
 use Rattle.helmapricot.proofs.helmapricot_search.Key.{name}
 use Rattle.helmapricot.proofs.helmapricot_search as f
 use Rattle.helmapricot.proofs.helmapricot_search.Statement as stated
@@ -23,4 +23,4 @@ helmapricot-search-spec 𝓤 H 𝓜 𝓖 𝓡 =
     (tables 𝓤 H 𝓜 𝓡 code.env .C) (tables 𝓤 H 𝓜 𝓡 code.env .Λ) name code.function (code.unfolded 𝓤 H 𝓜 𝓡)
     (meets 𝓤 H (𝓖 .A) (givenOf 𝓤 H 𝓜 𝓖) (𝓜 .mem) (𝓡 .run) 𝓔 (tablesOf 𝓤 H 𝓜 (tables 𝓤 H 𝓜 𝓡 code.env))
     (cited 𝓤 H (Search 𝓤 H (𝓖 .A) (𝓜 .mem) (𝓡 .run) 𝓔) 𝓜 𝓡 code.env g-def.name g-def.routine code.calls-handing-over·search (g-thm.met 𝓤 H 𝓜 𝓖 𝓡))
-    (cited 𝓤 H (PutCount 𝓤 H (𝓖 .A) (𝓜 .mem) (𝓡 .run) 𝓔) 𝓜 𝓡 code.env p-def.name p-def.routine code.calls-helmapricot·put-count (p-thm.met 𝓤 H 𝓜 𝓖 𝓡)))
+    (cited 𝓤 H (PutCount 𝓤 H (𝓖 .A) (𝓜 .mem) (𝓡 .run) 𝓔) 𝓜 𝓡 code.env p-def.name p-def.routine code.calls-answer-numbers·put-count (p-thm.met 𝓤 H 𝓜 𝓖 𝓡)))

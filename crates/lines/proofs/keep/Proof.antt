@@ -1,12 +1,12 @@
--- `answering::keep` meets its contract. Assumes nothing.
+-- `lines::keep` meets its contract. Assumes nothing.
 use native.Mathlib.Omega.{arith}
 use mathlib.Core.Path.{ap, _∙_}
 use lib.Seq.{sets, take-length}
 use denote.Ref.{now}
-use Rattle.answering.proofs.Keeping.{keep-long, keep-over, keep-fit}
+use Rattle.lines.proofs.Keeping.{keep-long, keep-over, keep-fit}
 use borrow.Author.Needs.{needs}
-use Rattle.answering.proofs.keep.Statement.{statement}
-use Rattle.answering.proofs.keep.Tie as tie
+use Rattle.lines.proofs.keep.Statement.{statement}
+use Rattle.lines.proofs.keep.Tie as tie
 
 returns : tie.Need-returns
 returns c =

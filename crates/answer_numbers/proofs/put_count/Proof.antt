@@ -1,13 +1,13 @@
--- `helmapricot::put_count` meets its contract: the answer's variant says the number and the count. Assumes nothing.
+-- `answer_numbers::put_count` meets its contract: the answer's variant says the number and the count. Assumes nothing.
 use mathlib.Core.Path.{sym, ap}
 use Prim.Native.Nat.{ℕ}
 use mathlib.Core.List.{List}
 use borrow.Author.Needs.{needs}
 use Rattle.handing_over.specs.declared.Answer.{Answer}
 use Rattle.handing_over.specs.Answers.{answer-number}
-use Rattle.helmapricot.specs.Counts.{count-after}
-use Rattle.helmapricot.proofs.put_count.Statement.{statement}
-use Rattle.helmapricot.proofs.put_count.Tie as tie
+use Rattle.answer_numbers.specs.Counts.{count-after}
+use Rattle.answer_numbers.proofs.put_count.Statement.{statement}
+use Rattle.answer_numbers.proofs.put_count.Tie as tie
 
 returns : tie.Need-returns
 returns c =

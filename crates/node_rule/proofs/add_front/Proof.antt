@@ -1,7 +1,7 @@
--- `fronts::add_front` meets its contract. Assumes nothing.
+-- `node_rule::add_front` meets its contract. Assumes nothing.
 use borrow.Author.Needs.{needs}
-use Rattle.fronts.proofs.add_front.Statement.{statement}
-use Rattle.fronts.proofs.add_front.Tie as tie
+use Rattle.node_rule.proofs.add_front.Statement.{statement}
+use Rattle.node_rule.proofs.add_front.Tie as tie
 
 returns : tie.Need-returns
 returns c = c .before .before .add-two .ensures

@@ -1,0 +1,2 @@
+-- `Counts` says how a row count is handed over. Assumes nothing.
+pub mod Counts
