@@ -4,6 +4,7 @@ use mathlib.Core.Path.{_≡_}
 use mathlib.Core.List.{List}
 use lib.ListN.{take, drop}
 use Rattle.definitions.specs.Location.{Location}
+use Rattle.definitions.specs.Blocks as B
 use Rattle.definitions.specs.BlockStream as D
 use Rattle.block_stream.specs.declared.Block.{Block as Found}
 use Rattle.block_stream.specs.declared.Read.{Read}
@@ -14,12 +15,11 @@ abbrev pub life-of : Found → Location
 life-of b = record { address = b .address; created = b .«created_at»; destroyed = b .«destroyed_at» }
 
 -- a block's data are the bytes of the stream from its start to the next block
+abbrev pub block-of : List ℕ → Found → B.Block
+block-of s b = record { bytes = take (b .next - b .start) (drop (b .start) s); at = life-of b }
+
 abbrev pub read-of : List ℕ → Read → D.Read
-read-of s (Block b) =
-    D.block
-    (b .kind)
-    (record { bytes = take (b .next - b .start) (drop (b .start) s); at = life-of b })
-    (b .next)
+read-of s (Block b) = D.block (b .kind) (block-of s b) (b .next)
 read-of s End = D.nothing
 read-of s (Refused n) = D.refused n
 

@@ -37,6 +37,8 @@ pub checks-in-order : ChecksInOrder
 checks-in-order = record {
   opening-order = λ c memory. refl;
   record-order = by-kind;
+  stream-order = λ s. refl;
+  stream-block-order = refl;
   finish-order = λ s. refl;
   search-order = λ s q scratch room. refl;
   scratch-order = refl;
@@ -62,7 +64,7 @@ none-applies (c ∷ cs) e = go (c .applies) (none-applies cs) e
     go false ih f = (refl, ih f)
 
 -- no cause has the number 0
-number-some : (c : Cause) → number c ≡ 0 → ⊥
+pub number-some : (c : Cause) → number c ≡ 0 → ⊥
 number-some capacity-refused e = omega arith
 number-some index-rule-broken e = omega arith
 number-some record-after-finish e = omega arith

@@ -84,13 +84,18 @@ memory-checks c nodes entries n l =
 abbrev pub block-checks : Capacity → List Piece → Block → List Check
 block-checks c ps b = memory-checks c (nodes-tallied (ps ++ pieces b)) (entries-tallied (ps ++ pieces b)) (length (b .bytes)) (b .at)
 
+-- what recording asks of an index before any block; a stream is put to it once, an empty one too
+abbrev pub stream-checks : Standing → List Check
+stream-checks s =
+    index-check s ∷
+    record { applies = s .finished; cause = record-after-finish } ∷ []
+
 -- a block of kind 0, 2, 3 or 4 is put to nothing behind its kind
 abbrev pub record-checks : Standing → ℕ → Block → List Check
 record-checks s kind b =
-    index-check s ∷
-    record { applies = s .finished; cause = record-after-finish } ∷
-    record { applies = ltb last-kind kind; cause = unknown-kind } ∷
-    cond (eqb kind memory-kind) (block-checks (s .capacity) (s .pieces) b) []
+    stream-checks s ++
+    (record { applies = ltb last-kind kind; cause = unknown-kind } ∷
+    cond (eqb kind memory-kind) (block-checks (s .capacity) (s .pieces) b) [])
 
 -- finishing again is not refused
 abbrev pub finish-checks : Standing → List Check

@@ -66,6 +66,7 @@ number no-form = 17
 pub data CallName : Type 0 where
   opening : CallName
   record-call : CallName
+  record-stream-call : CallName
   finish-call : CallName
   search-call : CallName
   save-call : CallName
@@ -74,10 +75,12 @@ pub data CallName : Type 0 where
   line-call : CallName
 
 -- a block that is not of kind Memory is not put to the causes behind its kind;
--- in loading and in reading a block, the first faulty field in layout order decides between 13, 14 and 15
+-- in loading and in reading a block, the first faulty field in layout order decides between 13, 14 and 15;
+-- a stream is put to 1 and 2 once, and each of its blocks to the others
 abbrev pub checked : CallName → List Cause
 checked opening = capacity-refused ∷ []
 checked record-call = index-rule-broken ∷ record-after-finish ∷ unknown-kind ∷ data-too-long ∷ no-life ∷ address-too-high ∷ too-many-nodes ∷ too-many-entries ∷ []
+checked record-stream-call = index-rule-broken ∷ record-after-finish ∷ cut-short ∷ unknown-kind ∷ data-too-long ∷ no-life ∷ address-too-high ∷ too-many-nodes ∷ too-many-entries ∷ []
 checked finish-call = index-rule-broken ∷ []
 checked search-call = index-rule-broken ∷ before-finish ∷ query-too-long ∷ scratch-too-small ∷ too-many-rows ∷ []
 checked save-call = index-rule-broken ∷ before-finish ∷ save-buffer-too-short ∷ []

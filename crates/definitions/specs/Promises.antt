@@ -4,15 +4,15 @@ use mathlib.Core.Path.{_≡_}
 use mathlib.Core.Bool.{Bool, cond}
 use mathlib.Core.Logic.{_↔_}
 use mathlib.Core.List.{List, [], _∷_, _++_, List·Memᴰ}
-use lib.ListN.{length, getD, take}
+use lib.ListN.{length, getD, take, drop}
 use lib.Dec.{eqb}
 use Rattle.definitions.specs.Location.{Location, Less, Sorted}
 use Rattle.definitions.specs.Blocks.{Block, Piece, memory-kind}
 use Rattle.definitions.specs.Places.{T, table}
 use Rattle.definitions.specs.Rows.{rows}
 use Rattle.definitions.specs.Runs.{RowsAreRuns, Consistent, SameRows, SameHeld}
-use Rattle.definitions.specs.Causes.{Cause, scratch-too-small, too-many-rows, scratch-kept, causes, checked, opening, record-call, finish-call, search-call, save-call, load-call, read-block-call, line-call}
-use Rattle.definitions.specs.Calls.{Capacity, Standing, open-checks, record-checks, finish-checks, search-checks, save-checks, load-checks}
+use Rattle.definitions.specs.Causes.{Cause, scratch-too-small, too-many-rows, scratch-kept, causes, checked, opening, record-call, record-stream-call, finish-call, search-call, save-call, load-call, read-block-call, line-call}
+use Rattle.definitions.specs.Calls.{Capacity, Standing, open-checks, stream-checks, record-checks, finish-checks, search-checks, save-checks, load-checks}
 use Rattle.definitions.specs.Recording.{Call, taken, Sound}
 use Rattle.definitions.specs.BlockStream.{read-block-checks}
 use Rattle.definitions.specs.Program.{line-checks}
@@ -24,6 +24,9 @@ use Rattle.definitions.specs.Program.{line-checks}
 pub record ChecksInOrder : Type 0 where
   pub opening-order : (c : Capacity) (memory : ℕ) → causes (open-checks c memory) ≡ checked opening
   pub record-order : (s : Standing) (kind : ℕ) (b : Block) → causes (record-checks s kind b) ≡ cond (eqb kind memory-kind) (checked record-call) (take 3 (checked record-call))
+  -- a stream's first two causes are record's; each of its blocks is read and then put to what record asks of a block behind its kind
+  pub stream-order : (s : Standing) → causes (stream-checks s) ≡ take 2 (checked record-stream-call)
+  pub stream-block-order : checked record-stream-call ≡ take 2 (checked record-call) ++ (checked read-block-call ++ drop 3 (checked record-call))
   pub finish-order : (s : Standing) → causes (finish-checks s) ≡ checked finish-call
   pub search-order : (s : Standing) (q : List ℕ) (scratch room : ℕ) → causes (search-checks s q scratch room) ≡ checked search-call
   -- the causes that leave scratch as it was are those up to check 9

@@ -10,6 +10,8 @@ use Rattle.memory_header.specs.Answers.{outcome-as, outcome-number}
 use Rattle.recording.specs.Recorded.{recorded-as, recorded-number}
 use Rattle.memory_header.specs.declared.Outcome.the-variants as O
 use Rattle.recording.specs.declared.Recorded.the-variants as R
+use Rattle.stream_recording.specs.Answers.{streamed-as, streamed-number, streamed-taken}
+use Rattle.stream_recording.specs.declared.Streamed.the-variants as T
 use Rattle.saving.specs.declared.Saved.{Saved}
 use Rattle.saving.specs.declared.Saved.the-variants as S
 use Rattle.saving.specs.Answers.{saved-as}
@@ -40,6 +42,14 @@ module _ (n : ℕ) where
       go : (o : Bool) → Eq o n 0 → recorded-number (cond o R.Taken (R.Refused n)) ≡ n
       go true e = sym e
       go false h = refl
+
+  -- with how many blocks were taken
+  pub streamed-back : (k : ℕ) → (streamed-number (streamed-as k n) ≡ n) × (streamed-taken (streamed-as k n) ≡ k)
+  streamed-back k = go (eqb n 0) (eq n 0)
+    where
+      go : (o : Bool) → Eq o n 0 → (streamed-number (cond o (T.All k) (T.Stopped k n)) ≡ n) × (streamed-taken (cond o (T.All k) (T.Stopped k n)) ≡ k)
+      go true e = (sym e, refl)
+      go false h = (refl, refl)
 
   -- with a number beside it, in a place that a refusal leaves
   module _ (k : ℕ) (xs : List ℕ) where

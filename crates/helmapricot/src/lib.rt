@@ -6,13 +6,14 @@ use rows::Row;
 use saving::Saved;
 ghost use mathlib.Core.Path.{_≡_};
 ghost use Prim.Native.Nat.{_-_, _≤_};
-ghost use lib.ListN.{length};
+ghost use lib.ListN.{length, set};
 ghost use lib.Seq.{sets};
 ghost use mathlib.Core.List.{[], _∷_};
 ghost use Rattle.definitions.specs.BlockStream.{read-block};
 ghost use Rattle.definitions.specs.Causes.{ScratchAfter};
 ghost use Rattle.memory_header.specs.Opening.{open-memory};
 ghost use Rattle.recording.specs.Record.{record-memory};
+ghost use Rattle.stream_recording.specs.Stream.{record-stream};
 ghost use Rattle.string_index.specs.Finish.{finish-memory};
 ghost use Rattle.handing_over.specs.Search.{search-memory};
 ghost use Rattle.saving.specs.Saving.{save-memory, load-memory};
@@ -43,6 +44,20 @@ pub extern "C" fn helmapricot_record(
 {
     let l = SpacetimeLocation::new(address, created_at, destroyed_at);
     answer_numbers::recorded_number(string_index::record(mem, kind, l, data))
+}
+
+// Records the blocks of a stream, up to the first that is refused; how many were taken goes into taken, 0 for refusals 1 and 2 too.
+#[no_mangle]
+pub extern "C" fn helmapricot_record_stream(
+    mem: &mut [u8],
+    stream: &[u8],
+    taken: &mut [u64; 1],
+) -> u64
+    ensures answer { λ r. ⌜ r ≡ record-stream (now (mem .entry)) (now (stream .entry)) .refusal ⌝ }
+    ensures memory { λ _. ⌜ now (mem .exit) ≡ record-stream (now (mem .entry)) (now (stream .entry)) .memory ⌝ }
+    ensures taken { λ _. ⌜ now (taken .exit) ≡ set (now (taken .entry)) 0 (record-stream (now (mem .entry)) (now (stream .entry)) .taken) ⌝ }
+{
+    answer_numbers::put_taken(taken, string_index::record_stream(mem, stream))
 }
 
 // Finishes an index, so that it can be searched and saved.

@@ -1,8 +1,9 @@
 -- What the pieces of a block charge together, in closed form, and a Memory block judged by the header's value. Assumes nothing.
 use Prim.Native.Nat.{ℕ, _+_, _*_, _/_, _%_, max}
+use mathlib.Core.Option.{Option, none, some}
 use Rattle.definitions.specs.Location.{Location}
 use Rattle.definitions.specs.Blocks.{entry-charge}
-use Rattle.definitions.specs.Causes.{first-cause, refusal-of}
+use Rattle.definitions.specs.Causes.{Cause, number, first-cause}
 use Rattle.definitions.specs.Calls.{memory-checks}
 use Rattle.memory_header.specs.Layout.{Header}
 
@@ -18,6 +19,15 @@ block-nodes n = n / 16 * 136 + (n % 16) * (n % 16 + 1) / 2
 abbrev pub grown : Header → ℕ → Header
 grown h n = record { capacity = h .capacity; phase = h .phase; nodes = h .nodes + block-nodes n; entries = h .entries + entry-charge n; payload = h .payload + piece-count n }
 
--- the number of the refusal of a block of n bytes at l, 0 where it is taken
-abbrev pub judged : Header → ℕ → Location → ℕ
-judged h n l = refusal-of (first-cause (memory-checks (h .capacity) (grown h n .nodes) (grown h n .entries) n l))
+-- a block is taken, and this header counts it too; or it is refused with a number
+pub data Verdict : Type 0 where
+  counted : Header → Verdict
+  refused : ℕ → Verdict
+
+abbrev pub verdict : Option Cause → Header → Verdict
+verdict none h = counted h
+verdict (some c) h = refused (number c)
+
+-- a Memory block of n bytes at l
+abbrev pub judged : Header → ℕ → Location → Verdict
+judged h n l = verdict (first-cause (memory-checks (h .capacity) (grown h n .nodes) (grown h n .entries) n l)) (grown h n)

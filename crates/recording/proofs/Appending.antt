@@ -86,7 +86,7 @@ shared zs xs ys at k l h e = go (lt-or-ge k at) (lt-or-ge k (at + length zs))
         rw q (getD-sets zs xs at (k - at) (omega arith) h ∙ sym (getD-sets zs ys at (k - at) (omega arith) (omega arith)))
 
 -- a header that is put before the pieces are is written over by the one that counts them
-header-over : (m : List ℕ) (h h′ h″ : Header) (new : List Piece) → AllSmall new → 64 + 48 * (h′ .payload + length new) ≤ length m
+pub header-over : (m : List ℕ) (h h′ h″ : Header) (new : List Piece) → AllSmall new → 64 + 48 * (h′ .payload + length new) ≤ length m
     → with-header (logged (with-header m h) h′ new) h″ ≡ with-header (logged m h′ new) h″
 unfolding logged
 header-over m h h′ h″ new s l =

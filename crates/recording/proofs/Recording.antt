@@ -1,4 +1,4 @@
--- The pieces of a block as they are written, and the header that counts them. Assumes nothing.
+-- The pieces of a block as they are written. Assumes nothing.
 use Prim.Native.Nat.{ℕ, suc, _+_, _-_, _*_, _≤_, _<_, min}
 use native.Mathlib.Omega.{arith}
 use mathlib.Core.Path.{_≡_, refl, sym, ap, _∙_}
@@ -8,15 +8,11 @@ use lib.ListN.{length, take, drop, replicate, length-take, length-drop}
 use lib.Seq.{sets, length-sets, take-length, take-all}
 use Rattle.words.specs.Words.{setLe64}
 use Rattle.definitions.specs.Location.{Location, moved, location-bytes}
-use Rattle.definitions.specs.Blocks.{Block, Piece, pieces, entry-charge}
+use Rattle.definitions.specs.Blocks.{Block, Piece, pieces}
 use Rattle.definitions.proofs.Views.{lt-or-le}
-use Rattle.tally.specs.Tallied.{recorded}
 use Rattle.index_memory.specs.Log.{piece-bytes, log-bytes}
-use Rattle.judging.specs.Judged.{piece-count, block-nodes, grown}
+use Rattle.judging.specs.Judged.{piece-count}
 use Rattle.recording.specs.Cut.{part, parts}
-use Rattle.memory_header.specs.Answers.{header-of}
-use Rattle.header_tally.specs.Tallies.{tally-in, with-tally}
-use Rattle.memory_header.specs.declared.Header as C
 use Rattle.recording.proofs.Cut.{pieces-parts}
 use Rattle.index_memory.proofs.PieceBytes.{piece-parts}
 use Rattle.index_memory.proofs.LogBytes.{log-sets}
@@ -85,8 +81,3 @@ module _ (b : Block) (from : ℕ) (m₀ : List ℕ) where
   writing-end {m} {done} {left} w l =
       let s : left ≡ 0 = omega arith in
       sym (ap (λ (k : ℕ). sets m (from + 48 * done) (log-bytes (parts b k))) s) ∙ w .same
-
--- the header that counts a block: what it charges goes to the tally
-pub grown-by : (h r : C.Header) (n x y z : ℕ) → x ≡ block-nodes n → y ≡ entry-charge n → z ≡ piece-count n
-    → r ≡ with-tally h (recorded (tally-in h) x y) (h .payload + z) → header-of r ≡ grown (header-of h) n
-grown-by h r n x y z e f g w = ap header-of w ∙ rw (e, f, g) refl

@@ -8,10 +8,12 @@ use Rattle.definitions.specs.Blocks.{Block, Piece, pieces}
 use Rattle.definitions.specs.Causes.{first-cause}
 use Rattle.definitions.specs.Calls.{Capacity, header-size, block-checks}
 use Rattle.location.specs.Fits.{Fits}
-use Rattle.memory_header.specs.Layout.{logged-size}
+use Rattle.memory_header.specs.Layout.{Header, logged-size, with-header}
 use Rattle.index_memory.specs.Log.{AllSmall}
 use Rattle.index_memory.specs.Index.{opened, read-index}
-use Rattle.recording.specs.Record.{appended}
+use Rattle.judging.specs.Judged.{counted}
+use Rattle.recording.specs.Record.{appended, record-memory}
+use Rattle.recording.specs.Enter.{Pending, judged-by-kind, entered, settled}
 
 -- a block that is taken stands behind the pieces that were there
 abbrev pub ReadAppended : Type 0
@@ -32,3 +34,15 @@ abbrev pub AppendedTwice : Type 0
 AppendedTwice =
     (m : List ℕ) (c : Capacity) (ps new more : List Piece) → AllSmall new → AllSmall more → header-size + logged-size * (length ps + length new + length more) ≤ length m
     → appended (appended m c ps new) c (ps ++ new) more ≡ appended m c ps (new ++ more)
+
+-- entering a block and then writing the header is recording it into the memory with its header
+abbrev pub EnteredRecords : Type 0
+EnteredRecords =
+    (m : List ℕ) (h : Header) (kind : ℕ) (b : Block) → Pending m h
+    → record-memory (with-header m h) kind b ≡ settled (judged-by-kind h kind b) h (entered m h kind b)
+
+-- and the next block can be entered behind it
+abbrev pub EnteredPending : Type 0
+EnteredPending =
+    (m : List ℕ) (h new : Header) (kind : ℕ) (b : Block) → Pending m h → Fits (b .at) → judged-by-kind h kind b ≡ counted new
+    → Pending (entered m h kind b) new

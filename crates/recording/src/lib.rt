@@ -1,5 +1,6 @@
-// Recording into an open index: a block that is not refused is appended to the log, and the header put.
+// Recording into an open index: a block that is not refused is entered behind the log, and the header put.
 use definitions::PIECE_SIZE;
+use judging::Judged;
 use location::SpacetimeLocation;
 use memory_header::HEADER_SIZE;
 use memory_header::Header;
@@ -8,34 +9,23 @@ ghost use mathlib.Core.Path.{_≡_};
 ghost use Prim.Native.Nat.{_+_, _-_, _*_, _^_, _≤_, _<_, min};
 ghost use lib.ListN.{length};
 ghost use lib.Seq.{sets};
-ghost use Rattle.definitions.specs.Blocks.{entry-charge, pieces};
+ghost use Rattle.definitions.specs.Blocks.{pieces};
 ghost use Rattle.location.specs.Plain.{plain};
 ghost use Rattle.memory_header.specs.Layout.{header-at};
 ghost use Rattle.memory_header.specs.Answers.{header-of};
 ghost use Rattle.index_memory.specs.Log.{piece-bytes, log-bytes, log-in};
 ghost use Rattle.index_memory.specs.Index.{read-index, opened};
-ghost use Rattle.judging.specs.Judged.{piece-count, block-nodes, grown};
+ghost use Rattle.judging.specs.Judged.{piece-count};
+ghost use Rattle.judging.specs.Verdicts.{verdict-of};
 ghost use Rattle.recording.specs.Cut.{part};
 ghost use Rattle.recording.specs.Record.{record-memory, logged, Fitting};
+ghost use Rattle.recording.specs.Enter.{Pending, judged-by-kind, entered};
 ghost use Rattle.recording.specs.Recorded.{recorded-as};
-
-// ── recording: a block is judged, its pieces are appended, the header is put ──
 
 // Whether a block is taken, or why not.
 pub enum Recorded {
     Taken,
     Refused(u64),
-}
-
-// How many pieces a block of n bytes has.
-fn piece_count(n: usize) -> usize
-    requires { ⌜ n ≤ 4096 ⌝ }
-    ensures { λ r. ⌜ r ≡ piece-count n ⌝ }
-{
-    if n == 0 {
-        return 1;
-    }
-    (n + PIECE_SIZE - 1) / PIECE_SIZE
 }
 
 // Writes a piece to the 48 bytes from index at on: its length, its bytes, zeros up to 16 bytes, its location.
@@ -76,7 +66,7 @@ fn put_pieces(mem: &mut [u8], from: usize, data: &[u8], l: SpacetimeLocation)
     requires { ⌜ (length (now «data») ≤ 4096) × (l .address .0 + length (now «data») < 2 ^ 64) × (from + 48 * piece-count (length (now «data»)) ≤ length (now mem)) ⌝ }
     ensures { λ _. ⌜ now (mem .exit) ≡ sets (now (mem .entry)) from (log-bytes (pieces (record { bytes = now («data» .entry); at = plain l }))) ⌝ }
 {
-    let mut left = piece_count(data.len());
+    let mut left = judging::piece_count(data.len());
     let mut done = 0;
     while 0 < left {
         left -= 1;
@@ -85,28 +75,43 @@ fn put_pieces(mem: &mut [u8], from: usize, data: &[u8], l: SpacetimeLocation)
     }
 }
 
-// The header that counts a block of n bytes too.
-fn grown(h: Header, n: usize) -> Header
-    requires { ⌜ (n ≤ 4096) × (h .nodes + block-nodes n < 2 ^ 64) × (h .entries + entry-charge n < 2 ^ 64) × (h .payload + piece-count n < 2 ^ 64) ⌝ }
-    ensures { λ r. ⌜ header-of r ≡ grown (header-of h) n ⌝ }
-{
-    let nodes = judging::block_nodes(n);
-    let entries = index_memory::entry_charge(n);
-    header_tally::charged(h, nodes, entries, h.payload + piece_count(n))
-}
-
-// Appends the pieces of a block that fits to the log, and answers the header that counts them, which is not written here.
-pub fn append(mem: &mut [u8], h: Header, data: &[u8], l: SpacetimeLocation) -> Header
+// Appends the pieces of a block that fits to the log.
+fn append(mem: &mut [u8], h: Header, data: &[u8], l: SpacetimeLocation)
     requires { ⌜ Fitting (now mem) (header-of h) (record { bytes = now «data»; at = plain l }) ⌝ }
-    ensures header { λ r. ⌜ header-of r ≡ grown (header-of h) (length (now («data» .entry))) ⌝ }
-    ensures memory { λ _. ⌜ now (mem .exit) ≡ logged (now (mem .entry)) (header-of h) (pieces (record { bytes = now («data» .entry); at = plain l })) ⌝ }
+    ensures { λ _. ⌜ now (mem .exit) ≡ logged (now (mem .entry)) (header-of h) (pieces (record { bytes = now («data» .entry); at = plain l })) ⌝ }
 {
     put_pieces(mem, HEADER_SIZE + LOGGED_SIZE * h.payload, data, l);
-    grown(h, data.len())
+}
+
+// Enters a block into an open index whose header is h, and answers the header that counts it too; no header is written here.
+// Only the bytes of a block of kind Memory are entered.
+pub fn enter(
+    mem: &mut [u8],
+    h: Header,
+    kind: u64,
+    l: SpacetimeLocation,
+    data: &[u8],
+) -> Judged
+    requires { ⌜ Pending (now mem) (header-of h) ⌝ }
+    ensures verdict { λ r. ⌜ verdict-of r ≡ judged-by-kind (header-of h) kind (record { bytes = now («data» .entry); at = plain l }) ⌝ }
+    ensures memory { λ _. ⌜ now (mem .exit) ≡ entered (now (mem .entry)) (header-of h) kind (record { bytes = now («data» .entry); at = plain l }) ⌝ }
+{
+    if (definitions::LAST_KIND as u64) < kind {
+        return Judged::Refused(definitions::UNKNOWN_KIND);
+    }
+    if kind != definitions::MEMORY_KIND as u64 {
+        return Judged::Counted(h);
+    }
+    match judging::judge(h, data.len(), l) {
+        Judged::Counted(counted) => {
+            append(mem, h, data, l);
+            Judged::Counted(counted)
+        }
+        Judged::Refused(n) => Judged::Refused(n),
+    }
 }
 
 // Records a block into an open index: h is the header of its memory.
-// Only the bytes of a block of kind Memory are recorded.
 pub fn record_open(
     mem: &mut [u8],
     h: Header,
@@ -118,17 +123,11 @@ pub fn record_open(
     ensures answer { λ r. ⌜ r ≡ recorded-as (record-memory (now (mem .entry)) kind (record { bytes = now («data» .entry); at = plain l }) .refusal) ⌝ }
     ensures memory { λ _. ⌜ now (mem .exit) ≡ record-memory (now (mem .entry)) kind (record { bytes = now («data» .entry); at = plain l }) .memory ⌝ }
 {
-    if (definitions::LAST_KIND as u64) < kind {
-        return Recorded::Refused(definitions::UNKNOWN_KIND);
+    match enter(mem, h, kind, l, data) {
+        Judged::Counted(counted) => {
+            memory_header::put_header(mem, counted);
+            Recorded::Taken
+        }
+        Judged::Refused(n) => Recorded::Refused(n),
     }
-    if kind != definitions::MEMORY_KIND as u64 {
-        return Recorded::Taken;
-    }
-    let refusal = judging::judge(h, data.len(), l);
-    if refusal != 0 {
-        return Recorded::Refused(refusal);
-    }
-    let counted = append(mem, h, data, l);
-    memory_header::put_header(mem, counted);
-    Recorded::Taken
 }

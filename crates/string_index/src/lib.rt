@@ -8,10 +8,13 @@ pub use memory_header::open;
 pub use recording::Recorded;
 pub use rows::Row;
 pub use saving::Saved;
+pub use stream_recording::Streamed;
 ghost use mathlib.Core.Path.{_≡_};
 ghost use Rattle.location.specs.Plain.{plain};
 ghost use Rattle.recording.specs.Record.{record-memory};
 ghost use Rattle.recording.specs.Recorded.{recorded-as};
+ghost use Rattle.stream_recording.specs.Stream.{record-stream};
+ghost use Rattle.stream_recording.specs.Answers.{streamed-for};
 ghost use Rattle.saving.specs.Saving.{save-memory, load-memory};
 ghost use Rattle.saving.specs.Answers.{saved-for};
 ghost use Rattle.memory_header.specs.Answers.{outcome-as};
@@ -26,6 +29,18 @@ pub fn record(mem: &mut [u8], kind: u64, l: SpacetimeLocation, data: &[u8]) -> R
         Held::Broken => Recorded::Refused(definitions::INDEX_RULE_BROKEN),
         Held::Open(h) => recording::record_open(mem, h, kind, l, data),
         Held::Finished(_) => Recorded::Refused(definitions::RECORD_AFTER_FINISH),
+    }
+}
+
+// Records the blocks of a stream, up to the first that is refused, and answers how many were taken.
+pub fn record_stream(mem: &mut [u8], stream: &[u8]) -> Streamed
+    ensures answer { λ r. ⌜ r ≡ streamed-for (record-stream (now (mem .entry)) (now (stream .entry))) ⌝ }
+    ensures memory { λ _. ⌜ now (mem .exit) ≡ record-stream (now (mem .entry)) (now (stream .entry)) .memory ⌝ }
+{
+    match inspecting::inspect(mem) {
+        Held::Broken => Streamed::Stopped(0, definitions::INDEX_RULE_BROKEN),
+        Held::Open(h) => stream_recording::record_blocks(mem, h, stream),
+        Held::Finished(_) => Streamed::Stopped(0, definitions::RECORD_AFTER_FINISH),
     }
 }
 

@@ -1,72 +1,64 @@
--- `recording::record_open` meets its contract: at each answer the tests that led there say what recording does. Assumes nothing.
+-- `recording::record_open` meets its contract: the block is entered, and the header put. Assumes nothing.
+use Prim.Native.Nat.{ℕ, _<_}
 use native.Mathlib.Omega.{arith}
+use mathlib.Core.Path.{_≡_, ap, sym, _∙_}
+use mathlib.Core.List.{List}
+use lib.ListN.{getD}
 use borrow.Author.Needs.{needs}
+use denote.Ref.{now}
+use Rattle.definitions.specs.Blocks.{Block}
+use Rattle.location.specs.Plain.{plain}
 use Rattle.memory_header.specs.Answers.{header-of}
-use Rattle.recording.proofs.Outcome.{kind-unknown, kind-other, header-room, tally-within, refused-by, fitting, taken-by}
+use Rattle.judging.specs.Verdicts.{verdict-of}
+use Rattle.recording.proofs.Entering.{header-room}
+use Rattle.recording.proofs.Outcome.{pending, taken-by, refused-by}
 use Rattle.recording.proofs.record_open.Statement.{statement}
 use Rattle.recording.proofs.record_open.Tie as tie
 
-returns : tie.Need-returns
-returns c =
-    let p = c .before .before .before .pre in
-    kind-unknown _ _ (p .0) (p .1) _ _ (c .if1 .taken)
-
-returns-2 : tie.Need-returns-2
-returns-2 c =
-    let p = c .before .before .before .before .pre in
-    kind-other _ _ (p .0) (p .1) _ _ (c .before .if1 .left) (c .if2 .taken)
-
-judge-requires : tie.Need-judge-requires
-judge-requires c κs =
-    let p = c .before .before .before .before .pre in
-    tally-within _ _ (p .0) (p .1)
-
-returns-3 : tie.Need-returns-3
-returns-3 c =
-    let c₂ = c .before .before in
-    let c₃ = c₂ .before in
-    let p = c₃ .before .before .before .pre in
-    let r = c .before .judge in
-    refused-by _ _ (p .0) (p .1) _ (r .result) (r .ensures) _ (c₃ .if1 .left) (c₂ .if2 .left) (c .if3 .taken)
-
-append-requires : tie.Need-append-requires
-append-requires c κs =
-    let c₂ = c .before .before in
-    let p = c₂ .before .before .before .before .before .pre in
-    let r = c₂ .judge in
-    fitting _ _ (p .0) (p .1) _ (r .result) (r .ensures) (c .before .if3 .left)
+enter-requires : tie.Need-enter-requires
+enter-requires c κs =
+    let known = c .before .before in
+    let start = known .before in
+    pending _ _ (start .pre .0) (start .pre .1) (λ j. omega (arith, known .slice-known .given j))
 
 put-header-requires : tie.Need-put-header-requires
 put-header-requires c κs =
-    let c₃ = c .before .before .before in
-    let p = c₃ .before .before .before .before .before .before .before .before .pre in
-    omega (arith, header-room _ _ (p .0) (p .1), c₃ .append .kept .0)
+    let e = c .before .before .before .before .before .before in
+    let known = e .before .before .before in
+    let start = known .before in
+    let p = pending _ _ (start .pre .0) (start .pre .1) (λ j. omega (arith, known .slice-known .given j)) in
+    omega (arith, header-room _ _ p, e .enter .kept .0)
 
-returns-4 : tie.Need-returns-4
-returns-4 c =
-    let c₂ = c .before .before in
-    let c₆ = c₂ .before .before .before .before in
-    let c₈ = c₆ .before .before in
-    let c₉ = c₈ .before in
-    let c₁₀ = c₉ .before in
-    let c₁₁ = c₁₀ .before in
-    let p = c₁₁ .before .before .before .pre in
-    let r = c₉ .judge in
-    let w = c₆ .append in
-    let t = taken-by _ _ (p .0) (p .1) _ (r .result) (r .ensures) _ (c₁₁ .if1 .left) (c₁₀ .if2 .left) (c₈ .if3 .left) (header-of (w .result)) (w .last .0) in
-    t (c₂ .put-header .last .0) (w .ensures .0) (w .ensures .1) (c₂ .put-header .ensures)
+returns : tie.Need-returns
+returns c =
+    let w = c .before .before in
+    let g = w .before .before .before .counted .given in
+    let e = w .before .before .before .before .before .before .before in
+    let known = e .before .before .before in
+    let start = known .before in
+    let b : Block = record { bytes = now (start .args .«data»); at = plain (start .args .l) } in
+    taken-by _ _ (start .pre .0) (start .pre .1) (λ j. omega (arith, known .slice-known .given j)) _ b (header-of (g .0 .0)) (e .enter .last .0) (w .put-header .last .0)
+    (sym (ap verdict-of (g .1)) ∙ e .enter .ensures .0, e .enter .ensures .1) (w .put-header .ensures)
+
+returns-2 : tie.Need-returns-2
+returns-2 c =
+    let g = c .before .n .given in
+    let e = c .before .before .before .before .before in
+    let known = e .before .before .before in
+    let start = known .before in
+    let b : Block = record { bytes = now (start .args .«data»); at = plain (start .args .l) } in
+    refused-by _ _ (start .pre .0) (start .pre .1) (λ j. omega (arith, known .slice-known .given j)) _ b (g .0 .0) (e .enter .last .0)
+    (sym (ap verdict-of (g .1)) ∙ e .enter .ensures .0, e .enter .ensures .1)
 
 pub record-open-spec : {M : Type 1} → statement M
 record-open-spec =
     tie.close
     (tie.spec
+    enter-requires
+    (λ c. search needs)
+    put-header-requires
+    (λ c. search needs)
     (λ c. search needs)
     returns
     (λ c. search needs)
-    returns-2
-    judge-requires
-    returns-3
-    append-requires
-    put-header-requires
-    (λ c. search needs)
-    returns-4)
+    returns-2)
