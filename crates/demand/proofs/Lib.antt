@@ -1,8 +1,9 @@
 -- `Follow` and `Following`: the memory follows the recording; `SavedTrie`, `ReadFinished`: what finish leaves is read back;
--- `Demand` and `Theorem`: demand 3. Assumes nothing.
+-- `Demand` and `Theorem`: demand 3; `Shift`: stream calls among the calls. Assumes nothing.
 pub mod Follow
 pub mod Demand
 pub mod SavedTrie
 pub mod ReadFinished
 pub mod Theorem
 pub mod Following
+pub mod Shift

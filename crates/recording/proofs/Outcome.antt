@@ -1,18 +1,23 @@
 -- What recording into an open index answers and leaves, by what entering the block gives. Assumes nothing.
 use Prim.Native.Nat.{ℕ, _<_}
 use mathlib.Core.Path.{_≡_, refl, sym, ap, _∙_, subst}
+use mathlib.Core.Bool.{cond}
 use mathlib.Core.List.{List}
 use lib.ListN.{getD}
+use lib.Dec.{eqb}
 use borrow.Author.Tests.{ne-eqb}
-use Rattle.definitions.specs.Blocks.{Block, Piece}
+use Rattle.definitions.specs.Blocks.{Block, Piece, pieces, memory-kind}
+use Rattle.definitions.specs.Causes.{first-cause}
+use Rattle.definitions.specs.Calls.{record-checks}
 use Rattle.memory_header.specs.Layout.{Header, header-at, with-header}
 use Rattle.memory_header.specs.Opening.{Done}
 use Rattle.memory_header.proofs.HeaderBytes.{header-same}
+use Rattle.memory_header.proofs.Opening.{refused-leaves}
 use Rattle.index_memory.specs.Log.{log-in}
-use Rattle.index_memory.specs.Index.{Index, opened, read-index}
+use Rattle.index_memory.specs.Index.{Index, opened, standing-of, read-index}
 use Rattle.index_memory.proofs.Holding.{OpenIs, open-is, open-counted}
 use Rattle.judging.specs.Judged.{Verdict, counted, refused}
-use Rattle.recording.specs.Record.{logged, record-by, record-memory}
+use Rattle.recording.specs.Record.{appended, record-by, record-memory}
 use Rattle.recording.specs.Enter.{Pending, judged-by-kind, entered, settled}
 use Rattle.recording.specs.Recorded.{recorded-as}
 use Rattle.recording.specs.declared.Recorded.{Recorded}
@@ -23,6 +28,13 @@ use Rattle.recording.proofs.Entering.{Enters, some-number, entered-reco
 pub record-as : (m : List ℕ) (kind : ℕ) (b : Block) (i : Index) → read-index m ≡ i → record-by i m kind b ≡ record-memory m kind b
 unfolding record-memory
 record-as m kind b i e = ap (λ (x : Index). record-by x m kind b) (sym e)
+
+-- a block that is refused leaves the memory as it was
+pub record-leaves : (m : List ℕ) (kind : ℕ) (b : Block) → (record-memory m kind b .refusal ≡ 0 → ⊥) → record-memory m kind b .memory ≡ m
+unfolding record-memory
+record-leaves m kind b =
+    refused-leaves (first-cause (record-checks (standing-of (read-index m)) kind b)) m
+    (cond (eqb kind memory-kind) (appended m (standing-of (read-index m) .capacity) (standing-of (read-index m) .pieces) (pieces b)) m)
 
 -- an answer and a memory are those of a recording
 abbrev pub Answers : Recorded → List ℕ → Done → Type 0

@@ -1,2 +1,5 @@
--- `Streaming`: a stream recorded block by block before the header is written; `Single`: a stream call is single records. Assumes nothing.
+-- `Streaming`: a stream recorded block by block before the header is written; `Single`: a stream call is single records;
+-- `Row`: its number stands in its row of the table. Assumes nothing.
 pub mod Streaming
+pub mod Single
+pub mod Row

@@ -1,19 +1,17 @@
 -- A call that is refused leaves all as it was. Assumes nothing.
 use Prim.Native.Nat.{ℕ, _/_}
 use mathlib.Core.Path.{_≡_, refl}
-use mathlib.Core.Bool.{cond}
 use mathlib.Core.List.{List}
 use mathlib.Core.Option.{Option, none, some}
 use lib.ListN.{length}
-use lib.Dec.{eqb}
 use Rattle.definitions.specs.Location.{Location}
-use Rattle.definitions.specs.Blocks.{Block, pieces, memory-kind}
 use Rattle.definitions.specs.Rows.{rows}
 use Rattle.definitions.specs.Causes.{Cause, first-cause}
-use Rattle.definitions.specs.Calls.{Capacity, open-checks, record-checks, finish-checks, search-checks}
+use Rattle.definitions.specs.Calls.{Capacity, open-checks, finish-checks, search-checks}
 use Rattle.memory_header.specs.Opening.{fresh-memory, open-memory}
 use Rattle.index_memory.specs.Index.{standing-of, read-index}
-use Rattle.recording.specs.Record.{appended, record-memory}
+use Rattle.recording.proofs.Outcome.{record-leaves}
+use Rattle.stream_recording.proofs.Single.{stream-leaves}
 use Rattle.memory_header.proofs.Opening.{refused-leaves}
 use Rattle.rows.specs.declared.Row.{Row}
 use Rattle.saving.proofs.Theorems.{save-leaves, load-leaves}
@@ -24,12 +22,6 @@ use Rattle.string_index.specs.Promises.{RefusedLeaves}
 open-leaves : (m : List ℕ) (c : Capacity) → (open-memory m c .refusal ≡ 0 → ⊥) → open-memory m c .memory ≡ m
 unfolding open-memory
 open-leaves m c = refused-leaves (first-cause (open-checks c (length m))) m (fresh-memory m c)
-
-record-leaves : (m : List ℕ) (kind : ℕ) (b : Block) → (record-memory m kind b .refusal ≡ 0 → ⊥) → record-memory m kind b .memory ≡ m
-unfolding record-memory
-record-leaves m kind b =
-    refused-leaves (first-cause (record-checks (standing-of (read-index m)) kind b)) m
-    (cond (eqb kind memory-kind) (appended m (standing-of (read-index m) .capacity) (standing-of (read-index m) .pieces) (pieces b)) m)
 
 finish-leaves : (m : List ℕ) → (finish-memory m .refusal ≡ 0 → ⊥) → finish-memory m .memory ≡ m
 unfolding finish-memory
@@ -45,4 +37,4 @@ search-leaves m q scratch lent =
     found-leaves (first-cause (search-checks (standing-of (read-index m)) q (scratch / 24) (length lent))) (rows (standing-of (read-index m) .pieces) q) lent
 
 pub all-leave : RefusedLeaves
-all-leave = record { open-leaves = open-leaves; record-leaves = record-leaves; finish-leaves = finish-leaves; search-leaves = search-leaves; save-leaves = save-leaves; load-leaves = load-leaves }
+all-leave = record { open-leaves = open-leaves; record-leaves = record-leaves; stream-leaves = stream-leaves; finish-leaves = finish-leaves; search-leaves = search-leaves; save-leaves = save-leaves; load-leaves = load-leaves }
