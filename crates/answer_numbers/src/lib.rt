@@ -49,12 +49,12 @@ pub fn put_taken(taken: &mut [u64; 1], r: Streamed) -> u64
     ensures { λ n. ⌜ (n ≡ streamed-number r) × (now (taken .exit) ≡ set (now (taken .entry)) 0 (streamed-taken r)) ⌝ }
 {
     match r {
-        Streamed::All(k) => {
-            taken[0] = k;
+        Streamed::All(all) => {
+            taken[0] = all;
             0
         }
-        Streamed::Stopped(k, n) => {
-            taken[0] = k;
+        Streamed::Stopped(before, n) => {
+            taken[0] = before;
             n
         }
     }

@@ -85,13 +85,7 @@ fn append(mem: &mut [u8], h: Header, data: &[u8], l: SpacetimeLocation)
 
 // Enters a block into an open index whose header is h, and answers the header that counts it too; no header is written here.
 // Only the bytes of a block of kind Memory are entered.
-pub fn enter(
-    mem: &mut [u8],
-    h: Header,
-    kind: u64,
-    l: SpacetimeLocation,
-    data: &[u8],
-) -> Judged
+pub fn enter(mem: &mut [u8], h: Header, kind: u64, l: SpacetimeLocation, data: &[u8]) -> Judged
     requires { ⌜ Pending (now mem) (header-of h) ⌝ }
     ensures verdict { λ r. ⌜ verdict-of r ≡ judged-by-kind (header-of h) kind (record { bytes = now («data» .entry); at = plain l }) ⌝ }
     ensures memory { λ _. ⌜ now (mem .exit) ≡ entered (now (mem .entry)) (header-of h) kind (record { bytes = now («data» .entry); at = plain l }) ⌝ }

@@ -9,7 +9,7 @@ ghost use mathlib.Core.Bool.{true, false};
 ghost use Prim.Native.Nat.{_≤_, _<_};
 ghost use lib.ListN.{length};
 ghost use Rattle.definitions.specs.BlockStream.{read-block};
-ghost use Rattle.memory_header.specs.Layout.{header-at};
+ghost use Rattle.memory_header.specs.Layout.{header-at, with-header};
 ghost use Rattle.memory_header.specs.Answers.{header-of};
 ghost use Rattle.index_memory.specs.Log.{log-in};
 ghost use Rattle.index_memory.specs.Index.{read-index, opened};
@@ -85,14 +85,18 @@ fn record_next(mem: &mut [u8], stream: &[u8], p: Progress) -> Progress
     }
 }
 
-// What is answered behind so many blocks for the number of a refusal, which is 0 where there is none.
-fn answer(taken: u64, number: u64) -> Streamed
-    ensures { λ r. ⌜ r ≡ streamed-as taken number ⌝ }
+// Puts the header that counts what was taken, and answers.
+fn close(mem: &mut [u8], p: Progress) -> Streamed
+    requires { ⌜ 64 ≤ length (now mem) ⌝ }
+    ensures memory { λ _. ⌜ now (mem .exit) ≡ with-header (now (mem .entry)) (header-of (p .header)) ⌝ }
+    ensures answer { λ r. ⌜ r ≡ streamed-as (p .taken) (p .number) ⌝ }
 {
-    if number == 0 {
-        return Streamed::All(taken);
+    let header = p.header;
+    memory_header::put_header(mem, header);
+    if p.number == 0 {
+        return Streamed::All(p.taken);
     }
-    Streamed::Stopped(taken, number)
+    Streamed::Stopped(p.taken, p.number)
 }
 
 // Records the blocks of a stream into an open index: h is the header of its memory.
@@ -111,7 +115,5 @@ pub fn record_blocks(mem: &mut [u8], h: Header, stream: &[u8]) -> Streamed
     while p.going {
         p = record_next(mem, stream, p);
     }
-    let header = p.header;
-    memory_header::put_header(mem, header);
-    answer(p.taken, p.number)
+    close(mem, p)
 }

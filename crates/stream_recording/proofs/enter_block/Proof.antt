@@ -16,8 +16,9 @@ use Rattle.stream_recording.proofs.enter_block.Tie as tie
 
 returns : tie.Need-returns
 returns c =
-    let g = c .before .before .header .given in
-    let e = c .before .before .before .before .before .before in
+    let found = c .before .before in
+    let g = found .header .given in
+    let e = found .before .before .before .before in
     let l = e .before .before .before .before .before in
     let a = l .before .before .before .args in
     let h = header-of (a .p .header) in

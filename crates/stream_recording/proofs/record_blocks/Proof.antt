@@ -3,7 +3,6 @@ use Prim.Native.Nat.{ℕ, _<_}
 use native.Mathlib.Omega.{arith}
 use mathlib.Core.Path.{_≡_, ap, sym, _∙_}
 use lib.ListN.{getD}
-use borrow.Author.Needs.{needs}
 use denote.Ref.{now}
 use Rattle.memory_header.specs.Answers.{header-of}
 use Rattle.recording.proofs.Entering.{header-room}
@@ -50,23 +49,23 @@ loop-less c =
     let a = t .before .before .before .before .args in
     fewer-left (now (a .stream)) (now (a .mem)) _ _ _ (t .loop-test .taken) (w .record-next .ensures .0) (loop-again c)
 
-put-header-requires : tie.Need-put-header-requires Inv-loop μ-loop
-put-header-requires c κs = header-room _ _ (c .before .before .before .loop .inv .pending)
+close-requires : tie.Need-close-requires Inv-loop μ-loop
+close-requires c κs = header-room _ _ (c .before .before .loop .inv .pending)
 
 same-length : tie.Need-same-length Inv-loop μ-loop
 same-length c =
-    let w = c .before .before .before in
-    omega (arith, w .put-header .kept .0, w .before .before .before .before .loop .inv .long)
+    let w = c .before .before in
+    omega (arith, w .close .kept .0, w .before .before .before .loop .inv .long)
 
 returns : tie.Need-returns Inv-loop μ-loop
 returns c =
-    let w = c .before .before .before in
-    let t = w .before .before .before in
+    let w = c .before .before in
+    let t = w .before .before in
     let start = t .before .before .before .before in
     let a = start .args in
     let g = t .before .loop .inv in
     let d = going-end (now (a .stream)) (now (a .mem)) _ _ g (t .loop-test .left) ∙ stream-as (now (a .mem)) (now (a .stream)) _ (start .pre .1) in
-    (c .answer .ensures ∙ ap streamed-for d, w .put-header .ensures ∙ ap (λ (x : StreamDone). x .memory) d)
+    (w .close .ensures .1 ∙ ap streamed-for d, w .close .ensures .0 ∙ ap (λ (x : StreamDone). x .memory) d)
 
 pub record-blocks-spec : {M : Type 1} → statement M
 record-blocks-spec =
@@ -78,7 +77,6 @@ record-blocks-spec =
     record-next-requires
     loop-less
     loop-again
-    put-header-requires
-    (λ c κs. search needs)
+    close-requires
     same-length
     returns)
