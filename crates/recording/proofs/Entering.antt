@@ -26,6 +26,7 @@ use Rattle.recording.specs.Record.{logged, appended, Fitting, record-by,
 use Rattle.recording.specs.Enter.{Pending, judged-by-kind, unless-turned-back, entered, settled}
 use Rattle.recording.specs.Promises.{EnteredRecords, EnteredPending}
 use Rattle.recording.proofs.Appending.{header-over}
+use Rattle.recording.proofs.Cut.{pieces-length}
 use Rattle.recording.proofs.Taken.{judged-is, read-appended}
 use Rattle.recording.proofs.Taken as taken
 
@@ -137,7 +138,7 @@ module _ (m : List ℕ) (h : Header) (p : Pending m h) where
     over q =
         let f : Fitting m h b = fits q in
         let n = ap (λ (x : Header). x .payload) (p .counts) in
-        header-over m h (open-header c ps) new (pieces b) small (omega (arith, f .room, n, taken.pieces-counted b))
+        header-over m h (open-header c ps) new (pieces b) small (omega (arith, f .room, n, pieces-length b))
         ∙ ap (λ (x : Header). with-header (logged m x (pieces b)) new) (sym (p .counts))
 
 pub entered-records : EnteredRecords

@@ -65,9 +65,6 @@ fitting m c ps b r z =
 
 -- ---- the pieces
 
-pub pieces-counted : (b : Block) → length (pieces b) ≡ piece-count (length (b .bytes))
-pieces-counted b = pieces-length b
-
 pub sound-pieces : (b : Block) → Sound b → AllSound (pieces b)
 sound-pieces b s p k =
     let w : PieceOf (b .at) (b .bytes) p = piece-of b p k in
