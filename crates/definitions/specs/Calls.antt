@@ -90,12 +90,12 @@ stream-checks s =
     index-check s ∷
     record { applies = s .finished; cause = record-after-finish } ∷ []
 
--- a block of kind 0, 2, 3 or 4 is put to nothing behind its kind
+-- a kind over 4 is turned back; a block of kind 0, 2, 3 or 4 is put to nothing behind its kind
+abbrev pub kind-checks : ℕ → List Check → List Check
+kind-checks kind behind = record { applies = ltb last-kind kind; cause = unknown-kind } ∷ cond (eqb kind memory-kind) behind []
+
 abbrev pub record-checks : Standing → ℕ → Block → List Check
-record-checks s kind b =
-    stream-checks s ++
-    (record { applies = ltb last-kind kind; cause = unknown-kind } ∷
-    cond (eqb kind memory-kind) (block-checks (s .capacity) (s .pieces) b) [])
+record-checks s kind b = stream-checks s ++ kind-checks kind (block-checks (s .capacity) (s .pieces) b)
 
 -- finishing again is not refused
 abbrev pub finish-checks : Standing → List Check

@@ -1,9 +1,10 @@
 -- What the pieces of a block charge together, in closed form, and a Memory block judged by the header's value. Assumes nothing.
 use Prim.Native.Nat.{ℕ, _+_, _*_, _/_, _%_, max}
+use mathlib.Core.List.{List}
 use mathlib.Core.Option.{Option, none, some}
 use Rattle.definitions.specs.Location.{Location}
 use Rattle.definitions.specs.Blocks.{entry-charge}
-use Rattle.definitions.specs.Causes.{Cause, number, first-cause}
+use Rattle.definitions.specs.Causes.{Cause, number, Check, first-cause}
 use Rattle.definitions.specs.Calls.{memory-checks}
 use Rattle.memory_header.specs.Layout.{Header}
 
@@ -28,6 +29,9 @@ abbrev pub verdict : Option Cause → Header → Verdict
 verdict none h = counted h
 verdict (some c) h = refused (number c)
 
--- a Memory block of n bytes at l
+-- a Memory block of n bytes at l: its checks by the header's value, and its verdict
+abbrev pub judged-checks : Header → ℕ → Location → List Check
+judged-checks h n l = memory-checks (h .capacity) (grown h n .nodes) (grown h n .entries) n l
+
 abbrev pub judged : Header → ℕ → Location → Verdict
-judged h n l = verdict (first-cause (memory-checks (h .capacity) (grown h n .nodes) (grown h n .entries) n l)) (grown h n)
+judged h n l = verdict (first-cause (judged-checks h n l)) (grown h n)

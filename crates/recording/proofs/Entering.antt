@@ -10,8 +10,8 @@ use lib.Seq.{length-sets}
 use lib.Dec.{ltb, eqb}
 use borrow.Author.Tests.{lt-ltb, le-ltb, eq-eqb, ne-eqb}
 use Rattle.definitions.specs.Blocks.{Block, Piece, pieces, memory-kind, last-kind}
-use Rattle.definitions.specs.Causes.{Cause, number, unknown-kind, first-cause}
-use Rattle.definitions.specs.Calls.{Capacity, memory-checks, block-checks}
+use Rattle.definitions.specs.Causes.{Cause, number, unknown-kind, Check, first-cause}
+use Rattle.definitions.specs.Calls.{Capacity, kind-checks, block-checks}
 use Rattle.definitions.proofs.Checks.{number-some}
 use Rattle.definitions.proofs.Cutting.{PieceOf, piece-of}
 use Rattle.memory_header.specs.Layout.{Room, Header, header-bytes, with-header}
@@ -21,13 +21,13 @@ use Rattle.index_memory.specs.Log.{AllSmall}
 use Rattle.index_memory.specs.Index.{Index, opened, open-header, read-index}
 use Rattle.index_memory.proofs.Charges.{charge-count}
 use Rattle.index_memory.proofs.Holding.{OpenIs, open-is, room-open}
-use Rattle.judging.specs.Judged.{grown, Verdict, counted, refused, verdict, judged}
+use Rattle.judging.specs.Judged.{grown, Verdict, counted, refused, verdict, judged-checks, judged}
 use Rattle.recording.specs.Record.{logged, appended, Fitting, record-by, record-memory}
 use Rattle.recording.specs.Enter.{Pending, judged-by-kind, unless-turned-back, entered, settled}
 use Rattle.recording.specs.Promises.{EnteredRecords, EnteredPending}
 use Rattle.recording.proofs.Appending.{header-over}
 use Rattle.recording.proofs.Cut.{pieces-length}
-use Rattle.recording.proofs.Taken.{judged-is, read-appended}
+use Rattle.recording.proofs.Taken.{grown-is, checks-are, read-appended}
 use Rattle.recording.proofs.Taken as taken
 
 -- ---- by the tests of the code
@@ -47,26 +47,21 @@ module _ (m : List ℕ) (h : Header) (kind : ℕ) (b : Block) where
     pub kind-memory : kind ≡ 1 → (v : Verdict) → v ≡ judged h (length (b .bytes)) (b .at) → Enters v (unless-turned-back v m (logged m h (pieces b)))
     kind-memory l v e = rw (le-ltb 4 kind k, eq-eqb kind 1 l, ← e) (refl, refl)
 
+same-header : {g h : Header} → counted g ≡ counted h → g ≡ h
+same-header e = cc
+
+not-counted : {n : ℕ} {h : Header} → refused n ≡ counted h → ⊥
+not-counted e = let z : _≡_ {A = ℕ} 0 1 = cc in omega arith
+
 -- no refusal has the number 0
 pub some-number : (h : Header) (kind : ℕ) (b : Block) (n : ℕ) → refused n ≡ judged-by-kind h kind b → n ≡ 0 → ⊥
-some-number h kind b n e z = go (ltb last-kind kind) (eqb kind memory-kind) (first-cause (memory-checks (h .capacity) (with-it .nodes) (with-it .entries) (length (b .bytes)) (b .at))) with-it e
+some-number h kind b n e z = go (first-cause (kind-checks kind (judged-checks h (length (b .bytes)) (b .at)))) (cond (eqb kind memory-kind) (grown h (length (b .bytes))) h) e
   where
-    with-it : Header
-    with-it = grown h (length (b .bytes))
-
-    not-counted : (x : Header) → refused n ≡ counted x → ⊥
-    not-counted x f = let z : _≡_ {A = ℕ} 0 1 = cc in omega arith
-
-    numbered : (k : ℕ) → refused n ≡ refused k → (k ≡ 0 → ⊥) → ⊥
-    numbered k f g =
-        let i : n ≡ k = cc in
-        g (sym i ∙ z)
-
-    go : (o₁ o₂ : Bool) (a : Option Cause) (g : Header) → refused n ≡ cond o₁ (refused 14) (cond o₂ (verdict a g) (counted h)) → ⊥
-    go true o₂ a g f = numbered 14 f (λ y. omega arith)
-    go false true none g f = not-counted g f
-    go false true (some c) g f = numbered (number c) f (number-some c)
-    go false false a g f = not-counted h f
+    go : (a : Option Cause) (g : Header) → refused n ≡ verdict a g → ⊥
+    go none g f = not-counted f
+    go (some c) g f =
+        let i : n ≡ number c = cc in
+        number-some c (sym i ∙ z)
 
 -- ---- under the index rule
 
@@ -111,8 +106,11 @@ module _ (m : List ℕ) (h : Header) (p : Pending m h) where
     abbrev new : Header
     new = open-header c (ps ++ pieces b)
 
-    judged-as : (a : Option Cause) → cause ≡ a → judged h (length (b .bytes)) (b .at) ≡ verdict a new
-    judged-as a q = ap (λ (x : Header). judged x (length (b .bytes)) (b .at)) (p .counts) ∙ judged-is c ps b ∙ ap (λ (x : Option Cause). verdict x new) q
+    checks-same : judged-checks h (length (b .bytes)) (b .at) ≡ block-checks c ps b
+    checks-same = ap (λ (x : Header). judged-checks x (length (b .bytes)) (b .at)) (p .counts) ∙ checks-are c ps b
+
+    grown-same : grown h (length (b .bytes)) ≡ new
+    grown-same = ap (λ (x : Header). grown x (length (b .bytes))) (p .counts) ∙ grown-is c ps b
 
     fits : cause ≡ none → Fitting m h b
     fits q = subst (λ (x : Header). Fitting m x b) (sym (p .counts)) (taken.fitting m c ps b room q)
@@ -124,8 +122,8 @@ module _ (m : List ℕ) (h : Header) (p : Pending m h) where
         go : (a : Option Cause) → cause ≡ a → Fitting m h b
         go none q = fits q
         go (some x) q =
-            let f : counted g ≡ verdict (some x) new = e ∙ judged-as (some x) q in
-            absurd (let z : _≡_ {A = ℕ} 0 1 = cc in omega arith)
+            let f : counted g ≡ verdict (some x) new = e ∙ (λ i. verdict (first-cause (checks-same i)) (grown-same i)) ∙ ap (λ (y : Option Cause). verdict y new) q in
+            absurd (not-counted (sym f))
 
     small : AllSmall (pieces b)
     small x k =
@@ -141,39 +139,49 @@ module _ (m : List ℕ) (h : Header) (p : Pending m h) where
         header-over m h (open-header c ps) new (pieces b) small (omega (arith, f .room, n, pieces-length b))
         ∙ ap (λ (x : Header). with-header (logged m x (pieces b)) new) (sym (p .counts))
 
+    -- by its kind, by the checks on pieces
+    module _ (kind : ℕ) where
+      abbrev by-kind : List Check → Header → Verdict
+      by-kind cs g = verdict (first-cause (kind-checks kind cs)) (cond (eqb kind memory-kind) g h)
+
+      by-pieces : by-kind (block-checks c ps b) new ≡ judged-by-kind h kind b
+      by-pieces = λ i. by-kind (sym checks-same i) (sym grown-same i)
+
+      -- what is written, if the block is taken
+      abbrev written : Bool → List ℕ
+      written o = cond o (logged m h (pieces b)) m
+
+      -- the tests on the kind, and what the checks behind it find
+      abbrev verdict-by : Bool → Bool → Verdict
+      verdict-by o₁ o₂ = verdict (cond o₁ (some unknown-kind) (first-cause (cond o₂ (block-checks c ps b) []))) (cond o₂ new h)
+
+      recorded-by : (o₁ o₂ : Bool) (a : Option Cause) → cause ≡ a
+          → unless-refused (cond o₁ (some unknown-kind) (first-cause (cond o₂ (block-checks c ps b) []))) whole (cond o₂ (appended whole c ps (pieces b)) whole)
+          ≡ settled (verdict-by o₁ o₂) h (unless-turned-back (verdict-by o₁ o₂) m (written o₂))
+      recorded-by true o₂ a q = refl
+      recorded-by false false a q = refl
+      recorded-by false true none q = rw q (ap (λ (x : List ℕ). record { refusal = 0; memory = x }) (over q))
+      recorded-by false true (some x) q = rw q refl
+
+      pending-by : Fits (b .at) → (g : Header) (o₁ o₂ : Bool) (a : Option Cause) → cause ≡ a → verdict-by o₁ o₂ ≡ counted g
+          → Pending (unless-turned-back (verdict-by o₁ o₂) m (written o₂)) g
+      pending-by f g true o₂ a q e = absurd (not-counted e)
+      pending-by f g false false a q e =
+          subst (Pending m) (same-header e) p
+      pending-by f g false true none q e =
+          let i : new ≡ g = same-header (sym (ap (λ (y : Option Cause). verdict y new) q) ∙ e) in
+          let w : Pending (logged m h (pieces b)) new = record { pieces = ps ++ pieces b; counts = refl; holds = ap read-index (sym (over q)) ∙ read-appended whole c ps b (p .holds) q f } in
+          rw q (subst (Pending (logged m h (pieces b))) i w)
+      pending-by f g false true (some x) q e = absurd (not-counted (sym (ap (λ (y : Option Cause). verdict y new) q) ∙ e))
+
 pub entered-records : EnteredRecords
 unfolding record-memory
-entered-records m h kind b p = ap (λ (x : Index). record-by x whole₀ kind b) (p .holds) ∙ go (ltb last-kind kind) (eqb kind memory-kind) (cause m h p b) refl
-  where
-    whole₀ : List ℕ
-    whole₀ = with-header m h
-
-    c₀ : Capacity
-    c₀ = h .capacity
-
-    go : (o₁ o₂ : Bool) (a : Option Cause) → cause m h p b ≡ a
-        → unless-refused (cond o₁ (some unknown-kind) (first-cause (cond o₂ (block-checks c₀ (p .pieces) b) []))) whole₀ (cond o₂ (appended whole₀ c₀ (p .pieces) (pieces b)) whole₀)
-        ≡ settled (cond o₁ (refused 14) (cond o₂ (judged h (length (b .bytes)) (b .at)) (counted h))) h (unless-turned-back (cond o₁ (refused 14) (cond o₂ (judged h (length (b .bytes)) (b .at)) (counted h))) m (cond o₂ (logged m h (pieces b)) m))
-    go true o₂ a q = refl
-    go false false a q = refl
-    go false true none q = rw (q, judged-as m h p b none q) (ap (λ (x : List ℕ). record { refusal = 0; memory = x }) (over m h p b q))
-    go false true (some x) q = rw (q, judged-as m h p b (some x) q) refl
+entered-records m h kind b p =
+    ap (λ (x : Index). record-by x (with-header m h) kind b) (p .holds)
+    ∙ recorded-by m h p b kind (ltb last-kind kind) (eqb kind memory-kind) (cause m h p b) refl
+    ∙ ap (λ (v : Verdict). settled v h (unless-turned-back v m (cond (eqb kind memory-kind) (logged m h (pieces b)) m))) (by-pieces m h p b kind)
 
 pub entered-pending : EnteredPending
-entered-pending m h new₀ kind b p f = go (ltb last-kind kind) (eqb kind memory-kind) (cause m h p b) refl
-  where
-    go : (o₁ o₂ : Bool) (a : Option Cause) → cause m h p b ≡ a
-        → cond o₁ (refused 14) (cond o₂ (judged h (length (b .bytes)) (b .at)) (counted h)) ≡ counted new₀
-        → Pending (unless-turned-back (cond o₁ (refused 14) (cond o₂ (judged h (length (b .bytes)) (b .at)) (counted h))) m (cond o₂ (logged m h (pieces b)) m)) new₀
-    go true o₂ a q e = absurd (let z : _≡_ {A = ℕ} 0 1 = cc in omega arith)
-    go false false a q e =
-        let i : h ≡ new₀ = cc in
-        subst (Pending m) i p
-    go false true none q e =
-        let j = judged-as m h p b none q in
-        let i : new m h p b ≡ new₀ = cc in
-        let w : Pending (logged m h (pieces b)) (new m h p b) = record { pieces = p .pieces ++ pieces b; counts = refl; holds = ap read-index (sym (over m h p b q)) ∙ read-appended (with-header m h) (h .capacity) (p .pieces) b (p .holds) q f } in
-        rw j (subst (Pending (logged m h (pieces b))) i w)
-    go false true (some x) q e =
-        let j = judged-as m h p b (some x) q in
-        absurd (let z : _≡_ {A = ℕ} 0 1 = cc in omega arith)
+entered-pending m h new₀ kind b p f e =
+    subst (λ (v : Verdict). Pending (unless-turned-back v m (cond (eqb kind memory-kind) (logged m h (pieces b)) m)) new₀) (by-pieces m h p b kind)
+    (pending-by m h p b kind f new₀ (ltb last-kind kind) (eqb kind memory-kind) (cause m h p b) refl (by-pieces m h p b kind ∙ e))

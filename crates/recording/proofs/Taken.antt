@@ -3,20 +3,20 @@ use Prim.Native.Nat.{ℕ, _+_}
 use native.Mathlib.Omega.{arith}
 use mathlib.Core.Path.{_≡_, sym, ap, _∙_}
 use mathlib.Core.List.{List, _++_}
-use mathlib.Core.Option.{Option, none}
+use mathlib.Core.Option.{none}
 use lib.ListN.{length, length-append}
 use Rattle.definitions.specs.Blocks.{Block, Piece, pieces, entry-charge, nodes-tallied, entries-tallied}
-use Rattle.definitions.specs.Causes.{Cause, first-cause}
-use Rattle.definitions.specs.Calls.{Capacity, memory-checks, block-checks}
+use Rattle.definitions.specs.Causes.{first-cause}
+use Rattle.definitions.specs.Calls.{Capacity, block-checks}
 use Rattle.definitions.specs.Recording.{Sound}
 use Rattle.definitions.proofs.Cutting.{PieceOf, piece-of}
 use Rattle.definitions.proofs.Tallied.{nodes-with, entries-with}
 use Rattle.definitions.proofs.Checks.{none-applies}
 use Rattle.definitions.proofs.Taken.{passed}
 use Rattle.location.specs.Fits.{Fits}
-use Rattle.memory_header.specs.Layout.{Room, Header}
+use Rattle.memory_header.specs.Layout.{Room}
 use Rattle.index_memory.specs.Index.{open-header}
-use Rattle.judging.specs.Judged.{piece-count, block-nodes, grown, verdict, judged}
+use Rattle.judging.specs.Judged.{piece-count, block-nodes, grown, judged-checks}
 use Rattle.recording.specs.Record.{Fitting}
 use Rattle.recording.specs.Promises.{ReadAppended}
 use Rattle.index_memory.proofs.Charges.{charge-count}
@@ -34,21 +34,17 @@ tally-nodes ps b = nodes-with ps (pieces b) ∙ ap (λ (n : ℕ). nodes-tallied 
 pub tally-entries : (ps : List Piece) (b : Block) → entries-tallied (ps ++ pieces b) ≡ entries-tallied ps + entry-charge (length (b .bytes))
 tally-entries ps b = entries-with ps (pieces b) ∙ ap (λ (n : ℕ). entries-tallied ps + n) (pieces-entries b)
 
--- a block by the header that counts the pieces: the header that counts it too, and its verdict
-grown-is : (c : Capacity) (ps : List Piece) (b : Block) → grown (open-header c ps) (length (b .bytes)) ≡ open-header c (ps ++ pieces b)
+-- a block by the header that counts the pieces: the header that counts it too
+pub grown-is : (c : Capacity) (ps : List Piece) (b : Block) → grown (open-header c ps) (length (b .bytes)) ≡ open-header c (ps ++ pieces b)
 grown-is c ps b =
     let n = sym (tally-nodes ps b) in
     let e = sym (tally-entries ps b) in
     let k : length ps + piece-count (length (b .bytes)) ≡ length (ps ++ pieces b) = omega (arith, length-append ps (pieces b), pieces-length b) in
     λ i. record { capacity = c; phase = 0; nodes = n i; entries = e i; payload = k i }
 
-pub judged-is : (c : Capacity) (ps : List Piece) (b : Block)
-    → judged (open-header c ps) (length (b .bytes)) (b .at) ≡ verdict (first-cause (block-checks c ps b)) (open-header c (ps ++ pieces b))
-judged-is c ps b =
-    let h : Header = open-header c ps in
-    let g : Header = grown h (length (b .bytes)) in
-    let cause : Option Cause = first-cause (memory-checks c (g .nodes) (g .entries) (length (b .bytes)) (b .at)) in
-    ap (verdict cause) (grown-is c ps b) ∙ rw (tally-nodes ps b, tally-entries ps b)
+-- and its checks
+pub checks-are : (c : Capacity) (ps : List Piece) (b : Block) → judged-checks (open-header c ps) (length (b .bytes)) (b .at) ≡ block-checks c ps b
+checks-are c ps b = rw (tally-nodes ps b, tally-entries ps b)
 
 -- a block that no check turned back fits, whatever header is written
 pub fitting : (m : List ℕ) (c : Capacity) (ps : List Piece) (b : Block) → Room m c → first-cause (block-checks c ps b) ≡ none → Fitting m (open-header c ps) b

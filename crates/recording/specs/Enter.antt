@@ -4,14 +4,15 @@ use mathlib.Core.Path.{_≡_}
 use mathlib.Core.Bool.{cond}
 use mathlib.Core.List.{List}
 use lib.ListN.{length}
-use lib.Dec.{ltb, eqb}
-use Rattle.definitions.specs.Blocks.{Block, Piece, memory-kind, last-kind}
+use lib.Dec.{eqb}
+use Rattle.definitions.specs.Blocks.{Block, Piece, memory-kind}
 use Rattle.definitions.specs.Blocks as B
-use Rattle.definitions.specs.Causes.{number, unknown-kind}
+use Rattle.definitions.specs.Causes.{first-cause}
+use Rattle.definitions.specs.Calls.{kind-checks}
 use Rattle.memory_header.specs.Layout.{Header, with-header}
 use Rattle.memory_header.specs.Opening.{Done}
 use Rattle.index_memory.specs.Index.{opened, open-header, read-index}
-use Rattle.judging.specs.Judged.{Verdict, counted, refused, judged}
+use Rattle.judging.specs.Judged.{grown, Verdict, counted, refused, verdict, judged-checks}
 use Rattle.recording.specs.Record.{logged}
 
 -- with this header, which counts its pieces, the memory is an open index
@@ -20,11 +21,11 @@ pub record Pending (m : List ℕ) (h : Header) : Type 0 where
   pub counts : h ≡ open-header (h .capacity) pieces
   pub holds : read-index (with-header m h) ≡ opened (h .capacity) pieces
 
--- a block by its kind: one of kind 0, 2, 3 or 4 is taken, and the header stays
+-- a block by its kind and, if that is Memory, by the header's value; one of kind 0, 2, 3 or 4 is taken, and the header stays
 abbrev pub judged-by-kind : Header → ℕ → Block → Verdict
 judged-by-kind h kind b =
-    cond (ltb last-kind kind) (refused (number unknown-kind))
-    (cond (eqb kind memory-kind) (judged h (length (b .bytes)) (b .at)) (counted h))
+    verdict (first-cause (kind-checks kind (judged-checks h (length (b .bytes)) (b .at))))
+    (cond (eqb kind memory-kind) (grown h (length (b .bytes))) h)
 
 -- a refused block changes nothing
 abbrev pub unless-turned-back : Verdict → List ℕ → List ℕ → List ℕ
