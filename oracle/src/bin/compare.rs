@@ -592,7 +592,6 @@ impl Run<'_> {
         let told = self.model.record_stream(stream);
         same("the number and the blocks taken", told, self.port.record_stream(stream)?).map_err(in_stream(stream))?;
         self.count_stream("streams recorded", told);
-        self.counts.add("streams recorded that have 100 blocks taken or more", (told.1 >= 100) as u64);
         self.same_memory_now_and_then("memory afterwards").map_err(in_stream(stream))?;
         Ok((told.0, told.1 as usize))
     }
@@ -602,6 +601,24 @@ impl Run<'_> {
         self.counts.one(&format!("{what}, answered {number}"));
         self.counts.add(&format!("{what}: blocks taken"), taken);
         self.counts.add(&format!("{what} that stopped behind blocks taken"), (number != 0 && taken > 0) as u64);
+    }
+
+    /// All blocks that were taken, as one stream into the memory opened anew: it is then what it was before the finish, and finished
+    /// what it is now.
+    fn as_one_stream(&mut self) -> Compared {
+        let Some(open) = self.open.clone() else { return Ok(()) };
+        let stream = encoded(&self.taken.iter().collect::<Vec<_>>());
+        let count = self.taken.len() as u64;
+        let number = |at: usize| u64::from_le_bytes(open.bytes[at..at + 8].try_into().unwrap());
+        let mem = self.port.mem.set(&open.bytes);
+        same("opening anew", 0, linked::open(mem, number(0), number(8)))?;
+        same("all blocks as one stream", (0, count), self.port.record_stream(&stream)?)?;
+        same_bytes("memory after all blocks as one stream", &open.bytes, self.port.mem.bytes())?;
+        same("finish after one stream", 0, self.port.finish()?)?;
+        self.counts.one("recordings, their blocks as one stream");
+        self.counts.add("recordings, their 100 blocks or more as one stream", (count >= 100) as u64);
+        self.counts.add("recordings, their 1,000 blocks or more as one stream", (count >= 1000) as u64);
+        self.same_memory("memory after one stream and finish")
     }
 
     /// Records a stream into a memory, the port's being set to it.
@@ -906,6 +923,7 @@ fn compare(rec: &Recording, seed: u64, port: &mut Port, counts: &mut Counts, eve
     if run.finished.is_some() && run.model.bytes.len() < LARGE {
         same("what the memory holds, read back", &run.model.held, &model::held(Level::LANDED, &run.model.bytes))?;
     }
+    run.as_one_stream()?;
     run.images()?;
     let times = if run.is_large() { 2 } else { 8 };
     run.damaged_images(times)?;
