@@ -5,11 +5,13 @@
  * The buffers of one call must not overlap. A buffer of length 0 is neither read nor written.
  *
  * Every call but helmapricot_open and helmapricot_read_block first tests that the lent memory holds an index, and answers 1
- * if not. That costs a pass over what it holds. It is no checksum: a change that leaves an index, such as another data byte
- * in an open one, is that other index. But no content of the memory, the image or the stream makes a call go astray.
+ * if not. That costs a pass over what it holds; helmapricot_record_stream makes one for all blocks of its stream. The test is
+ * no checksum: a change that leaves an index, such as another data byte in an open one, is that other index. But no content of
+ * the memory, the image or the stream makes a call go astray.
  *
  * Every call answers HELMAPRICOT_DONE (0) or the number of a refusal. A refused call changes nothing that it was handed, the
- * count, the size and the fields among it. The one exception is scratch after refusals 10 and 11.
+ * count, the size and the fields among it. There are two exceptions: scratch after refusals 10 and 11, and a stream that is
+ * stopped: the blocks before the refusal are kept. How many were taken is written for every stream, refused or not.
  */
 #ifndef HELMAPRICOT_H
 #define HELMAPRICOT_H
@@ -113,6 +115,13 @@ uint64_t helmapricot_open(uint8_t *mem, size_t mem_len, uint64_t nodes, uint64_t
  * Answers 0, or 1, 2, 14, 4, 5, 6, 7, 8: the first of these that applies. */
 uint64_t helmapricot_record(uint8_t *mem, size_t mem_len, uint64_t kind, uint64_t address, uint64_t created_at,
                             uint64_t destroyed_at, const uint8_t *data, size_t data_len);
+
+/* Records the blocks of a stream, which stand as helmapricot_read_block reads them. It equals recording them one by one, but
+ * mem is tested once. It stops at the first refusal and keeps the blocks before it. *taken is how many were taken, of
+ * whatever kind; it is written always, and is 0 for refusals 1 and 2.
+ * Answers 0 where all were taken, or 1, 2, even for an empty stream, then for each block 13, 14 as reading it does and 4, 5, 6,
+ * 7, 8 as recording it does. */
+uint64_t helmapricot_record_stream(uint8_t *mem, size_t mem_len, const uint8_t *stream, size_t stream_len, uint64_t *taken);
 
 /* Ends the recording: mem then holds the image of the index, and zeros up to what the capacity needs. Finishing again
  * changes nothing.

@@ -13,6 +13,7 @@ pub struct Row {
 extern "C" {
     fn helmapricot_open(mem: *mut u8, len: usize, nodes: u64, entries: u64) -> u64;
     fn helmapricot_record(mem: *mut u8, len: usize, kind: u64, address: u64, created_at: u64, destroyed_at: u64, data: *const u8, data_len: usize) -> u64;
+    fn helmapricot_record_stream(mem: *mut u8, len: usize, stream: *const u8, stream_len: usize, taken: *mut u64) -> u64;
     fn helmapricot_finish(mem: *mut u8, len: usize) -> u64;
     fn helmapricot_search(mem: *const u8, len: usize, q: *const u8, q_len: usize, scratch: *mut u8, scratch_len: usize, rows: *mut Row, rows_len: usize, count: *mut u64) -> u64;
     fn helmapricot_save(mem: *const u8, len: usize, out: *mut u8, out_len: usize, size: *mut u64) -> u64;
@@ -47,6 +48,13 @@ pub fn save(mem: &[u8], out: &mut [u8]) -> (u64, u64) {
     let mut size = UNWRITTEN;
     let n = unsafe { helmapricot_save(mem.as_ptr(), mem.len(), out.as_mut_ptr(), out.len(), &mut size) };
     (n, size)
+}
+
+/// The number of the refusal, 0 for none, and how many blocks were taken, which is written always.
+pub fn record_stream(mem: &mut [u8], stream: &[u8]) -> (u64, u64) {
+    let mut taken = UNWRITTEN;
+    let n = unsafe { helmapricot_record_stream(mem.as_mut_ptr(), mem.len(), stream.as_ptr(), stream.len(), &mut taken) };
+    (n, taken)
 }
 
 pub fn load(mem: &mut [u8], image: &[u8]) -> u64 {

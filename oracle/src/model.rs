@@ -575,6 +575,32 @@ impl Memory {
         refusal
     }
 
+    /// Request 1: 1 and 2 first, then each block is read and recorded, up to the first refusal. Its number, 0 for none, and how many
+    /// blocks were taken.
+    pub fn record_stream(&mut self, s: &[u8]) -> (u64, u64) {
+        assert!(self.level.has(1), "there is no such call");
+        match self.held {
+            Held::Broken => return (1, 0),
+            Held::Finished(_) => return (2, 0),
+            Held::Open(_) => {}
+        }
+        let (mut at, mut taken) = (0, 0);
+        loop {
+            let number = match read_block(s, at) {
+                Err(number) => number,
+                Ok(None) => return (0, taken),
+                Ok(Some((b, next))) => {
+                    at = next;
+                    self.record(&b)
+                }
+            };
+            if number != 0 {
+                return (number, taken);
+            }
+            taken += 1;
+        }
+    }
+
     /// Header, image, and zeros up to what the capacity needs; bytes behind that stay.
     fn close(&mut self, root: Option<Node>) {
         let image = image(root.as_ref());

@@ -50,6 +50,16 @@ impl Block {
         self.bytes.chunks(16).enumerate().map(|(i, c)| Piece { at: self.at.moved(16 * i), bytes: c.to_vec() }).rev().collect()
     }
 
+    /// As it stands in a stream: kind, address, length, ticks, data. A kind over 255 has no byte there.
+    pub fn encoded(&self) -> Vec<u8> {
+        let mut bytes = vec![u8::try_from(self.kind).unwrap()];
+        for n in [self.at.address, self.bytes.len() as u64, self.at.created, self.at.destroyed] {
+            bytes.extend(n.to_le_bytes());
+        }
+        bytes.extend(&self.bytes);
+        bytes
+    }
+
     pub fn nodes_charged(&self) -> u64 {
         self.pieces().iter().map(|p| p.bytes.len() as u64).map(|m| m * (m + 1) / 2).sum()
     }

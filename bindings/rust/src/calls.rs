@@ -4,6 +4,7 @@ use crate::Row;
 extern "C" {
     pub fn helmapricot_open(mem: *mut u8, mem_len: usize, nodes: u64, entries: u64) -> u64;
     pub fn helmapricot_record(mem: *mut u8, mem_len: usize, kind: u64, address: u64, created_at: u64, destroyed_at: u64, data: *const u8, data_len: usize) -> u64;
+    pub fn helmapricot_record_stream(mem: *mut u8, mem_len: usize, stream: *const u8, stream_len: usize, taken: *mut u64) -> u64;
     pub fn helmapricot_finish(mem: *mut u8, mem_len: usize) -> u64;
     pub fn helmapricot_search(mem: *const u8, mem_len: usize, query: *const u8, query_len: usize, scratch: *mut u8, scratch_len: usize, rows: *mut Row, rows_len: usize, count: *mut u64) -> u64;
     pub fn helmapricot_save(mem: *const u8, mem_len: usize, out: *mut u8, out_len: usize, size: *mut u64) -> u64;
@@ -13,7 +14,7 @@ extern "C" {
 
 #[cfg(test)]
 mod tests {
-    //! A refused call leaves the count, the size and the fields as they were.
+    //! A refused call leaves the count, the size and the fields as they were; how many blocks were taken is written always.
     use super::*;
     use crate::{Index, Kind, Refusal};
 
@@ -23,6 +24,12 @@ mod tests {
         let (mut scratch, mut rows, mut count) = (vec![0; 24 * places], vec![Row::default(); rows], BEFORE);
         let number = unsafe { helmapricot_search(memory.as_ptr(), memory.len(), query.as_ptr(), query.len(), scratch.as_mut_ptr(), scratch.len(), rows.as_mut_ptr(), rows.len(), &mut count) };
         (number, count)
+    }
+
+    fn record_stream(memory: &mut [u8], stream: &[u8]) -> (u64, u64) {
+        let mut taken = BEFORE;
+        let number = unsafe { helmapricot_record_stream(memory.as_mut_ptr(), memory.len(), stream.as_ptr(), stream.len(), &mut taken) };
+        (number, taken)
     }
 
     fn save(memory: &[u8], room: usize) -> (u64, u64) {
@@ -58,11 +65,35 @@ mod tests {
         Ok(())
     }
 
-    #[test]
-    fn fields() {
+    /// The one block ab at 5, from tick 10 to 50.
+    fn stream() -> Vec<u8> {
         let mut stream = vec![1];
         [5, 2, 10, 50].iter().for_each(|n: &u64| stream.extend(n.to_le_bytes()));
         stream.extend(b"ab");
+        stream
+    }
+
+    #[test]
+    fn taken() -> Result<(), Refusal> {
+        let one = stream();
+        let mut memory = Index::new(10, 10)?.into_memory();
+        assert_eq!(record_stream(&mut memory, &[]), (0, 0));
+        assert_eq!(record_stream(&mut memory, &one), (0, 1));
+        assert_eq!(record_stream(&mut memory, &[&one[..], &[5]].concat()), (14, 1));
+        assert_eq!(record_stream(&mut memory, &one), (8, 0));
+        let mut index = Index::held_in(memory);
+        index.finish()?;
+        let mut memory = index.into_memory();
+        assert_eq!(record_stream(&mut memory, &[]), (2, 0));
+        assert_eq!(record_stream(&mut memory, &one), (2, 0));
+        assert_eq!(record_stream(&mut [0; 100], &[]), (1, 0));
+        assert_eq!(record_stream(&mut [0; 100], &one), (1, 0));
+        Ok(())
+    }
+
+    #[test]
+    fn fields() {
+        let mut stream = stream();
         assert_eq!(read_block(&stream, 0), (0, [1, 1, 5, 2, 10, 50, 35]));
         assert_eq!(read_block(&stream, 35), (0, [0, BEFORE, BEFORE, BEFORE, BEFORE, BEFORE, BEFORE]));
         assert_eq!(read_block(&stream, 36), (13, [BEFORE; 7]));

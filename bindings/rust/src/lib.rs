@@ -22,7 +22,7 @@ mod calls;
 mod refusal;
 mod stream;
 
-pub use refusal::Refusal;
+pub use refusal::{Refusal, Stopped};
 pub use stream::{blocks, read_block, Block, Blocks};
 
 use refusal::answer;
@@ -115,6 +115,16 @@ impl<M: AsRef<[u8]> + AsMut<[u8]>> Index<M> {
     /// Records a block of a stream.
     pub fn record_block(&mut self, block: &Block<'_>) -> Result<(), Refusal> {
         self.record(block.kind, block.address, block.created_at, block.destroyed_at, block.data)
+    }
+
+    /// Records the blocks of a stream and says how many they are. It equals recording them one by one, but the memory is tested
+    /// once. It stops at the first refusal and keeps the blocks before it; 1 and 2 come first, even for an empty stream.
+    pub fn record_stream(&mut self, stream: &[u8]) -> Result<u64, Stopped> {
+        let m = self.memory.as_mut();
+        let mut taken = 0;
+        let number = unsafe { calls::helmapricot_record_stream(m.as_mut_ptr(), m.len(), stream.as_ptr(), stream.len(), &mut taken) };
+        answer(number).map_err(|refusal| Stopped { taken, refusal })?;
+        Ok(taken)
     }
 
     /// Ends the recording. Finishing again changes nothing.

@@ -62,6 +62,21 @@ impl fmt::Display for Refusal {
 
 impl std::error::Error for Refusal {}
 
+/// A stream that a refusal stopped. The blocks before it were taken, so many of them, and stay recorded.
+#[derive(Clone, Copy, Debug, PartialEq, Eq, PartialOrd, Ord, Hash)]
+pub struct Stopped {
+    pub taken: u64,
+    pub refusal: Refusal,
+}
+
+impl fmt::Display for Stopped {
+    fn fmt(&self, f: &mut fmt::Formatter<'_>) -> fmt::Result {
+        write!(f, "stopped after {} blocks, {}", self.taken, self.refusal)
+    }
+}
+
+impl std::error::Error for Stopped {}
+
 /// The calls promise that every answer is 0 or one of these numbers.
 pub(crate) fn answer(number: u64) -> Result<(), Refusal> {
     match number {

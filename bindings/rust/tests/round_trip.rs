@@ -1,5 +1,7 @@
 //! Saving and loading, borrowed memory, and streams.
+mod block_bytes;
 mod random;
+use block_bytes::block_bytes;
 use helmapricot::{blocks, read_block, Index, Kind, Refusal, Row};
 use random::Random;
 
@@ -112,13 +114,6 @@ fn rows_in_memory() -> Done {
     let expected: Vec<u8> = numbers.into_iter().chain([u64::MAX; 6]).flat_map(u64::to_le_bytes).collect();
     assert_eq!(bytes[..], expected);
     Ok(())
-}
-
-fn block_bytes(kind: u8, numbers: [u64; 4], data: &[u8]) -> Vec<u8> {
-    let mut bytes = vec![kind];
-    numbers.iter().for_each(|n| bytes.extend(n.to_le_bytes()));
-    bytes.extend(data);
-    bytes
 }
 
 #[test]

@@ -4,7 +4,7 @@
 //!     cd oracle && cargo run --release --offline --features parts --bin bench
 use dataflow::prelude::SpaceKind;
 use oracle::index::string_index::StringIndex;
-use oracle::index::{Index, SpacetimeBlock};
+use oracle::index::{Index, Serializable, SpacetimeBlock};
 use oracle::linked;
 use oracle::bench_parts;
 use oracle::sink::Sink;
@@ -91,6 +91,42 @@ fn finished(mem: &mut [u8], blocks: &[SpacetimeBlock]) -> (f64, f64) {
     (record, t.elapsed().as_secs_f64() * 1e6)
 }
 
+/// Records all blocks as one stream in a lent memory: the time of the call, in microseconds.
+fn stream_call(mem: &mut [u8], blocks: &[SpacetimeBlock]) -> f64 {
+    let (nodes, entries) = charges(blocks);
+    let mut stream = Vec::new();
+    blocks.iter().for_each(|b| b.serialize_to(&mut stream));
+    assert_eq!(linked::open(mem, nodes, entries), 0);
+    let t = Instant::now();
+    let answer = linked::record_stream(mem, &stream);
+    let taken = t.elapsed().as_secs_f64() * 1e6;
+    assert_eq!(answer, (0, blocks.len() as u64));
+    taken
+}
+
+/// The same, and finishes.
+fn streamed(mem: &mut [u8], blocks: &[SpacetimeBlock]) -> (f64, f64) {
+    let record = stream_call(mem, blocks);
+    let t = Instant::now();
+    assert_eq!(linked::finish(mem), 0);
+    (record, t.elapsed().as_secs_f64() * 1e6)
+}
+
+/// The shortest of five, both times together.
+fn best<F: FnMut() -> (f64, f64)>(mut f: F) -> (f64, f64) {
+    (0..5).map(|_| f()).min_by(|a, b| (a.0 + a.1).total_cmp(&(b.0 + b.1))).unwrap()
+}
+
+/// Streams of more and more blocks, the best of five: the time of the call is to grow as they do.
+fn longer_streams(mem: &mut [u8]) {
+    println!("{:24} {:>12} {:>12}", "a stream, microseconds", "the call", "a block");
+    for n in [1000, 4000, 16_000] {
+        let made = blocks(n, 8, 8);
+        let call = (0..5).map(|_| stream_call(mem, &made)).min_by(f64::total_cmp).unwrap();
+        println!("{:24} {call:12.0} {:12.3}", format!("{n} blocks of 8 bytes"), call / n as f64);
+    }
+}
+
 fn image_of(mem: &[u8]) -> &[u8] {
     let n = u64::from_le_bytes(mem[40..48].try_into().unwrap()) as usize;
     &mem[64..64 + n]
@@ -112,9 +148,12 @@ fn main() {
 
     let made = blocks(3000, 16, 64);
     let n = made.len() as f64;
-    let (record, finish) = (0..5).map(|_| finished(&mut mem, &made)).min_by(|a, b| (a.0 + a.1).total_cmp(&(b.0 + b.1))).unwrap();
+    let (record, finish) = best(|| finished(&mut mem, &made));
+    let by_records = image_of(&mem).to_vec();
+    let (stream, stream_finish) = best(|| streamed(&mut mem, &made));
+    assert!(image_of(&mem) == by_records, "a stream leaves another image than records");
     println!("charged: {:?}", charges(&made));
-    let mut best = (f64::MAX, f64::MAX);
+    let mut rust = (f64::MAX, f64::MAX);
     let mut index = StringIndex::new(Sink::default());
     for _ in 0..5 {
         index = StringIndex::new(Sink::default());
@@ -127,15 +166,18 @@ fn main() {
         let t = Instant::now();
         index.finalize();
         let rust_finish = t.elapsed().as_secs_f64() * 1e6;
-        if rust_record + rust_finish < best.0 + best.1 {
-            best = (rust_record, rust_finish);
+        if rust_record + rust_finish < rust.0 + rust.1 {
+            rust = (rust_record, rust_finish);
         }
     }
     println!("3,000 blocks of 16 to 64 bytes, the best of five, in microseconds");
     println!("{:24} {:>12} {:>12}", "", "port", "published");
-    println!("{:24} {:12.2} {:12.2}", "record, a block", record / n, best.0 / n);
-    println!("{:24} {:12.0} {:12.0}", "finish", finish, best.1);
-    println!("{:24} {:12.0} {:12.0}   ({:.2} times as fast)", "record and finish", record + finish, best.0 + best.1, (best.0 + best.1) / (record + finish));
+    println!("{:24} {:12.2} {:12.2}", "record, a block", record / n, rust.0 / n);
+    println!("{:24} {:12.0} {:12.0}", "finish", finish, rust.1);
+    let both = |what: &str, port: f64| println!("{what:24} {port:12.0} {:12.0}   ({:.2} times as fast)", rust.0 + rust.1, (rust.0 + rust.1) / port);
+    both("record and finish", record + finish);
+    println!("{:24} {:12.0} {:12.0}   ({:.2} times as fast)", "all as one stream", stream, rust.0, rust.0 / stream);
+    both("one stream and finish", stream + stream_finish);
 
     let image = image_of(&mem);
     test_of_image("3,000 blocks", image);
@@ -160,4 +202,5 @@ fn main() {
         let theirs: usize = queries.iter().map(|q| index.search(q).len()).sum();
         println!("{:24} {:12.1} {:12.2} {:12.2}   {ours} {theirs}", format!("{len} bytes"), whole, proper, rust);
     }
+    longer_streams(&mut mem);
 }

@@ -1,5 +1,5 @@
 //! Compares the port's calls with the published index, with document 01 done slowly (src/model.rs), and with longest runs
-//! counted tick by tick, on recordings made from a seed.
+//! counted tick by tick, on recordings made from a seed. Half of them are recorded block by block, half by streams.
 //!
 //!     rt staticlib helmapricot && cd oracle && cargo run --release --offline --features calls --bin compare -- SEED COUNT
 //!
@@ -87,6 +87,15 @@ impl Port {
         same_bytes("a record's data afterwards", &b.bytes, self.input.bytes())?;
         self.fences()?;
         Ok(n)
+    }
+
+    /// The number, and how many blocks were taken.
+    fn record_stream(&mut self, stream: &[u8]) -> Result<(u64, u64), String> {
+        self.input.set(stream);
+        let answer = linked::record_stream(self.mem.bytes(), self.input.bytes());
+        same_bytes("a recorded stream afterwards", stream, self.input.bytes())?;
+        self.fences()?;
+        Ok(answer)
     }
 
     fn finish(&mut self) -> Result<u64, String> {
@@ -209,16 +218,23 @@ impl Run<'_> {
         let number = self.model.record(b);
         same("record", number, self.port.record(b)?)?;
         self.counts.one(&format!("records answered {number}"));
-        if number == 0 && b.kind == 1 {
+        if number == 0 {
+            self.note_taken(b);
+        }
+        self.same_memory_now_and_then("memory after record")
+    }
+
+    fn note_taken(&mut self, b: &Block) {
+        if b.kind == 1 {
             self.taken.push(b.clone());
             if b.bytes.len() == 4096 {
                 self.counts.one("blocks of 4,096 bytes taken");
             }
         }
-        if !self.is_large() || self.calls % 500 == 0 {
-            self.same_memory("memory after record")?;
-        }
-        Ok(())
+    }
+
+    fn same_memory_now_and_then(&mut self, what: &str) -> Compared {
+        if !self.is_large() || self.calls % 500 == 0 { self.same_memory(what) } else { Ok(()) }
     }
 
     fn finish(&mut self) -> Compared {
@@ -329,6 +345,21 @@ impl Run<'_> {
                 (Ok(e), Ok(g)) => same_bytes("the saved image", e, g)?,
                 _ => same("save", expected.map(|i| i.len()), got.map(|i| i.len()))?,
             }
+        }
+        Ok(())
+    }
+
+    /// All calls of a recording; by streams, records that follow one another are put together.
+    fn all_calls(&mut self, calls: &[Call], by_streams: bool) -> Compared {
+        let mut rest = calls;
+        while let Some(c) = rest.first() {
+            let blocks = if by_streams { leading_blocks(rest) } else { Vec::new() };
+            if blocks.is_empty() {
+                self.call(c)?;
+            } else {
+                self.record_by_streams(&blocks)?;
+            }
+            rest = &rest[blocks.len().max(1)..];
         }
         Ok(())
     }
@@ -498,6 +529,13 @@ impl Run<'_> {
 
         self.port.mem.set(&bad.bytes);
         let mut m = bad.clone();
+        let mut stream = encoded(&[&block, &block]);
+        stream.truncate(self.r.pick(&[stream.len(), stream.len(), stream.len() - 1, 0]));
+        same("a stream on a damaged memory", m.record_stream(&stream), self.port.record_stream(&stream)?)?;
+        same_bytes("a damaged memory after a stream", &m.bytes, self.port.mem.bytes())?;
+
+        self.port.mem.set(&bad.bytes);
+        let mut m = bad.clone();
         same("finish on a damaged memory", m.finish(), self.port.finish()?)?;
         same_bytes("a damaged memory after finish", &m.bytes, self.port.mem.bytes())?;
 
@@ -516,16 +554,144 @@ impl Run<'_> {
         let mut m = bad.clone();
         same("load on a damaged memory", m.load(image), self.port.load(image)?)?;
         same_bytes("a damaged memory after load", &m.bytes, self.port.mem.bytes())?;
-        self.counts.add("calls on damaged memories", 5);
+        self.counts.add("calls on damaged memories", 6);
         Ok(())
     }
 
-    // ── streams ──
+    // ── blocks recorded by streams ──
+
+    /// Blocks that follow one another. A refused block is passed over and the next stream begins behind it, so that the same
+    /// blocks are taken as by single records; a few are recorded singly between.
+    fn record_by_streams(&mut self, blocks: &[&Block]) -> Compared {
+        let mut rest = blocks;
+        while !rest.is_empty() {
+            self.calls += 1;
+            if self.r.once_in(8) {
+                self.record(rest[0])?;
+                rest = &rest[1..];
+                continue;
+            }
+            let n = if self.r.once_in(2) { rest.len() } else { self.r.between(1, rest.len() as u64) as usize };
+            let mut stream = encoded(&rest[..n]);
+            if self.r.once_in(4) {
+                stream.extend(faulty(rest[n - 1], &mut self.r));
+            }
+            let (number, taken) = self.record_stream(&stream)?;
+            rest[..taken].iter().for_each(|b| self.note_taken(b));
+            rest = &rest[n.min(taken + (number != 0) as usize)..];
+        }
+        if self.r.once_in(4) {
+            self.counts.one("streams recorded that are empty");
+            self.record_stream(&[])?;
+        }
+        Ok(())
+    }
+
+    /// The number, and how many blocks were taken.
+    fn record_stream(&mut self, stream: &[u8]) -> Result<(u64, usize), String> {
+        let told = self.model.record_stream(stream);
+        same("the number and the blocks taken", told, self.port.record_stream(stream)?).map_err(in_stream(stream))?;
+        self.count_stream("streams recorded", told);
+        self.same_memory_now_and_then("memory afterwards").map_err(in_stream(stream))?;
+        Ok((told.0, told.1 as usize))
+    }
+
+    fn count_stream(&mut self, what: &str, (number, taken): (u64, u64)) {
+        self.counts.one(what);
+        self.counts.one(&format!("{what}, answered {number}"));
+        self.counts.add(&format!("{what}: blocks taken"), taken);
+        self.counts.add(&format!("{what} that stopped behind blocks taken"), (number != 0 && taken > 0) as u64);
+    }
+
+    /// All blocks that were taken, as one stream into the memory opened anew: it is then what it was before the finish, and finished
+    /// what it is now.
+    fn as_one_stream(&mut self) -> Compared {
+        let Some(open) = self.open.clone() else { return Ok(()) };
+        let stream = encoded(&self.taken.iter().collect::<Vec<_>>());
+        let count = self.taken.len() as u64;
+        let number = |at: usize| u64::from_le_bytes(open.bytes[at..at + 8].try_into().unwrap());
+        let mem = self.port.mem.set(&open.bytes);
+        same("opening anew", 0, linked::open(mem, number(0), number(8)))?;
+        same("all blocks as one stream", (0, count), self.port.record_stream(&stream)?)?;
+        same_bytes("memory after all blocks as one stream", &open.bytes, self.port.mem.bytes())?;
+        same("finish after one stream", 0, self.port.finish()?)?;
+        self.counts.one("recordings, their blocks as one stream");
+        self.counts.add("recordings, their 100 blocks or more as one stream", (count >= 100) as u64);
+        self.counts.add("recordings, their 1,000 blocks or more as one stream", (count >= 1000) as u64);
+        self.same_memory("memory after one stream and finish")
+    }
+
+    /// Records a stream into a memory, the port's being set to it.
+    fn record_stream_into(&mut self, what: &str, mut into: Memory, stream: &[u8]) -> Compared {
+        self.port.mem.set(&into.bytes);
+        let told = into.record_stream(stream);
+        same("the number and the blocks taken", told, self.port.record_stream(stream)?).map_err(in_stream(stream))?;
+        same_bytes("memory afterwards", &into.bytes, self.port.mem.bytes()).map_err(in_stream(stream))?;
+        self.count_stream(what, told);
+        Ok(())
+    }
+
+    /// Streams, damaged mostly, each into a copy of a memory.
+    fn damaged_streams(&mut self, calls: &[Call], times: usize) -> Compared {
+        let blocks: Vec<&Block> = known_blocks(calls).take(12).collect();
+        let whole = encoded(&blocks);
+        for _ in 0..times {
+            let into = self.memory_for(&blocks);
+            match self.r.below(8) {
+                0 => self.record_stream_into("empty streams", into, &[])?,
+                1 => self.record_stream_into("whole streams", into, &whole)?,
+                _ => {
+                    let bad = damaged(&whole, &mut self.r);
+                    self.record_stream_into("damaged streams", into, &bad)?;
+                }
+            }
+        }
+        Ok(())
+    }
+
+    /// One with about as much room as these blocks need, mostly; or the recording's own, as it is, as it was open, or damaged.
+    fn memory_for(&mut self, blocks: &[&Block]) -> Memory {
+        let open = self.open.as_ref().unwrap_or(&self.model);
+        match self.r.below(12) {
+            0 => self.model.clone(),
+            1 => open.clone(),
+            2 => Memory::of(Level::LANDED, &damaged_memory(&self.model.bytes, &mut self.r)),
+            3 => Memory::of(Level::LANDED, &damaged_memory(&open.bytes, &mut self.r)),
+            _ => opened_for(blocks, &mut self.r),
+        }
+    }
+
+    /// Every bit of a small recording's stream flipped, every cut, and for short ones every cut of every changed byte, where two
+    /// faults stand side by side.
+    fn every_stream(&mut self, calls: &[Call], nodes: u64, entries: u64) -> Compared {
+        let blocks: Vec<&Block> = known_blocks(calls).collect();
+        let stream = encoded(&blocks);
+        let mut fresh = self.model.clone();
+        same("opening anew", 0, fresh.open(nodes, entries))?;
+        for bit in 0..8 * stream.len() {
+            let mut bad = stream.clone();
+            bad[bit / 8] ^= 1 << (bit % 8);
+            self.record_stream_into("bit flips of small streams", fresh.clone(), &bad)?;
+        }
+        for cut in 0..=stream.len() {
+            self.record_stream_into("cuts of small streams", fresh.clone(), &stream[..cut])?;
+        }
+        for (at, cut) in (0..stream.len()).flat_map(|at| (at..stream.len()).map(move |cut| (at, cut))).filter(|_| stream.len() < 130) {
+            for value in [stream[at] ^ 1, stream[at] ^ 128, 0, 2, 4, 5, 255] {
+                let mut bad = stream[..cut + 1].to_vec();
+                bad[at] = value;
+                self.record_stream_into("cuts of small streams with a changed byte", fresh.clone(), &bad)?;
+            }
+        }
+        Ok(())
+    }
+
+    // ── streams read ──
 
     fn streams(&mut self, calls: &[Call]) -> Compared {
-        let known = calls.iter().filter_map(|c| if let Call::Record(b) = c { Some(b) } else { None }).filter(|b| b.kind <= 4);
-        let blocks: Vec<Block> = known.take(6).cloned().collect();
+        let blocks: Vec<Block> = known_blocks(calls).take(6).cloned().collect();
         let stream = published::stream(&blocks);
+        same_bytes("the Rust's stream, ours", &stream, &encoded(&blocks.iter().collect::<Vec<_>>()))?;
         let mut at = 0;
         for b in &blocks {
             let expected = published::read_block(&stream, at);
@@ -565,6 +731,53 @@ impl Run<'_> {
         self.counts.one(&format!("blocks of streams read, answered {number}"));
         same(&format!("the block at {at} of ({})", hex(stream)), (number, expected), (got, fields))
     }
+}
+
+/// The blocks that a list of calls begins with, as far as a stream can have them.
+fn leading_blocks(calls: &[Call]) -> Vec<&Block> {
+    calls.iter().map_while(|c| if let Call::Record(b) = c { Some(b) } else { None }).take_while(|b| b.kind <= 255).collect()
+}
+
+/// The blocks of all records whose kind is known.
+fn known_blocks(calls: &[Call]) -> impl Iterator<Item = &Block> {
+    calls.iter().filter_map(|c| if let Call::Record(b) = c { Some(b) } else { None }).filter(|b| b.kind <= 4)
+}
+
+fn encoded(blocks: &[&Block]) -> Vec<u8> {
+    blocks.iter().flat_map(|b| b.encoded()).collect()
+}
+
+/// A block with which a stream cannot go on: cut, of an unknown kind, both, or longer than what is left.
+fn faulty(b: &Block, r: &mut Random) -> Vec<u8> {
+    let mut s = b.encoded();
+    let fault = r.below(4);
+    if fault == 0 || fault == 2 {
+        s.truncate(r.between(1, s.len() as u64 - 1) as usize);
+    }
+    if fault == 1 || fault == 2 {
+        s[0] = r.pick(&[5, 6, 128, 255]);
+    }
+    if fault == 3 {
+        let n = b.bytes.len() as u64;
+        s[9..17].copy_from_slice(&r.pick(&[n + 1, n + (1 << 32), 1 << 63, u64::MAX - 33, u64::MAX]).to_le_bytes());
+    }
+    s
+}
+
+/// An open memory with room for these blocks, or for some of them.
+fn opened_for(blocks: &[&Block], r: &mut Random) -> Memory {
+    let charged = || blocks.iter().filter(|b| b.kind == 1 && b.bytes.len() <= 4096);
+    let (nodes, entries) = (1 + charged().map(|b| b.nodes_charged()).sum::<u64>(), charged().map(|b| b.entries_charged()).sum::<u64>());
+    let mut room = |n: u64| if r.once_in(3) { n - r.below(n / 2 + 1) } else { n + r.below(3) }.clamp(1, 1 << 20);
+    let (nodes, entries) = (room(nodes), room(entries));
+    let mut m = Memory { level: Level::LANDED, bytes: r.bytes(model::needed(nodes, entries) + 5), held: Held::Broken };
+    m.open(nodes, entries);
+    m
+}
+
+/// Names the stream in which something differs, as far as a line holds it.
+fn in_stream(stream: &[u8]) -> impl FnOnce(String) -> String + '_ {
+    |why| format!("a stream of {} bytes ({}): {why}", stream.len(), hex(&stream[..stream.len().min(500)]))
 }
 
 /// Every Rust row lies inside one row of ours.
@@ -691,6 +904,11 @@ fn damaged_memory(m: &[u8], r: &mut Random) -> Vec<u8> {
 
 // ── all recordings ──
 
+/// Whether the recording with this seed is made by streams: every second one is.
+fn by_streams(seed: u64) -> bool {
+    Random::new(!seed).once_in(2)
+}
+
 fn compare(rec: &Recording, seed: u64, port: &mut Port, counts: &mut Counts, every_bit: bool) -> Compared {
     let mut r = Random::new(seed);
     let garbage = r.below(70) as usize;
@@ -699,19 +917,24 @@ fn compare(rec: &Recording, seed: u64, port: &mut Port, counts: &mut Counts, eve
     let model = Memory { level: Level::LANDED, bytes: lent, held: Held::Broken };
     let mut run = Run { port, counts, r, model, open: None, taken: Vec::new(), finished: None, calls: 0 };
     run.open(rec.nodes, rec.entries)?;
-    for c in &rec.calls {
-        run.call(c)?;
-    }
+    let by_streams = by_streams(seed);
+    run.all_calls(&rec.calls, by_streams)?;
     run.same_memory("memory after all calls")?;
     if run.finished.is_some() && run.model.bytes.len() < LARGE {
         same("what the memory holds, read back", &run.model.held, &model::held(Level::LANDED, &run.model.bytes))?;
     }
+    run.as_one_stream()?;
     run.images()?;
     let times = if run.is_large() { 2 } else { 8 };
     run.damaged_images(times)?;
     run.damaged_memories(times)?;
     run.streams(&rec.calls)?;
+    if by_streams {
+        run.damaged_streams(&rec.calls, times)?;
+        run.counts.one("recordings by streams");
+    }
     if every_bit {
+        run.every_stream(&rec.calls, rec.nodes, rec.entries)?;
         run.every_image()?;
         run.odd_images()?;
         run.every_bit()?;
@@ -783,7 +1006,7 @@ fn lesser(rec: &Recording, i: usize) -> Vec<Recording> {
 }
 
 fn report(number: u64, rec: Recording, seed: u64, why: String) -> ! {
-    println!("recording {number} differs: {why}\n{rec}");
+    println!("recording {number}{} differs: {why}\n{rec}", if by_streams(seed) { ", made by streams," } else { "" });
     std::panic::set_hook(Box::new(|_| {}));
     let (small, still) = shrink(rec, seed);
     if !still.is_empty() {

@@ -4,6 +4,7 @@
 //!
 //! The stack below a call is filled with a pattern first; what the call changed of it is what it took.
 use oracle::linked::{self, Row};
+use oracle::recording::Block;
 use std::hint::black_box;
 
 const SIZE: usize = 4 << 20;
@@ -50,10 +51,14 @@ fn calls() {
             x
         };
         note("open", taken(|| assert_eq!(linked::open(&mut mem, nodes, entries), 0)));
+        let mut stream = Vec::new();
         for i in 0..blocks {
             let data: Vec<u8> = (0..16 + next() % 32).map(|_| (next() % letters) as u8).collect();
+            stream.extend(Block::memory(i * 64, 1, 9, &data).encoded());
             note("record", if i % 100 == 0 { taken(|| { linked::record(&mut mem, 1, i * 64, 1, 9, &data); }) } else { linked::record(&mut mem, 1, i * 64, 1, 9, &data); 0 });
         }
+        assert_eq!(linked::open(&mut mem, nodes, entries), 0);
+        note("record_stream", taken(|| assert_eq!(linked::record_stream(&mut mem, &stream), (0, blocks))));
         note("finish", taken(|| assert_eq!(linked::finish(&mut mem), 0)));
         for len in [0usize, 1, 16, 256, 257] {
             let q: Vec<u8> = (0..len).map(|_| (next() % letters) as u8).collect();
@@ -66,7 +71,7 @@ fn calls() {
     let mut fields = [0u64; 7];
     note("read_block", taken(|| { black_box(linked::read_block(&[1; 64], 0, &mut fields)); }));
     for (name, bytes) in most {
-        println!("{name:12} {bytes:8} bytes of stack");
+        println!("{name:13} {bytes:8} bytes of stack");
     }
 }
 
