@@ -93,8 +93,8 @@ def samples(rng):
     yield "empty", b""
 
 
-def line(how, taken, number):
-    return f"  {how}: {taken} taken" + (f", then {number}" if number else "") + "\n"
+def lines(name, taken, number, size):
+    return f"{name}\n  taken: {taken} and {taken}\n  stopped by: {number} and {number}\n  memories: the same\n  image bytes: {size} and {size}\n  images: the same\n"
 
 
 def main():
@@ -105,7 +105,7 @@ def main():
         taken, number, held = foretell(s)
         numbers.add(number)
         size = len(image(trie(held))) if held else 25
-        said += name + "\n" + line("by one call", taken, number) + line("block by block", taken, number) + f"  the same image: {size} bytes\n"
+        said += lines(name, taken, number, size)
         with open(os.path.join(where, "data", name), "wb") as f:
             f.write(s)
         print(name, len(s), "bytes,", len(held), "Memory blocks,", sum(len(b[0]) for b in held), "bytes in them")

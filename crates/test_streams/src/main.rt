@@ -1,13 +1,11 @@
-// Records each stream of data/ twice, by one call into one index and block by block into another, and prints both answers and
-// whether the images are the same. oracle/stream_samples.py made the streams and foretold what is printed.
+// Records each stream of data/ twice, by one call into one index and block by block into another, and prints what each answers
+// and whether memories and images are the same. oracle/stream_samples.py made the streams and foretold what is printed.
 use block_stream::Read;
 use libc::STDOUT_FILENO;
 use location::SpacetimeLocation;
 use string_index::Recorded;
 use string_index::Saved;
 use string_index::Streamed;
-ghost use Prim.Native.Nat.{_≤_};
-ghost use lib.ListN.{length};
 ghost use Rattle.test_streams.specs.Step.{Onward};
 
 // The capacity of an index, the memory that it needs, and its longest image.
@@ -31,20 +29,25 @@ enum Step {
     Stopped(u64),
 }
 
-fn print_number(n: u64) {
-    io::write_all(STDOUT_FILENO, b" ");
+// Prints a number of the recording by one call and of that block by block.
+fn print_both(what: &[u8], n: u64, m: u64) {
+    io::write_all(STDOUT_FILENO, what);
     io::print_decimal(STDOUT_FILENO, n);
-}
-
-fn print_ended(how: &[u8], e: Ended) {
-    io::write_all(STDOUT_FILENO, how);
-    print_number(e.taken);
-    io::write_all(STDOUT_FILENO, b" taken");
-    if e.number != 0 {
-        io::write_all(STDOUT_FILENO, b", then");
-        print_number(e.number);
+    io::write_all(STDOUT_FILENO, b" and ");
+    io::print_decimal(STDOUT_FILENO, m);
+    if n != m {
+        io::write_all(STDOUT_FILENO, b", which differ");
     }
     io::write_all(STDOUT_FILENO, b"\n");
+}
+
+fn print_same(what: &[u8], a: &[u8], b: &[u8]) {
+    io::write_all(STDOUT_FILENO, what);
+    if check::same(a, b) {
+        io::write_all(STDOUT_FILENO, b"the same\n");
+    } else {
+        io::write_all(STDOUT_FILENO, b"they differ\n");
+    }
 }
 
 // Opens an index and records a stream by one call.
@@ -90,45 +93,24 @@ fn record_singly(mem: &mut [u8], stream: &[u8]) -> Ended {
     }
 }
 
-fn is_same(a: Ended, b: Ended) -> bool {
-    if a.taken != b.taken {
-        return false;
-    }
-    a.number == b.number
-}
-
-// Finishes an index and saves it: how many bytes of the buffer are the image, none where that is refused.
-fn save(mem: &mut [u8], image: &mut [u8]) -> usize
-    ensures { λ r. ⌜ r ≤ length (now (image .entry)) ⌝ }
-{
+// Finishes an index and saves it: how many bytes its image has, 0 where that is refused.
+fn save(mem: &mut [u8], image: &mut [u8]) -> u64 {
     string_index::finish(mem);
     match string_index::save(mem, image) {
-        Saved::Bytes(n) => if n < image.len() { n } else { image.len() },
-        Saved::Refused(n) => {
-            io::write_all(STDOUT_FILENO, b"  refused:");
-            print_number(n);
-            io::write_all(STDOUT_FILENO, b"\n");
-            0
-        }
+        Saved::Bytes(n) => n as u64,
+        Saved::Refused(_) => 0,
     }
 }
 
-// Finishes and saves both indexes, and prints whether their images are the same.
+// Both buffers have zeros behind the image, so they are the same where the images are.
 fn compare_images(mem: &mut [u8], other: &mut [u8], image: &mut [u8], other_image: &mut [u8]) {
     let n = save(mem, image);
     let m = save(other, other_image);
-    if check::same(&image[..n], &other_image[..m]) {
-        io::write_all(STDOUT_FILENO, b"  the same image:");
-    } else {
-        io::write_all(STDOUT_FILENO, b"  images that differ:");
-        print_number(n as u64);
-        io::write_all(STDOUT_FILENO, b" and");
-    }
-    print_number(m as u64);
-    io::write_all(STDOUT_FILENO, b" bytes\n");
+    print_both(b"  image bytes: ", n, m);
+    print_same(b"  images: ", image, other_image);
 }
 
-// Records a stream both ways.
+// Memories are compared before they are finished: finish drops repeats, so that images do not show them.
 fn compare(
     mem: &mut [u8],
     other: &mut [u8],
@@ -138,11 +120,9 @@ fn compare(
 ) {
     let a = record_stream(mem, stream);
     let b = record_singly(other, stream);
-    print_ended(b"  by one call:", a);
-    print_ended(b"  block by block:", b);
-    if !is_same(a, b) {
-        io::write_all(STDOUT_FILENO, b"  answers that differ\n");
-    }
+    print_both(b"  taken: ", a.taken, b.taken);
+    print_both(b"  stopped by: ", a.number, b.number);
+    print_same(b"  memories: ", mem, other);
     compare_images(mem, other, image, other_image);
 }
 
