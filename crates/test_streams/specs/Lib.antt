@@ -1,0 +1,2 @@
+-- `Step` says where a step leads. Assumes nothing.
+pub mod Step
