@@ -1,5 +1,5 @@
 -- Lists of calls with stream calls among them: their single calls leave the same memory. Assumes nothing.
-use Prim.Native.Nat.{ℕ, zero, suc, _+_, _≤_, _<_, _^_}
+use Prim.Native.Nat.{ℕ, zero, suc, _+_, _≤_, _<_}
 use native.Mathlib.Omega.{arith}
 use mathlib.Core.Path.{_≡_, refl, sym, ap, _∙_, subst}
 use mathlib.Core.Logic.{_⊎_, inl, inr}
@@ -8,11 +8,10 @@ use mathlib.Core.Option.{Option, none, some}
 use lib.ListN.{length, getD, take, drop, List·getD-eq-default}
 use Rattle.words.proofs.Laws.{le64-lt}
 use Rattle.words.proofs.Parts.{lt-or-ge}
-use Rattle.definitions.specs.Blocks.{Block}
 use Rattle.definitions.specs.BlockStream.{Read, block, nothing, refused, data-length, block-at, read-block}
 use Rattle.definitions.specs.Causes.{Cause, first-cause}
 use Rattle.definitions.specs.Calls.{stream-checks}
-use Rattle.definitions.specs.Recording.{Call, record-block, finish}
+use Rattle.definitions.specs.Recording.{Call, finish}
 use Rattle.definitions.proofs.Order.{mem-getD}
 use Rattle.trie.proofs.BuildOrder.{mem-drop}
 use Rattle.memory_header.specs.Opening.{open-memory}
@@ -26,7 +25,7 @@ use Rattle.stream_recording.proofs.Single.{stream-is-single}
 use Rattle.string_index.specs.Finish.{finish-memory}
 use Rattle.handing_over.specs.Search.{search-memory}
 use Rattle.demand.specs.Demand.{memory-after, memory-after-all, Fits, CallFits, Recording, HandsOver, Exactly}
-use Rattle.demand.specs.Shift.{ShiftCall, single, stream, memory-after-shift, memory-after-shifts, records, singles, flattened, ShiftFits, Shift, AsSingles, Flattens, ShiftRowsExact, StreamImage}
+use Rattle.demand.specs.Shift.{ShiftCall, single, stream, memory-after-shift, memory-after-shifts, records, singles, flattened, ShiftFits, Shift, Flattens, ShiftRowsExact, StreamImage}
 use Rattle.demand.proofs.Theorem.{demand}
 
 -- ---- the memory

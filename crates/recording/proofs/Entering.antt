@@ -15,10 +15,10 @@ use Rattle.definitions.specs.Calls.{Capacity, kind-checks, block-checks}
 use Rattle.definitions.proofs.Checks.{number-some}
 use Rattle.definitions.proofs.Cutting.{PieceOf, piece-of}
 use Rattle.memory_header.specs.Layout.{Room, Header, header-bytes, with-header}
-use Rattle.memory_header.specs.Opening.{Done, unless-refused}
+use Rattle.memory_header.specs.Opening.{unless-refused}
 use Rattle.location.specs.Fits.{Fits}
 use Rattle.index_memory.specs.Log.{AllSmall}
-use Rattle.index_memory.specs.Index.{Index, opened, open-header, read-index}
+use Rattle.index_memory.specs.Index.{Index, open-header, read-index}
 use Rattle.index_memory.proofs.Charges.{charge-count}
 use Rattle.index_memory.proofs.Holding.{OpenIs, open-is, room-open}
 use Rattle.judging.specs.Judged.{grown, Verdict, counted, refused, verdict, judged-checks, judged}

@@ -18,7 +18,7 @@ use Rattle.index_memory.specs.Index.{Index, opened, standing-of, read-index}
 use Rattle.index_memory.proofs.Holding.{OpenIs, open-is, open-counted}
 use Rattle.judging.specs.Judged.{Verdict, counted, refused}
 use Rattle.recording.specs.Record.{appended, record-by, record-memory}
-use Rattle.recording.specs.Enter.{Pending, judged-by-kind, entered, settled}
+use Rattle.recording.specs.Enter.{Pending, entered, settled}
 use Rattle.recording.specs.Recorded.{recorded-as}
 use Rattle.recording.specs.declared.Recorded.{Recorded}
 use Rattle.recording.specs.declared.Recorded.the-variants.{Taken, Refused}

@@ -1,7 +1,7 @@
 -- The number that a stream call answers stands in its row of the table. Assumes nothing.
 use Prim.Native.Nat.{ℕ, zero, suc}
 use native.Mathlib.Omega.{arith}
-use mathlib.Core.Path.{_≡_, refl, sym, ap, _∙_, subst}
+use mathlib.Core.Path.{_≡_, refl, sym, ap, subst}
 use mathlib.Core.Bool.{Bool, true, false, _||_, cond}
 use mathlib.Core.Logic.{_⊎_, inl, inr}
 use mathlib.Core.List.{List, [], _∷_, List·Memᴰ as Mem, List·Memᴰ·head as here, List·Memᴰ·tail as later, List·Memᴰ·not-nil as not-nil}
@@ -14,10 +14,10 @@ use Rattle.definitions.specs.BlockStream.{Read, block, nothing, refused, read-b
 use Rattle.definitions.specs.Causes.{Cause, number, cut-short, Check, causes, first-cause, checked, record-call, record-stream-call, read-block-call, numbered}
 use Rattle.definitions.specs.Calls.{Standing, stream-checks, record-checks}
 use Rattle.definitions.proofs.Checks.{checks-in-order}
-use Rattle.memory_header.specs.Opening.{Done, unless-refused}
+use Rattle.memory_header.specs.Opening.{unless-refused}
 use Rattle.index_memory.specs.Index.{standing-of, read-index}
-use Rattle.recording.specs.Record.{record-by, record-memory}
-use Rattle.stream_recording.specs.Stream.{StreamDone, stopped, behind, record-read, record-from, unless-stopped, record-stream}
+use Rattle.recording.specs.Record.{record-memory}
+use Rattle.stream_recording.specs.Stream.{stopped, behind, record-read, record-from, unless-stopped, record-stream}
 use Rattle.stream_recording.specs.Promises.{StreamNumbers}
 
 -- the cause that decides stands in the list of checks

@@ -5,9 +5,9 @@ use mathlib.Core.Path.{_≡_, refl, sym, ap, _∙_, subst}
 use mathlib.Core.Bool.{Bool, true, false, cond}
 use mathlib.Core.List.{List}
 use mathlib.Core.Option.{Option, none, some}
-use lib.ListN.{length, getD}
+use lib.ListN.{length}
 use lib.Dec.{ltb, eqb}
-use borrow.Author.Tests.{eqb-true, ne-eqb, eqb-false}
+use borrow.Author.Tests.{eqb-true, eqb-false}
 use Rattle.definitions.specs.Blocks.{Block}
 use Rattle.definitions.specs.BlockStream.{Read, block, nothing, refused, read-block-checks, read-or-refuse, read-block}
 use Rattle.definitions.specs.Causes.{Cause, number, first-cause}
@@ -17,8 +17,8 @@ use Rattle.index_memory.specs.Index.{standing-of, read-index}
 use Rattle.block_stream.proofs.Bounds.{BlockRead, block-read}
 use Rattle.recording.specs.Record.{record-memory}
 use Rattle.recording.proofs.Outcome.{record-leaves}
-use Rattle.stream_recording.specs.Stream.{StreamDone, stopped, behind, on-or-stopped, record-read, record-from, unless-stopped, record-stream}
-use Rattle.stream_recording.specs.Promises.{Sent, first-blocks, cursor-behind, recorded-singly, AllTaken, next-number, TakesRecords, Singly, StreamIsSingle, StreamLeaves}
+use Rattle.stream_recording.specs.Stream.{StreamDone, stopped, behind, record-read, record-from, unless-stopped, record-stream}
+use Rattle.stream_recording.specs.Promises.{first-blocks, cursor-behind, recorded-singly, AllTaken, next-number, TakesRecords, Singly, StreamIsSingle, StreamLeaves}
 
 -- ---- what reading gives
 

@@ -1,10 +1,10 @@
 -- What a reader may conclude of a stream that is recorded in one call. Assumes nothing.
-use Prim.Native.Nat.{ℕ, zero, suc, _<_}
+use Prim.Native.Nat.{ℕ, zero, suc}
 use mathlib.Core.Path.{_≡_}
 use mathlib.Core.Bool.{true}
 use mathlib.Core.List.{List, [], _∷_}
 use mathlib.Core.Option.{none}
-use mathlib.Core.Logic.{_⊎_, _↔_}
+use mathlib.Core.Logic.{_⊎_}
 use lib.ListN.{length}
 use Rattle.definitions.specs.Blocks.{Block}
 use Rattle.definitions.specs.BlockStream.{Read, block, nothing, refused, read-block}

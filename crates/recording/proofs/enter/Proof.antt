@@ -1,5 +1,5 @@
 -- `recording::enter` meets its contract: by the block's kind, and by what judging it gives. Assumes nothing.
-use mathlib.Core.Path.{_≡_, ap, sym, _∙_, subst}
+use mathlib.Core.Path.{ap, sym, _∙_}
 use borrow.Author.Needs.{needs}
 use denote.Ref.{now}
 use Rattle.definitions.specs.Blocks.{Block}

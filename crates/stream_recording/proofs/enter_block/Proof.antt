@@ -1,7 +1,6 @@
 -- `stream_recording::enter_block` meets its contract: the verdict says whether the stream goes on. Assumes nothing.
 use Prim.Native.Nat.{_-_}
-use native.Mathlib.Omega.{arith}
-use mathlib.Core.Path.{_≡_, ap, sym, _∙_}
+use mathlib.Core.Path.{ap, sym, _∙_}
 use lib.ListN.{take, drop}
 use borrow.Author.Needs.{needs}
 use denote.Ref.{now}

@@ -1,7 +1,7 @@
 -- `stream_recording::record_blocks` meets its contract: what is left to be recorded, recorded, is always the same. Assumes nothing.
 use Prim.Native.Nat.{ℕ, _<_}
 use native.Mathlib.Omega.{arith}
-use mathlib.Core.Path.{_≡_, ap, sym, _∙_}
+use mathlib.Core.Path.{ap, _∙_}
 use lib.ListN.{getD}
 use denote.Ref.{now}
 use Rattle.memory_header.specs.Answers.{header-of}

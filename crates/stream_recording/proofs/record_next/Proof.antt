@@ -1,9 +1,9 @@
 -- `stream_recording::record_next` meets its contract: what was read says what is done. Assumes nothing.
 use native.Mathlib.Omega.{arith}
-use mathlib.Core.Path.{_≡_, ap, sym, subst, _∙_}
+use mathlib.Core.Path.{_≡_, ap, subst, _∙_}
 use borrow.Author.Needs.{needs}
 use denote.Ref.{now}
-use Rattle.definitions.specs.BlockStream.{Read, read-block}
+use Rattle.definitions.specs.BlockStream.{read-block}
 use Rattle.memory_header.specs.Answers.{header-of}
 use Rattle.block_stream.specs.declared.Read.{Read as Answer}
 use Rattle.block_stream.specs.Answer.{read-of}

@@ -1,5 +1,5 @@
 -- `test_streams::record_singly` is safe and ends: each block that is taken moves the cursor on. Assumes nothing.
-use Prim.Native.Nat.{ℕ, _-_, _≤_, _<_}
+use Prim.Native.Nat.{_-_, _≤_}
 use native.Mathlib.Omega.{arith}
 use mathlib.Core.Path.{_≡_, subst}
 use lib.ListN.{length}
