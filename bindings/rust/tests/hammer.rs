@@ -1,7 +1,9 @@
 //! Random and damaged input: no crash, and every answer is one that document 01 has for that call.
 mod block_bytes;
+mod damage;
 mod random;
 use block_bytes::block_bytes;
+use damage::{damage, number};
 use helmapricot::{blocks, Index, Refusal, Row};
 use random::Random;
 
@@ -12,33 +14,8 @@ fn expect<T>(answer: Result<T, Refusal>, numbers: &[u64]) -> u64 {
     n
 }
 
-/// A number that is small, large, or anything.
-fn number(r: &mut Random) -> u64 {
-    match r.below(4) {
-        0 => r.next(),
-        1 => u64::MAX - r.below(20),
-        _ => r.below(20),
-    }
-}
-
-fn damage(bytes: &mut Vec<u8>, r: &mut Random) {
-    if bytes.is_empty() {
-        return;
-    }
-    let n = bytes.len() as u64;
-    match r.below(8) {
-        0 => bytes.truncate(r.below(n) as usize),
-        1 => bytes.extend(r.bytes(3, 256)),
-        2 => {
-            let at = r.below(n) as usize;
-            let new = number(r).to_le_bytes();
-            bytes[at..].iter_mut().zip(new).for_each(|(b, x)| *b = x);
-        }
-        // what stands first matters most
-        3 | 4 => bytes[r.below(n.min(120)) as usize] ^= 1 << r.below(8),
-        _ => bytes[r.below(n) as usize] ^= 1 << r.below(8),
-    }
-}
+/// What stands first matters most: header and first nodes.
+const FIRST: u64 = 120;
 
 /// Some blocks as they stand in a stream, damaged or not.
 fn stream(r: &mut Random) -> Vec<u8> {
@@ -48,7 +25,7 @@ fn stream(r: &mut Random) -> Vec<u8> {
         stream.extend(block_bytes(r.below(5) as u8, [number(r), n, number(r), number(r)], &r.bytes(n as usize, 256)));
     }
     if r.below(3) > 0 {
-        damage(&mut stream, r);
+        damage(&mut stream, FIRST, r);
     }
     stream
 }
@@ -67,7 +44,7 @@ fn calls<M: AsRef<[u8]> + AsMut<[u8]>>(index: &mut Index<M>, images: &mut Vec<Ve
         3 => {
             let mut image = images[r.below(images.len() as u64) as usize].clone();
             if r.below(3) > 0 {
-                damage(&mut image, r);
+                damage(&mut image, FIRST, r);
             }
             expect(index.load(&image), &[1, 13, 14, 15, 7, 8])
         }
@@ -122,7 +99,7 @@ fn calls_on_damaged_memory() {
             memory = index.into_memory();
         }
         if r.below(4) > 0 {
-            damage(&mut memory, &mut r);
+            damage(&mut memory, FIRST, &mut r);
         }
         let mut index = Index::held_in(&mut memory[..]);
         (0..10).for_each(|_| calls(&mut index, &mut images, &mut r));
