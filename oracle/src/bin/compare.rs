@@ -611,6 +611,8 @@ impl Run<'_> {
         let count = self.taken.len() as u64;
         let number = |at: usize| u64::from_le_bytes(open.bytes[at..at + 8].try_into().unwrap());
         let mem = self.port.mem.set(&open.bytes);
+        // the log is spoilt, so that what the stream does not write is seen
+        mem[64..64 + 48 * number(40) as usize].iter_mut().for_each(|b| *b = !*b);
         same("opening anew", 0, linked::open(mem, number(0), number(8)))?;
         same("all blocks as one stream", (0, count), self.port.record_stream(&stream)?)?;
         same_bytes("memory after all blocks as one stream", &open.bytes, self.port.mem.bytes())?;
