@@ -3,7 +3,7 @@ use Prim.Native.Nat.{ℕ, zero, suc, _+_, _≤_, _<_}
 use native.Mathlib.Omega.{arith}
 use mathlib.Core.Path.{_≡_, refl, sym, ap, _∙_, subst}
 use mathlib.Core.Logic.{_⊎_, inl, inr}
-use mathlib.Core.List.{List, [], _∷_, _++_, List·Memᴰ as Mem, List·Memᴰ·head as here, List·Memᴰ·tail as later, List·Memᴰ·not-nil as not-nil, List·Memᴰ·append-cases as append-cases}
+use mathlib.Core.List.{List, [], _∷_, _++_, List·Memᴰ as Mem, List·Memᴰ·head as here, List·Memᴰ·tail as later, List·Memᴰ·not-nil as not-nil, List·Memᴰ·append-cases as append-cases, Memᴰ·append-right as append-right}
 use mathlib.Core.Option.{Option, none, some}
 use lib.ListN.{length, getD, take, drop, List·getD-eq-default}
 use Rattle.words.proofs.Laws.{le64-lt}
@@ -114,14 +114,10 @@ flattened-fit m (k ∷ ks) f j h = go (append-cases (singles m k) h) (flattened-
 
 -- ---- the finish
 
-behind : {k : Call} (xs : List Call) {ys : List Call} → Mem k ys → Mem k (xs ++ ys)
-behind [] h = h
-behind (x ∷ xs) h = later (behind xs h)
-
 flattened-finish : (m : List ℕ) (ks : List ShiftCall) → Mem (single finish) ks → Mem finish (flattened m ks)
 flattened-finish m [] h = absurd (not-nil h)
 flattened-finish m (k ∷ ks) (here e) = subst (λ (x : ShiftCall). Mem finish (singles m x ++ flattened (memory-after-shift m k) ks)) e (here refl)
-flattened-finish m (k ∷ ks) (later h) = behind (singles m k) (flattened-finish (memory-after-shift m k) ks h)
+flattened-finish m (k ∷ ks) (later h) = append-right (singles m k) (flattened-finish (memory-after-shift m k) ks h)
 
 -- ---- recordings
 

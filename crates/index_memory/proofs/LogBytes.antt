@@ -4,7 +4,7 @@ use native.Mathlib.Omega.{arith}
 use mathlib.Core.Path.{_≡_, refl, sym, ap, _∙_, subst}
 use mathlib.Core.Bool.{Bool, true, _&&_}
 use mathlib.Core.Logic.{_⊎_, inl, inr}
-use mathlib.Core.List.{List, [], _∷_, _++_, append-assoc, List·Memᴰ as Mem, List·Memᴰ·head as here, List·Memᴰ·tail as later, List·Memᴰ·not-nil as not-nil}
+use mathlib.Core.List.{List, [], _∷_, _++_, List·Memᴰ as Mem, List·Memᴰ·head as here, List·Memᴰ·tail as later, List·Memᴰ·not-nil as not-nil}
 use lib.ListN.{length, getD, take, drop, List·getD-eq-default, length-append, length-take, length-drop}
 use lib.Seq.{sets, length-sets, getD-take, getD-drop}
 use lib.Dec.{ltb, leb}
@@ -28,11 +28,6 @@ pub length-log : (ps : List Piece) → AllSmall ps → length (log-bytes ps) ≡
 unfolding log-bytes
 length-log [] f = refl
 length-log (p ∷ ps) f = omega (arith, length-append (piece-bytes p) (log-bytes ps), length-piece p (f p (here refl)), length-log ps (λ q m. f q (later m)))
-
-pub log-bytes-append : (ps qs : List Piece) → log-bytes (ps ++ qs) ≡ log-bytes ps ++ log-bytes qs
-unfolding log-bytes
-log-bytes-append [] qs = refl
-log-bytes-append (p ∷ ps) qs = rw (log-bytes-append ps qs, append-assoc (piece-bytes p) (log-bytes ps) (log-bytes qs))
 
 -- a log is written piece by piece
 pub log-sets : (p : Piece) (ps : List Piece) (xs : List ℕ) (at : ℕ) → length (p .bytes) ≤ 16

@@ -1,24 +1,24 @@
 -- What is left where pieces are appended: an open index, with them behind the others. Assumes nothing.
 use Prim.Native.Nat.{ℕ, _+_, _-_, _*_, _≤_, _<_}
 use native.Mathlib.Omega.{arith}
-use mathlib.Core.Path.{_≡_, refl, sym, ap, _∙_, subst}
+use mathlib.Core.Path.{_≡_, sym, ap, _∙_, subst}
 use mathlib.Core.Logic.{_⊎_, inl, inr}
-use mathlib.Core.List.{List, _++_, append-nil, append-assoc, List·Memᴰ as Mem, List·Memᴰ·append-cases as append-cases}
+use mathlib.Core.List.{List, _++_, List·Memᴰ as Mem, List·Memᴰ·append-cases as append-cases}
 use lib.ListN.{length, getD, length-append}
 use lib.Seq.{sets, length-sets}
 use Rattle.words.proofs.Laws.{Outside}
-use Rattle.words.proofs.Parts.{lt-or-ge, sets-append, getD-sets, getD-sets-out, sets-over}
+use Rattle.words.proofs.Parts.{lt-or-ge, getD-sets, getD-sets-out, sets-over}
 use Rattle.definitions.specs.Blocks.{Piece, nodes-tallied, entries-tallied}
 use Rattle.definitions.specs.Calls.{Capacity}
 use Rattle.memory_header.specs.Layout.{Room, Header, header-bytes, with-header}
 use Rattle.index_memory.specs.Log.{AllSmall, log-in, log-bytes}
 use Rattle.index_memory.specs.Index.{opened, open-header, read-index}
 use Rattle.recording.specs.Record.{logged, appended}
-use Rattle.recording.specs.Promises.{LengthAppended, AppendedNone, AppendedTwice}
+use Rattle.recording.specs.Promises.{LengthAppended}
 use Rattle.index_memory.proofs.Charges.{charge-count}
-use Rattle.memory_header.proofs.HeaderBytes.{length-header, header-same}
-use Rattle.index_memory.proofs.LogBytes.{AllFit, AllSound, PieceSound, length-log, log-bytes-append, log-written, log-append, log-elsewhere}
-use Rattle.index_memory.proofs.Holding.{OpenIs, open-is, room-open, open-counted, put-holds}
+use Rattle.memory_header.proofs.HeaderBytes.{length-header}
+use Rattle.index_memory.proofs.LogBytes.{AllFit, AllSound, PieceSound, length-log, log-written, log-append, log-elsewhere}
+use Rattle.index_memory.proofs.Holding.{OpenIs, room-open, put-holds}
 
 -- ---- what is read back
 
@@ -67,13 +67,6 @@ pub length-appended : LengthAppended
 unfolding appended
 length-appended m c ps new = length-sets (behind m c ps new) 0 (header-bytes (open-header c (ps ++ new))) ∙ long m c ps new
 
-pub appended-none : AppendedNone
-unfolding appended logged log-bytes
-appended-none m c ps b e =
-    let o : OpenIs m c ps = open-is m c ps e in
-    let f = o .header in
-    rw (append-nil ps, ← open-counted m c ps o) (header-same m b (f .room) (f .first-zero) (f .second-zero))
-
 -- a byte that two lists share they share where others are written
 shared : (zs xs ys : List ℕ) (at k : ℕ) → length xs ≡ length ys → at + length zs ≤ length xs → getD xs k 0 ≡ getD ys k 0 → getD (sets xs at zs) k 0 ≡ getD (sets ys at zs) k 0
 shared zs xs ys at k l h e = go (lt-or-ge k at) (lt-or-ge k (at + length zs))
@@ -98,17 +91,3 @@ header-over m h h′ h″ new s l =
     (length-sets (with-header m h) at ys ∙ long ∙ sym (length-sets m at ys))
     (omega (arith, length-header h″, length-sets (with-header m h) at ys))
     (λ k o. shared ys (with-header m h) m at k long (omega arith) (getD-sets-out (header-bytes h) m 0 k (subst (λ (n : ℕ). Outside n 0 k) (length-header h″ ∙ sym (length-header h)) o)))
-
--- pieces behind pieces
-pub logged-twice : (m : List ℕ) (c : Capacity) (ps new more : List Piece) → AllSmall new
-    → logged (logged m (open-header c ps) new) (open-header c (ps ++ new)) more ≡ logged m (open-header c ps) (new ++ more)
-unfolding logged
-logged-twice m c ps new more s =
-    let e : 64 + 48 * length (ps ++ new) ≡ 64 + 48 * length ps + length (log-bytes new) = omega (arith, length-append ps new, length-log new s) in
-    rw (e, log-bytes-append new more, sets-append m (64 + 48 * length ps) (log-bytes new) (log-bytes more)) refl
-
-pub appended-twice : AppendedTwice
-unfolding appended
-appended-twice m c ps new more s t l =
-    header-over (behind m c ps new) (open-header c (ps ++ new)) (open-header c (ps ++ new)) (open-header c (ps ++ new ++ more)) more t (omega (arith, long m c ps new, length-append ps new))
-    ∙ rw (logged-twice m c ps new more s, append-assoc ps new more)

@@ -53,9 +53,6 @@ fitting m c ps b r z =
     record {
       short = p .short;
       below = p .below;
-      nodes = omega (arith, p .few-nodes, tally-nodes ps b, r .few-nodes);
-      entries = omega (arith, p .few-entries, tally-entries ps b, r .few-entries);
-      count = omega (arith, charge-count (ps ++ pieces b), length-append ps (pieces b), p .few-entries, r .few-entries);
       room = omega (arith, charge-count (ps ++ pieces b), length-append ps (pieces b), pieces-length b, p .few-entries, r .held);
     }
 

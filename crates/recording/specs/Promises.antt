@@ -1,15 +1,14 @@
 -- What a reader may conclude of the memory that recording leaves. Assumes nothing.
-use Prim.Native.Nat.{ℕ, _+_, _*_, _≤_, _<_}
+use Prim.Native.Nat.{ℕ, _+_}
 use mathlib.Core.Path.{_≡_}
-use mathlib.Core.List.{List, [], _++_}
+use mathlib.Core.List.{List, _++_}
 use mathlib.Core.Option.{none}
-use lib.ListN.{length, getD}
+use lib.ListN.{length}
 use Rattle.definitions.specs.Blocks.{Block, Piece, pieces}
 use Rattle.definitions.specs.Causes.{first-cause}
-use Rattle.definitions.specs.Calls.{Capacity, header-size, block-checks}
+use Rattle.definitions.specs.Calls.{Capacity, block-checks}
 use Rattle.location.specs.Fits.{Fits}
-use Rattle.memory_header.specs.Layout.{Header, logged-size, with-header}
-use Rattle.index_memory.specs.Log.{AllSmall}
+use Rattle.memory_header.specs.Layout.{Header, with-header}
 use Rattle.index_memory.specs.Index.{opened, read-index}
 use Rattle.judging.specs.Judged.{counted}
 use Rattle.recording.specs.Record.{appended, record-memory}
@@ -24,16 +23,6 @@ ReadAppended =
 -- the memory is as long as it was
 abbrev pub LengthAppended : Type 0
 LengthAppended = (m : List ℕ) (c : Capacity) (ps new : List Piece) → length (appended m c ps new) ≡ length m
-
--- a memory of bytes is as it was where no pieces are appended
-abbrev pub AppendedNone : Type 0
-AppendedNone = (m : List ℕ) (c : Capacity) (ps : List Piece) → ((k : ℕ) → getD m k 0 < 256) → read-index m ≡ opened c ps → appended m c ps [] ≡ m
-
--- pieces, and then more pieces, are all of them at once
-abbrev pub AppendedTwice : Type 0
-AppendedTwice =
-    (m : List ℕ) (c : Capacity) (ps new more : List Piece) → AllSmall new → AllSmall more → header-size + logged-size * (length ps + length new + length more) ≤ length m
-    → appended (appended m c ps new) c (ps ++ new) more ≡ appended m c ps (new ++ more)
 
 -- entering a block and then writing the header is recording it into the memory with its header
 abbrev pub EnteredRecords : Type 0

@@ -5,14 +5,14 @@ use mathlib.Core.List.{List, _++_}
 use lib.ListN.{length}
 use lib.Seq.{sets}
 use lib.Dec.{eqb}
-use Rattle.definitions.specs.Blocks.{Block, Piece, pieces, memory-kind, entry-charge}
+use Rattle.definitions.specs.Blocks.{Block, Piece, pieces, memory-kind}
 use Rattle.definitions.specs.Causes.{first-cause}
 use Rattle.definitions.specs.Calls.{Capacity, header-size, data-limit, last-number, record-checks}
 use Rattle.memory_header.specs.Layout.{Header, logged-size, with-header}
 use Rattle.memory_header.specs.Opening.{Done, unless-refused}
 use Rattle.index_memory.specs.Log.{log-bytes}
 use Rattle.index_memory.specs.Index.{Index, open-header, standing-of, read-index}
-use Rattle.judging.specs.Judged.{piece-count, block-nodes}
+use Rattle.judging.specs.Judged.{piece-count}
 
 -- ── pieces behind a log ──
 
@@ -24,13 +24,10 @@ logged m h new = sets m (header-size + logged-size * h .payload) (log-bytes new)
 unfoldable pub appended : List ℕ → Capacity → List Piece → List Piece → List ℕ
 appended m c ps new = with-header (logged m (open-header c ps) new) (open-header c (ps ++ new))
 
--- a block that fits: the memory has room for its pieces behind the log, and the sums are small
+-- a block that fits: the memory has room for its pieces behind the log, and its addresses are small
 pub record Fitting (m : List ℕ) (h : Header) (b : Block) : Type 0 where
   pub short : length (b .bytes) ≤ data-limit
   pub below : b .at .address + length (b .bytes) ≤ last-number
-  pub nodes : h .nodes + block-nodes (length (b .bytes)) ≤ 1048576
-  pub entries : h .entries + entry-charge (length (b .bytes)) ≤ 1048576
-  pub count : h .payload ≤ 1048576
   pub room : header-size + logged-size * (h .payload + piece-count (length (b .bytes))) ≤ length m
 
 -- ── record ──

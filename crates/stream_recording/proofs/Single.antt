@@ -6,10 +6,10 @@ use mathlib.Core.Bool.{Bool, true, false, cond}
 use mathlib.Core.List.{List}
 use mathlib.Core.Option.{Option, none, some}
 use lib.ListN.{length}
-use lib.Dec.{ltb, eqb}
+use lib.Dec.{eqb}
 use borrow.Author.Tests.{eqb-true, eqb-false}
 use Rattle.definitions.specs.Blocks.{Block}
-use Rattle.definitions.specs.BlockStream.{Read, block, nothing, refused, read-block-checks, read-or-refuse, read-block}
+use Rattle.definitions.specs.BlockStream.{Read, block, nothing, refused, read-block}
 use Rattle.definitions.specs.Causes.{Cause, number, first-cause}
 use Rattle.definitions.specs.Calls.{stream-checks}
 use Rattle.definitions.proofs.Checks.{number-some}
@@ -19,23 +19,13 @@ use Rattle.recording.specs.Record.{record-memory}
 use Rattle.recording.proofs.Outcome.{record-leaves}
 use Rattle.stream_recording.specs.Stream.{StreamDone, stopped, behind, record-read, record-from, unless-stopped, record-stream}
 use Rattle.stream_recording.specs.Promises.{first-blocks, cursor-behind, recorded-singly, AllTaken, next-number, TakesRecords, Singly, StreamIsSingle, StreamLeaves}
-
--- ---- what reading gives
+use Rattle.stream_recording.proofs.Refusals.{read-refused}
 
 -- a refusal of reading has a number
 refused-some : (s : List ℕ) (at n : ℕ) → refused n ≡ read-block s at → n ≡ 0 → ⊥
-refused-some s at n e z = go (ltb (length s) at) (eqb at (length s)) (first-cause (read-block-checks s at)) e
-  where
-    numbered : (k : ℕ) → refused n ≡ refused k → (k ≡ 0 → ⊥) → ⊥
-    numbered k f g =
-        let i : n ≡ k = cc in
-        g (sym i ∙ z)
-
-    go : (o₁ o₂ : Bool) (a : Option Cause) → refused n ≡ cond o₁ (refused 13) (cond o₂ nothing (read-or-refuse a s at)) → ⊥
-    go true o₂ a f = numbered 13 f (λ y. omega arith)
-    go false true a f = let y : _≡_ {A = ℕ} 0 1 = cc in omega arith
-    go false false none f = let y : _≡_ {A = ℕ} 0 1 = cc in omega arith
-    go false false (some c) f = numbered (number c) f (number-some c)
+refused-some s at n e z =
+    let f = read-refused s at n e in
+    number-some (f .cause) (sym (f .is) ∙ z)
 
 -- ---- from a cursor on
 

@@ -5,7 +5,6 @@ use judging::Judged;
 use location::SpacetimeLocation;
 use memory_header::Header;
 ghost use mathlib.Core.Path.{_≡_};
-ghost use mathlib.Core.Bool.{true, false};
 ghost use Prim.Native.Nat.{_≤_, _<_};
 ghost use lib.ListN.{length};
 ghost use Rattle.definitions.specs.BlockStream.{read-block};
