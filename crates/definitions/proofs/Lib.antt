@@ -15,9 +15,12 @@ pub mod Single
 pub mod Combine
 pub mod Runs
 pub mod Cutting
+pub mod Sharing
+pub mod Free
 pub mod Theorems
 pub mod Tallied
 pub mod Checks
 pub mod Taken
+pub mod Conflicts
 pub mod Promised
 pub mod Instance

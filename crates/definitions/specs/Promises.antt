@@ -1,16 +1,17 @@
 -- What a reader may conclude: the order of the checks of each call, and places, rows and recordings. Assumes nothing.
 use Prim.Native.Nat.{ℕ, _<_}
 use mathlib.Core.Path.{_≡_}
-use mathlib.Core.Bool.{Bool, cond}
+use mathlib.Core.Bool.{Bool, true, false, cond}
 use mathlib.Core.Logic.{_↔_}
 use mathlib.Core.List.{List, [], _∷_, _++_, List·Memᴰ}
 use lib.ListN.{length, getD, take, drop}
 use lib.Dec.{eqb}
 use Rattle.definitions.specs.Location.{Location, Less, Sorted}
-use Rattle.definitions.specs.Blocks.{Block, Piece, memory-kind}
+use Rattle.definitions.specs.Blocks.{Block, Piece, memory-kind, pieces, pieces-of}
 use Rattle.definitions.specs.Places.{T, table}
 use Rattle.definitions.specs.Rows.{rows}
 use Rattle.definitions.specs.Runs.{RowsAreRuns, Consistent, SameRows, SameHeld}
+use Rattle.definitions.specs.Conflicts.{shares, conflicts-with, clash, free, Common}
 use Rattle.definitions.specs.Causes.{Cause, scratch-too-small, too-many-rows, scratch-kept, causes, checked, opening, record-call, record-stream-call, finish-call, search-call, save-call, load-call, read-block-call, line-call}
 use Rattle.definitions.specs.Calls.{Capacity, Standing, open-checks, stream-checks, record-checks, finish-checks, search-checks, save-checks, load-checks}
 use Rattle.definitions.specs.Recording.{Call, taken, Sound}
@@ -65,3 +66,29 @@ RecordingRows = (c : Capacity) (ks : List Call) → Consistent (taken c ks) → 
 -- two consistent recordings have the same rows exactly when they hold the same bytes
 abbrev pub RecordingsSame : Type 0
 RecordingsSame = (c c′ : Capacity) (ks ks′ : List Call) → Consistent (taken c ks) → Consistent (taken c′ ks′) → SameRows (taken c ks) (taken c′ ks′) ↔ SameHeld (taken c ks) (taken c′ ks′)
+
+-- ── conflicts ──
+
+-- two blocks share exactly where some address and tick is covered by both
+abbrev pub SharesIs : Type 0
+SharesIs = (p r : Block) → (shares p r ≡ true) ↔ Common p r
+
+-- a block conflicts with what is held exactly if one of its pieces does
+abbrev pub BlockClashes : Type 0
+BlockClashes = (b : Block) (held : List Piece) → clash (pieces b) held ≡ conflicts-with b held
+
+-- an empty block conflicts with nothing
+abbrev pub EmptyFree : Type 0
+EmptyFree = (b : Block) (held : List Piece) → length (b .bytes) ≡ 0 → conflicts-with b held ≡ false
+
+-- a block's own pieces never conflict
+abbrev pub OwnFree : Type 0
+OwnFree = (b : Block) → free (pieces b) ≡ true
+
+-- the pieces of blocks are free of conflicts exactly if the blocks are consistent
+abbrev pub FreeConsistent : Type 0
+FreeConsistent = (bs : List Block) → (free (pieces-of bs) ≡ true) ↔ Consistent bs
+
+-- blocks stay consistent with one more that clashes with none of their pieces
+abbrev pub ConsistentAdded : Type 0
+ConsistentAdded = (bs : List Block) (b : Block) → Consistent bs → clash (pieces b) (pieces-of bs) ≡ false → Consistent (bs ++ (b ∷ []))
