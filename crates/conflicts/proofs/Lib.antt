@@ -1,0 +1,4 @@
+-- Tests and counts; entries in line; the order of pieces. Assumes nothing.
+pub mod Together
+pub mod Counting
+pub mod Numbers

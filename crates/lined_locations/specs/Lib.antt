@@ -1,0 +1,2 @@
+-- `Line` has what the contracts cite. Assumes nothing.
+pub mod Line
