@@ -1,10 +1,10 @@
--- The sample of document 01 is consistent, so what the theorems ask can be met. Assumes nothing.
+-- The sample of document 01: what the theorem says of its row. Assumes nothing.
 use Prim.Native.Nat.{ℕ, _<_}
 use native.Mathlib.Omega.{arith}
-use mathlib.Core.Path.{_≡_, refl, sym, subst}
-use mathlib.Core.List.{List, [], _∷_, List·Memᴰ as Mem, List·Memᴰ·head as here, List·Memᴰ·tail as later}
+use mathlib.Core.Path.{_≡_, refl}
+use mathlib.Core.List.{List, [], _∷_, List·Memᴰ·head as here}
 use Rattle.definitions.specs.Blocks.{Block}
-use Rattle.definitions.specs.Runs.{Apart, Consistent, LongestRun}
+use Rattle.definitions.specs.Runs.{LongestRun}
 use Rattle.definitions.specs.Calls.{Capacity}
 use Rattle.definitions.specs.Recording.{Call, record-block, finish, taken}
 use Rattle.definitions.specs.Program.{program-capacity}
@@ -27,18 +27,6 @@ sample-calls = record-block 1 first ∷ record-block 1 second ∷ record-block 1
 sample-taken : taken program-capacity sample-calls ≡ first ∷ second ∷ third ∷ []
 sample-taken = refl
 
--- a property of every member, member by member
-abbrev Each : (Block → Type 0) → List Block → Type 0
-Each P [] = Unit {0}
-Each P (b ∷ bs) = P b × Each P bs
-
-each : (P : Block → Type 0) (bs : List Block) → Each P bs → (b : Block) → Mem b bs → P b
-each P (c ∷ bs) h b (here e) = subst P (sym e) (h .0)
-each P (c ∷ bs) h b (later m) = each P bs (h .1) b m
-
-pub sample-consistent : Consistent (taken program-capacity sample-calls)
-sample-consistent = (each (Apart first) (second ∷ third ∷ []) (omega arith), (each (Apart second) (third ∷ []) (omega arith), (each (Apart third) [] tt, tt)))
-
--- so its row is a longest run
+-- its row is a longest run
 pub sample-run : LongestRun (taken program-capacity sample-calls) (0x63 ∷ 0x64 ∷ []) (location 102 10 50)
-sample-run = recording-rows program-capacity sample-calls sample-consistent (0x63 ∷ 0x64 ∷ []) (omega arith) .exactly (location 102 10 50) .0 (here refl)
+sample-run = recording-rows program-capacity sample-calls (0x63 ∷ 0x64 ∷ []) (omega arith) .exactly (location 102 10 50) .0 (here refl)

@@ -20,7 +20,7 @@ pub mod Free
 pub mod Theorems
 pub mod Tallied
 pub mod Checks
-pub mod Taken
 pub mod Conflicts
+pub mod Taken
 pub mod Promised
 pub mod Instance

@@ -1,5 +1,5 @@
 -- What the specs promise of places, rows and recordings is proved. Assumes nothing.
-use Rattle.definitions.specs.Promises.{TableIsT, TableSorted, RowsBySet, TakenSound, RecordingRows, RecordingsSame}
+use Rattle.definitions.specs.Promises.{TableIsT, TableSorted, RowsBySet, TakenSound, TakenConsistent, RecordingRows, RecordingsSame}
 use Rattle.definitions.proofs.Chains as chains
 use Rattle.definitions.proofs.Taken as recordings
 
@@ -14,6 +14,9 @@ rows-by-set = chains.rows-by-set
 
 pub taken-sound : TakenSound
 taken-sound = recordings.taken-sound
+
+pub taken-consistent : TakenConsistent
+taken-consistent = recordings.taken-consistent
 
 pub recording-rows : RecordingRows
 recording-rows = recordings.recording-rows

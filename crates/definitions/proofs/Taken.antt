@@ -12,46 +12,52 @@ use borrow.Author.Tests.{ltb-false, leb-false}
 use Rattle.definitions.specs.Location.{Location}
 use Rattle.definitions.specs.Blocks.{Block, Piece, pieces, pieces-of, nodes-tallied, entries-tallied}
 use Rattle.definitions.specs.Runs.{Holds, RowsAreRuns, Consistent, Alive, SameRows, SameHeld}
+use Rattle.definitions.specs.Conflicts.{clash}
 use Rattle.definitions.specs.Causes.{Cause}
 use Rattle.definitions.specs.Calls.{Capacity, Recorded, fresh, standing, added, data-limit, last-number, memory-checks, block-checks, record-checks, record-answer, unless-refused, recorded}
 use Rattle.definitions.specs.Recording.{Call, record-block, finish, search, after, after-all, taken, Finished, Sound}
 use Rattle.definitions.proofs.Checks.{NoneApplies, none-applies}
 use Rattle.definitions.proofs.Cutting.{pieces-added}
+use Rattle.definitions.proofs.Conflicts.{consistent-added}
 use Rattle.definitions.proofs.Theorems.{rows-are-runs, same-rows-same-held}
 
 -- ── a block that is taken ──
 
 -- what is known of a Memory block that no check turned back
-pub record Passed (c : Capacity) (nodes entries n : ℕ) (l : Location) : Type 0 where
+pub record Passed (c : Capacity) (clashes : Bool) (nodes entries n : ℕ) (l : Location) : Type 0 where
   pub short : n ≤ data-limit
   pub alive : l .created < l .destroyed
   pub below : l .address + n ≤ last-number
+  pub apart : clashes ≡ false
   pub few-nodes : nodes ≤ c .nodes
   pub few-entries : entries ≤ c .entries
 
-pub passed : (c : Capacity) (nodes entries n : ℕ) (l : Location) → NoneApplies (memory-checks c nodes entries n l) → Passed c nodes entries n l
-passed c nodes entries n l f = record {
+pub passed : (c : Capacity) (clashes : Bool) (nodes entries n : ℕ) (l : Location) → NoneApplies (memory-checks c clashes nodes entries n l) → Passed c clashes nodes entries n l
+passed c clashes nodes entries n l f = record {
   short = ltb-false data-limit n (f .0);
   alive = leb-false (l .destroyed) (l .created) (f .1 .0);
   below = ltb-false last-number (l .address + n) (f .1 .1 .0);
-  few-nodes = ltb-false (c .nodes) nodes (f .1 .1 .1 .0);
-  few-entries = ltb-false (c .entries) entries (f .1 .1 .1 .1 .0);
+  apart = f .1 .1 .1 .0;
+  few-nodes = ltb-false (c .nodes) nodes (f .1 .1 .1 .1 .0);
+  few-entries = ltb-false (c .entries) entries (f .1 .1 .1 .1 .1 .0);
 }
 
 -- of a block behind pieces
 abbrev PassedBehind : Capacity → List Piece → Block → Type 0
-PassedBehind c ps b = Passed c (nodes-tallied (ps ++ pieces b)) (entries-tallied (ps ++ pieces b)) (length (b .bytes)) (b .at)
+PassedBehind c ps b = Passed c (clash (pieces b) ps) (nodes-tallied (ps ++ pieces b)) (entries-tallied (ps ++ pieces b)) (length (b .bytes)) (b .at)
 
 -- ── what the calls of a recording have made of a fresh index ──
 
 pub record Right (c : Capacity) (s : Recorded) : Type 0 where
   pub sound : (b : Block) → Mem b (s .blocks) → Sound b
+  pub consistent : Consistent (s .blocks)
   pub nodes : 1 ≤ c .nodes → nodes-tallied (pieces-of (s .blocks)) ≤ c .nodes
   pub entries : entries-tallied (pieces-of (s .blocks)) ≤ c .entries
 
 right-added : (c : Capacity) (s : Recorded) (b : Block) → Right c s → PassedBehind c (pieces-of (s .blocks)) b → Right c (record { blocks = added s b; finished = s .finished })
 right-added c s b r p = record {
   sound = λ x h. go x (append-cases (s .blocks) h);
+  consistent = consistent-added (s .blocks) b (r .consistent) (p .apart);
   nodes = λ h. subst (λ (ps : List Piece). nodes-tallied ps ≤ c .nodes) (sym (pieces-added (s .blocks) b)) (p .few-nodes);
   entries = subst (λ (ps : List Piece). entries-tallied ps ≤ c .entries) (sym (pieces-added (s .blocks) b)) (p .few-entries);
 }
@@ -64,7 +70,7 @@ right-recorded : (c : Capacity) (s : Recorded) (kind : ℕ) (b : Block) → Righ
 right-recorded c s kind b r = go (eqb kind 1) refl (record-answer c s kind b) refl
   where
     memory : eqb kind 1 ≡ true → record-answer c s kind b ≡ none → PassedBehind c (pieces-of (s .blocks)) b
-    memory e f = passed c _ _ _ _ (subst (λ (x : Bool). NoneApplies (cond x (block-checks c (pieces-of (s .blocks)) b) [])) e (none-applies (record-checks (standing c s) kind b) f .1 .1 .1))
+    memory e f = passed c _ _ _ _ _ (subst (λ (x : Bool). NoneApplies (cond x (block-checks c (pieces-of (s .blocks)) b) [])) e (none-applies (record-checks (standing c s) kind b) f .1 .1 .1))
 
     go : (o : Bool) → eqb kind 1 ≡ o → (a : Option Cause) → record-answer c s kind b ≡ a → Right c (unless-refused a s (cond o (record { blocks = added s b; finished = s .finished }) s))
     go o e (some x) f = r
@@ -73,7 +79,7 @@ right-recorded c s kind b r = go (eqb kind 1) refl (record-answer c s kind b) re
 
 pub right-after : (c : Capacity) (s : Recorded) (k : Call) → Right c s → Right c (after c s k)
 right-after c s (record-block kind b) r = right-recorded c s kind b r
-right-after c s finish r = record { sound = r .sound; nodes = r .nodes; entries = r .entries }
+right-after c s finish r = record { sound = r .sound; consistent = r .consistent; nodes = r .nodes; entries = r .entries }
 right-after c s (search q scratch room) r = r
 
 right-after-all : (c : Capacity) (s : Recorded) (ks : List Call) → Right c s → Right c (after-all c s ks)
@@ -81,7 +87,7 @@ right-after-all c s [] r = r
 right-after-all c s (k ∷ ks) r = right-after-all c (after c s k) ks (right-after c s k r)
 
 pub right-recording : (c : Capacity) (ks : List Call) → Right c (after-all c fresh ks)
-right-recording c ks = right-after-all c fresh ks (record { sound = λ b h. absurd (not-nil h); nodes = λ h. h; entries = omega arith })
+right-recording c ks = right-after-all c fresh ks (record { sound = λ b h. absurd (not-nil h); consistent = tt; nodes = λ h. h; entries = omega arith })
 
 pub taken-sound : (c : Capacity) (ks : List Call) (b : Block) → Mem b (taken c ks) → Sound b
 taken-sound c ks b h = right-recording c ks .sound b h
@@ -116,10 +122,13 @@ finished-recording c s (k ∷ ks) (later h) = finished-recording c (after c s k)
 
 -- ── rows of whole recordings ──
 
--- for every capacity and list of calls whose taken blocks are consistent: the rows are exactly the longest runs
-pub recording-rows : (c : Capacity) (ks : List Call) → Consistent (taken c ks) → (q : List ℕ) → 0 < length q → RowsAreRuns (taken c ks) q
-recording-rows c ks h q l = rows-are-runs (taken c ks) h (taken-alive c ks) q l
+pub taken-consistent : (c : Capacity) (ks : List Call) → Consistent (taken c ks)
+taken-consistent c ks = right-recording c ks .consistent
+
+-- for every capacity and list of calls: the rows are exactly the longest runs
+pub recording-rows : (c : Capacity) (ks : List Call) → (q : List ℕ) → 0 < length q → RowsAreRuns (taken c ks) q
+recording-rows c ks q l = rows-are-runs (taken c ks) (taken-consistent c ks) (taken-alive c ks) q l
 
 -- two recordings, of any capacities and lengths: the same rows exactly when they hold the same bytes
-pub recordings-same : (c c′ : Capacity) (ks ks′ : List Call) → Consistent (taken c ks) → Consistent (taken c′ ks′) → SameRows (taken c ks) (taken c′ ks′) ↔ SameHeld (taken c ks) (taken c′ ks′)
-recordings-same c c′ ks ks′ h h′ = same-rows-same-held (taken c ks) (taken c′ ks′) h (taken-alive c ks) h′ (taken-alive c′ ks′)
+pub recordings-same : (c c′ : Capacity) (ks ks′ : List Call) → SameRows (taken c ks) (taken c′ ks′) ↔ SameHeld (taken c ks) (taken c′ ks′)
+recordings-same c c′ ks ks′ = same-rows-same-held (taken c ks) (taken c′ ks′) (taken-consistent c ks) (taken-alive c ks) (taken-consistent c′ ks′) (taken-alive c′ ks′)

@@ -7,9 +7,10 @@ use lib.ListN.{length}
 use lib.Dec.{ltb, leb, eqb}
 use Rattle.definitions.specs.Location.{Location}
 use Rattle.definitions.specs.Blocks.{Block, Piece, memory-kind, last-kind, pieces, pieces-of, nodes-tallied, entries-tallied}
+use Rattle.definitions.specs.Conflicts.{clash}
 use Rattle.definitions.specs.Places.{places-counted}
 use Rattle.definitions.specs.Rows.{rows}
-use Rattle.definitions.specs.Causes.{Cause, number, capacity-refused, index-rule-broken, record-after-finish, before-finish, data-too-long, no-life, address-too-high, too-many-nodes, too-many-entries, query-too-long, scratch-too-small, too-many-rows, save-buffer-too-short, cut-short, unknown-kind, image-broken, Check, first-cause}
+use Rattle.definitions.specs.Causes.{Cause, number, capacity-refused, index-rule-broken, record-after-finish, before-finish, data-too-long, no-life, address-too-high, conflict, too-many-nodes, too-many-entries, query-too-long, scratch-too-small, too-many-rows, save-buffer-too-short, cut-short, unknown-kind, image-broken, Check, first-cause}
 
 abbrev pub data-limit : ℕ
 data-limit = 4096
@@ -72,17 +73,18 @@ capacity-checks c nodes entries =
     record { applies = ltb (c .nodes) nodes; cause = too-many-nodes } ∷
     record { applies = ltb (c .entries) entries; cause = too-many-entries } ∷ []
 
--- a Memory block of n bytes at l, with which the tally has so many nodes and entries
-abbrev pub memory-checks : Capacity → (nodes entries : ℕ) → (n : ℕ) → Location → List Check
-memory-checks c nodes entries n l =
+-- a Memory block of n bytes at l that clashes with what is held or not, and with which the tally has so many nodes and entries
+abbrev pub memory-checks : Capacity → (clashes : Bool) → (nodes entries : ℕ) → (n : ℕ) → Location → List Check
+memory-checks c clashes nodes entries n l =
     record { applies = ltb data-limit n; cause = data-too-long } ∷
     record { applies = leb (l .destroyed) (l .created); cause = no-life } ∷
     record { applies = ltb last-number (l .address + n); cause = address-too-high } ∷
+    record { applies = clashes; cause = conflict } ∷
     capacity-checks c nodes entries
 
 -- a Memory block behind pieces that are held
 abbrev pub block-checks : Capacity → List Piece → Block → List Check
-block-checks c ps b = memory-checks c (nodes-tallied (ps ++ pieces b)) (entries-tallied (ps ++ pieces b)) (length (b .bytes)) (b .at)
+block-checks c ps b = memory-checks c (clash (pieces b) ps) (nodes-tallied (ps ++ pieces b)) (entries-tallied (ps ++ pieces b)) (length (b .bytes)) (b .at)
 
 -- what recording asks of an index before any block; a stream is put to it once, an empty one too
 abbrev pub stream-checks : Standing → List Check
@@ -117,7 +119,7 @@ save-checks s image buffer =
     finish-check s ∷
     record { applies = ltb buffer image; cause = save-buffer-too-short } ∷ []
 
--- an image's own refusal has this number, 0 for none: its first faulty field decides between 13, 14 and 15
+-- an image's own refusal has this number, 0 for none: its first faulty field decides between 13, 14 and 15, and 18 is last
 abbrev pub fault-check : ℕ → Cause → Check
 fault-check fault c = record { applies = eqb fault (number c); cause = c }
 
@@ -127,6 +129,7 @@ image-checks c fault nodes entries =
     fault-check fault cut-short ∷
     fault-check fault unknown-kind ∷
     fault-check fault image-broken ∷
+    fault-check fault conflict ∷
     capacity-checks c nodes entries
 
 abbrev pub load-checks : Standing → (fault nodes entries : ℕ) → List Check

@@ -1,4 +1,4 @@
--- Document 01, "Causes and their numbers": each cause, its number, and the order in which each call checks them.
+-- Document 01, "Causes and their numbers", and 18 of document 02: each cause, its number, and the order in which each call checks them.
 -- Assumes nothing.
 use Prim.Native.Nat.{ℕ}
 use mathlib.Core.Path.{_≡_}
@@ -22,6 +22,8 @@ pub data Cause : Type 0 where
   no-life : Cause
   -- address + length > 2^64 - 1
   address-too-high : Cause
+  -- a block shares a byte address and a live tick with a piece held (load: two pieces do)
+  conflict : Cause
   -- node charge over capacity (load: nodes)
   too-many-nodes : Cause
   -- entry charge over capacity (load: entries)
@@ -60,6 +62,7 @@ number cut-short = 13
 number unknown-kind = 14
 number image-broken = 15
 number no-form = 17
+number conflict = 18
 
 -- ── the order in which each call checks them ──
 
@@ -79,12 +82,12 @@ pub data CallName : Type 0 where
 -- a stream is put to 1 and 2 once, and each of its blocks to the others
 abbrev pub checked : CallName → List Cause
 checked opening = capacity-refused ∷ []
-checked record-call = index-rule-broken ∷ record-after-finish ∷ unknown-kind ∷ data-too-long ∷ no-life ∷ address-too-high ∷ too-many-nodes ∷ too-many-entries ∷ []
-checked record-stream-call = index-rule-broken ∷ record-after-finish ∷ cut-short ∷ unknown-kind ∷ data-too-long ∷ no-life ∷ address-too-high ∷ too-many-nodes ∷ too-many-entries ∷ []
+checked record-call = index-rule-broken ∷ record-after-finish ∷ unknown-kind ∷ data-too-long ∷ no-life ∷ address-too-high ∷ conflict ∷ too-many-nodes ∷ too-many-entries ∷ []
+checked record-stream-call = index-rule-broken ∷ record-after-finish ∷ cut-short ∷ unknown-kind ∷ data-too-long ∷ no-life ∷ address-too-high ∷ conflict ∷ too-many-nodes ∷ too-many-entries ∷ []
 checked finish-call = index-rule-broken ∷ []
 checked search-call = index-rule-broken ∷ before-finish ∷ query-too-long ∷ scratch-too-small ∷ too-many-rows ∷ []
 checked save-call = index-rule-broken ∷ before-finish ∷ save-buffer-too-short ∷ []
-checked load-call = index-rule-broken ∷ cut-short ∷ unknown-kind ∷ image-broken ∷ too-many-nodes ∷ too-many-entries ∷ []
+checked load-call = index-rule-broken ∷ cut-short ∷ unknown-kind ∷ image-broken ∷ conflict ∷ too-many-nodes ∷ too-many-entries ∷ []
 checked read-block-call = cut-short ∷ unknown-kind ∷ []
 checked line-call = no-form ∷ []
 

@@ -12,3 +12,4 @@ pub mod BlockStream
 pub mod Program
 pub mod Promises
 pub mod Starred
+pub mod Examples

@@ -59,13 +59,17 @@ RowsBySet = (ps ps′ : List Piece) → SamePieces ps ps′ → (q : List ℕ) �
 abbrev pub TakenSound : Type 0
 TakenSound = (c : Capacity) (ks : List Call) (b : Block) → List·Memᴰ b (taken c ks) → Sound b
 
--- the rows of a consistent recording are exactly the longest runs, each once, in order
-abbrev pub RecordingRows : Type 0
-RecordingRows = (c : Capacity) (ks : List Call) → Consistent (taken c ks) → (q : List ℕ) → 0 < length q → RowsAreRuns (taken c ks) q
+-- what was taken is consistent
+abbrev pub TakenConsistent : Type 0
+TakenConsistent = (c : Capacity) (ks : List Call) → Consistent (taken c ks)
 
--- two consistent recordings have the same rows exactly when they hold the same bytes
+-- the rows of a recording are exactly the longest runs, each once, in order
+abbrev pub RecordingRows : Type 0
+RecordingRows = (c : Capacity) (ks : List Call) → (q : List ℕ) → 0 < length q → RowsAreRuns (taken c ks) q
+
+-- two recordings have the same rows exactly when they hold the same bytes
 abbrev pub RecordingsSame : Type 0
-RecordingsSame = (c c′ : Capacity) (ks ks′ : List Call) → Consistent (taken c ks) → Consistent (taken c′ ks′) → SameRows (taken c ks) (taken c′ ks′) ↔ SameHeld (taken c ks) (taken c′ ks′)
+RecordingsSame = (c c′ : Capacity) (ks ks′ : List Call) → SameRows (taken c ks) (taken c′ ks′) ↔ SameHeld (taken c ks) (taken c′ ks′)
 
 -- ── conflicts ──
 

@@ -1,4 +1,4 @@
-// The numbers of document 01 that the code shares: refusals, and limits.
+// The numbers of documents 01 and 02 that the code shares: refusals, and limits.
 
 // Opening with 0 or over 1,048,576 nodes or entries, or with more than the lent memory holds.
 pub const CAPACITY_REFUSED: u64 = 16;
@@ -34,6 +34,8 @@ pub const UNKNOWN_KIND: u64 = 14;
 pub const IMAGE_BROKEN: u64 = 15;
 // Program line is no form.
 pub const NO_FORM: u64 = 17;
+// A block shares a byte address and a live tick with a piece held; in loading, two pieces of the image do.
+pub const CONFLICT: u64 = 18;
 
 // The kind of a block whose bytes are recorded, and the last kind that there is.
 pub const MEMORY_KIND: u8 = 1;
