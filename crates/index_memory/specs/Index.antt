@@ -5,13 +5,16 @@ use mathlib.Core.Bool.{Bool, true, false, _&&_, cond}
 use mathlib.Core.List.{List, []}
 use lib.ListN.{length, take, drop}
 use lib.Dec.{eqb}
+use Rattle.words.specs.Holding.{stands}
 use Rattle.definitions.specs.Blocks.{Piece, nodes-tallied, entries-tallied}
+use Rattle.definitions.specs.Conflicts.{free}
 use Rattle.definitions.specs.Calls.{Capacity, Standing, header-size}
+use Rattle.conflicts.specs.Order.{certificate}
 use Rattle.trie.specs.Trie.{Trie, trie-pieces}
 use Rattle.image_format.specs.Reading.{Layout, right, refused}
 use Rattle.image_format.specs.Check.{check-image}
 use Rattle.image_format.specs.Held.{trie-in}
-use Rattle.memory_header.specs.Layout.{Header, header-at, header-right}
+use Rattle.memory_header.specs.Layout.{Header, work-at, header-at, header-right}
 use Rattle.index_memory.specs.Log.{log-in, log-sound}
 
 -- what a memory holds
@@ -34,9 +37,17 @@ open-header c ps = record { capacity = c; phase = 0; nodes = nodes-tallied ps; e
 abbrev pub log-right : List ℕ → Header → Bool
 log-right m h = log-sound m (h .payload) header-size && (eqb (h .nodes) (nodes-tallied (log-in m (h .payload) header-size)) && eqb (h .entries) (entries-tallied (log-in m (h .payload) header-size)))
 
--- phase 0: the log decides
+-- the certificate of these pieces stands at the beginning of the room to work in
+abbrev pub certified : List ℕ → Capacity → List Piece → Bool
+certified m c ps = stands m (work-at c) (certificate ps)
+
+-- no two pieces conflict, and their certificate is there
+abbrev pub order-right : List ℕ → Header → Bool
+order-right m h = free (log-in m (h .payload) header-size) && certified m (h .capacity) (log-in m (h .payload) header-size)
+
+-- phase 0: the log and its certificate decide
 abbrev pub open-index : List ℕ → Header → Index
-open-index m h = cond (log-right m h) (opened (h .capacity) (log-in m (h .payload) header-size)) broken
+open-index m h = cond (log-right m h && order-right m h) (opened (h .capacity) (log-in m (h .payload) header-size)) broken
 
 -- the image in a finished index's memory
 abbrev pub image-part : List ℕ → Header → List ℕ

