@@ -1,4 +1,4 @@
--- An image is accepted exactly if its layout is right and the trie that it holds meets the index rule. Assumes nothing.
+-- An image is accepted exactly if its layout is right and the trie that it holds meets the index rule, without conflicts. Assumes nothing.
 use Prim.Native.Nat.{ℕ, zero, suc, _^_, _≤_, _<_}
 use native.Mathlib.Omega.{arith}
 use mathlib.Core.Path.{_≡_, refl, subst}
@@ -8,7 +8,8 @@ use mathlib.Core.List.{List, [], _∷_}
 use mathlib.Core.Option.{Option, none, some}
 use lib.ListN.{length}
 use lib.Dec.{eqb}
-use Rattle.trie.specs.Trie.{Forest, leaf, more, Node, Trie, empty, root, child, walk, node-at}
+use Rattle.definitions.specs.Conflicts.{free}
+use Rattle.trie.specs.Trie.{Forest, leaf, more, Node, Trie, empty, root, child, walk, node-at, trie-pieces}
 use Rattle.trie.specs.Rule.{Rule}
 use Rattle.trie.specs.Test.{index-rule}
 use Rattle.trie.proofs.Test.{rule-test-is}
@@ -17,9 +18,9 @@ use Rattle.image_format.proofs.Theorems.{read-image-is}
 use Rattle.image_format.specs.Held.{trie-in}
 use Rattle.image_format.specs.Reading.{Layout, right, refused, read-image}
 use Rattle.image_format.specs.Savable.{AllBytes, Shaped, Short}
-use Rattle.image_format.specs.Check.{and-rule, check-image}
-use Rattle.index_rule.specs.Promises.{IndexRuleIs, CheckImageIs}
-use Rattle.image_format.proofs.Verdict.{accepted}
+use Rattle.image_format.specs.Check.{check-image}
+use Rattle.index_rule.specs.Promises.{IndexRuleIs, CheckImageIs, CheckImageConflict}
+use Rattle.image_format.proofs.Verdict.{Accepted, check-accepts, accepts-check}
 
 -- ── no path exceeds the levels ──
 
@@ -57,18 +58,22 @@ index-rule-is (root n) v = rule-test-is n (λ path h. short-path path 16 n (h .n
 
 -- ── the whole check ──
 
+module _ (s : List ℕ) (a : AllBytes s) (l : length s < 2 ^ 64) (k e : ℕ) where
+  rule : read-image s ≡ right k e → (index-rule (trie-in s) ≡ true) ↔ Rule (trie-in s)
+  rule f = index-rule-is (trie-in s) (read-image-is s a l k e f .3 .shaped)
+
+  is : (check-image s ≡ right k e) ↔ ((read-image s ≡ right k e) × Rule (trie-in s) × (free (trie-pieces (trie-in s)) ≡ true))
+  is = (
+    (λ f. let x = check-accepts s k e f in (x .read, rule (x .read) .0 (x .rule), x .apart)),
+    λ x. accepts-check s k e (record { read = x .0; rule = rule (x .0) .1 (x .1); apart = x .2 }),
+  )
+
+  conflicts : read-image s ≡ right k e → Rule (trie-in s) → free (trie-pieces (trie-in s)) ≡ false → check-image s ≡ refused 18
+  unfolding check-image
+  conflicts f r x = rw (f, rule f .1 r, x)
+
 pub check-image-is : CheckImageIs
-unfolding check-image
-check-image-is s a l k e = (to, fro)
-  where
-    o : Bool
-    o = index-rule (trie-in s)
+check-image-is = is
 
-    rule : read-image s ≡ right k e → (o ≡ true) ↔ Rule (trie-in s)
-    rule f = index-rule-is (trie-in s) (read-image-is s a l k e f .3 .shaped)
-
-    to : and-rule o (read-image s) ≡ right k e → (read-image s ≡ right k e) × Rule (trie-in s)
-    to f = let x = accepted o (read-image s) k e .0 f in (x .0, rule (x .0) .0 (x .1))
-
-    fro : (read-image s ≡ right k e) × Rule (trie-in s) → and-rule o (read-image s) ≡ right k e
-    fro x = accepted o (read-image s) k e .1 (x .0, rule (x .0) .1 (x .1))
+pub check-image-conflict : CheckImageConflict
+check-image-conflict = conflicts

@@ -6,9 +6,12 @@ use mathlib.Core.Bool.{Bool, true, false, _&&_, cond}
 use mathlib.Core.List.{List}
 use lib.ListN.{length, getD}
 use borrow.Author.Tests.{eq-eqb}
+use Rattle.definitions.specs.Conflicts.{free}
+use Rattle.definitions.specs.Causes.{image-broken, conflict}
+use Rattle.trie.specs.Trie.{trie-pieces}
 use Rattle.trie.specs.Test.{node-right, fronts-within, forest-right, siblings, index-rule}
 use Rattle.image_format.specs.Held.{trie-in}
-use Rattle.image_format.specs.Reading.{right, refused, read-image, read-root, RightImage}
+use Rattle.image_format.specs.Reading.{Layout, right, refused, read-image, read-root, RightImage}
 use Rattle.image_format.specs.Savable.{AllBytes}
 use Rattle.image_walk.specs.Parts.{parts-at}
 use Rattle.image_walk.specs.Here.{RootHere}
@@ -17,7 +20,7 @@ use Rattle.node_rule.specs.Parts.{PartsOf, HasParts, HasTable}
 use Rattle.single_runs.specs.Says.{children-right, ChildrenAsked, ChildrenSays}
 use Rattle.fronts.specs.FrontRule.{RootFronts}
 use Rattle.node_rule.specs.OneNode.{SaysNode}
-use Rattle.image_format.specs.Check.{and-rule, check-image}
+use Rattle.image_format.specs.Check.{and-if, check-image}
 use Rattle.node_rule.proofs.Parts.{parts-of}
 use Rattle.node_rule.proofs.Owed.{and-not, and-so}
 use Rattle.image_walk.specs.declared.Node.{Node as Parts}
@@ -86,15 +89,13 @@ module _ (s : List ℕ) (h : RootHere s) (c : Parts) (g : c ≡ parts-at s 0) wh
 module _ (s : List ℕ) where
   pub check-refused : (n : ℕ) → refused n ≡ read-image s → refused n ≡ check-image s
   unfolding check-image
-  check-refused n e = ap (and-rule (index-rule (trie-in s))) e
+  check-refused n e = ap (λ (l : Layout). and-if (free (trie-pieces (trie-in s))) conflict (and-if (index-rule (trie-in s)) image-broken l)) e
 
   module _ (k e : ℕ) (q : right k e ≡ read-image s) (r : Bool) (f : r ≡ index-rule (trie-in s)) where
-    check-by : cond r (right k e) (refused 15) ≡ check-image s
-    unfolding check-image
-    check-by = ap (λ (x : Bool). and-rule x (right k e)) f ∙ ap (and-rule (index-rule (trie-in s))) q
-
-    pub check-holds : r ≡ true → right k e ≡ check-image s
-    check-holds z = ap (λ (x : Bool). cond x (right k e) (refused 15)) (sym z) ∙ check-by
-
     pub check-fails : r ≡ false → refused 15 ≡ check-image s
-    check-fails z = ap (λ (x : Bool). cond x (right k e) (refused 15)) (sym z) ∙ check-by
+    unfolding check-image
+    check-fails z = sym (rw (sym q, sym f ∙ z))
+
+    pub check-by : r ≡ true → (o : Bool) → o ≡ free (trie-pieces (trie-in s)) → cond o (right k e) (refused 18) ≡ check-image s
+    unfolding check-image
+    check-by z o g = sym (rw (sym q, sym f ∙ z, sym g))

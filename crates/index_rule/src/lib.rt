@@ -1,4 +1,4 @@
-// The index rule of a finished index, and the one verdict on an image: its layout, then the rule.
+// The index rule of a finished index, and the one verdict on an image: its layout, the rule, and conflicts.
 ghost use mathlib.Core.Path.{_≡_};
 ghost use mathlib.Core.Bool.{true, false};
 ghost use Rattle.trie.specs.Test.{index-rule};
@@ -37,17 +37,20 @@ pub fn index_rule(s: &[u8]) -> bool
     forest_rule::children_right(s, below, &mut fronts, count, &mut lists)
 }
 
-// An image: its layout, and then the index rule of what it holds.
+// An image: its layout, then the index rule of what it holds, and last whether its pieces conflict.
 pub fn check(s: &[u8]) -> fields::Layout
     ensures { λ r. ⌜ layout-of r ≡ check-image (now (s .entry)) ⌝ }
 {
     match image::read_image(s) {
         fields::Layout::Refused(n) => fields::Layout::Refused(n),
         fields::Layout::Right(t) => {
-            if index_rule(s) {
+            if !index_rule(s) {
+                return fields::Layout::Refused(definitions::IMAGE_BROKEN);
+            }
+            if image_conflicts::conflict_free(s) {
                 fields::Layout::Right(t)
             } else {
-                fields::Layout::Refused(definitions::IMAGE_BROKEN)
+                fields::Layout::Refused(definitions::CONFLICT)
             }
         }
     }
