@@ -2,3 +2,4 @@
 pub mod Together
 pub mod Counting
 pub mod Numbers
+pub mod LinedFree
