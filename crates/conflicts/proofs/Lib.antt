@@ -2,3 +2,5 @@
 pub mod Together
 pub mod Counting
 pub mod Numbers
+pub mod Line
+pub mod LinedFree
