@@ -3,3 +3,4 @@ pub mod Together
 pub mod Counting
 pub mod Numbers
 pub mod LinedFree
+pub mod Order
