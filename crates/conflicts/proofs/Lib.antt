@@ -4,3 +4,6 @@ pub mod Counting
 pub mod Numbers
 pub mod LinedFree
 pub mod Order
+pub mod OwnEnds
+pub mod FreeNumbers
+pub mod OrderFree
