@@ -7,3 +7,4 @@ pub mod Order
 pub mod OwnEnds
 pub mod FreeNumbers
 pub mod OrderFree
+pub mod OrderOne
