@@ -2,6 +2,7 @@
 pub mod Together
 pub mod Counting
 pub mod Numbers
+pub mod Line
 pub mod LinedFree
 pub mod Order
 pub mod OwnEnds
