@@ -4,3 +4,8 @@ pub mod Counting
 pub mod Numbers
 pub mod Line
 pub mod LinedFree
+pub mod Order
+pub mod OwnEnds
+pub mod FreeNumbers
+pub mod OrderFree
+pub mod OrderOne
