@@ -1,4 +1,4 @@
--- Tests and counts; entries in line; the order of pieces. Assumes nothing.
+-- Tests and counts; entries in line; the order of pieces; pieces of an image by their locations. Assumes nothing.
 pub mod Together
 pub mod Counting
 pub mod Numbers
@@ -9,3 +9,5 @@ pub mod OwnEnds
 pub mod FreeNumbers
 pub mod OrderFree
 pub mod OrderOne
+pub mod Numbered
+pub mod Images
