@@ -1,0 +1,2 @@
+-- `Strikes` has what the contracts cite. Assumes nothing.
+pub mod Strikes

@@ -1,0 +1,2 @@
+-- `Entering` has what the contracts cite. Assumes nothing.
+pub mod Entering
