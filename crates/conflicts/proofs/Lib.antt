@@ -4,3 +4,4 @@ pub mod Counting
 pub mod Numbers
 pub mod Line
 pub mod LinedFree
+pub mod Order
