@@ -5,3 +5,6 @@ pub mod Numbers
 pub mod Line
 pub mod LinedFree
 pub mod Order
+pub mod OwnEnds
+pub mod FreeNumbers
+pub mod OrderFree
