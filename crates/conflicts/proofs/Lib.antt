@@ -8,3 +8,4 @@ pub mod Order
 pub mod OwnEnds
 pub mod FreeNumbers
 pub mod OrderFree
+pub mod OrderOne
