@@ -9,3 +9,4 @@ pub mod OwnEnds
 pub mod FreeNumbers
 pub mod OrderFree
 pub mod OrderOne
+pub mod Entering
