@@ -17,7 +17,7 @@ use Rattle.conflicts.specs.Order.{Entry, ordered, nothing, nth, entry}
 use Rattle.conflicts.specs.Promises.{Entered, NoneInside, Numbered, Struck, OrderedStruck, OrderedLined, OrderedFree}
 use Rattle.conflicts.proofs.Numbers.{At, member-at, at-member}
 use Rattle.conflicts.proofs.LinedFree.{lined-free}
-use Rattle.conflicts.proofs.FreeNumbers.{free-numbers}
+use Rattle.conflicts.proofs.Numbered.{free-numbers}
 use Rattle.conflicts.proofs.Order.{ordered-has, ordered-entered, ordered-ascending}
 
 -- where the piece of a number stands in the order
