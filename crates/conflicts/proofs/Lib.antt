@@ -4,10 +4,10 @@ pub mod Counting
 pub mod Numbers
 pub mod Line
 pub mod LinedFree
+pub mod Numbered
 pub mod Order
 pub mod OwnEnds
-pub mod FreeNumbers
 pub mod OrderFree
 pub mod OrderOne
-pub mod Numbered
+pub mod Entering
 pub mod Images

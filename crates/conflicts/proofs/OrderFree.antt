@@ -2,13 +2,12 @@
 use Prim.Native.Nat.{ℕ, _≤_, _<_}
 use native.Mathlib.Omega.{arith}
 use mathlib.Core.Path.{_≡_, sym, ap, _∙_, subst}
-use mathlib.Core.Bool.{true, false}
+use mathlib.Core.Bool.{true}
 use mathlib.Core.Logic.{_⊎_, inl, inr, _↔_}
 use mathlib.Core.List.{List, List·Memᴰ as Mem}
 use lib.ListN.{length}
-use Rattle.definitions.specs.Blocks.{Block, Piece}
-use Rattle.definitions.specs.Runs.{Alive}
-use Rattle.definitions.specs.Conflicts.{conflicting, conflicts-with, free}
+use Rattle.definitions.specs.Blocks.{Piece}
+use Rattle.definitions.specs.Conflicts.{conflicting, free}
 use Rattle.definitions.proofs.Views.{lt-or-le}
 use Rattle.definitions.proofs.Tests.{is-false, not-both}
 use Rattle.definitions.proofs.Sharing.{Sharing, shares-facts, facts-share, shares-sym}
@@ -18,8 +17,8 @@ use Rattle.conflicts.specs.Order.{Entry, ordered, nothing, nth, entry}
 use Rattle.conflicts.specs.Promises.{Entered, NoneInside, Numbered, Struck, OrderedStruck, OrderedLined, OrderedFree}
 use Rattle.conflicts.proofs.Numbers.{At, member-at, at-member}
 use Rattle.conflicts.proofs.LinedFree.{lined-free}
-use Rattle.conflicts.proofs.FreeNumbers.{free-numbers}
-use Rattle.conflicts.proofs.Order.{Precedes, ordered-has, ordered-entered, ordered-ascending}
+use Rattle.conflicts.proofs.Numbered.{free-numbers}
+use Rattle.conflicts.proofs.Order.{ordered-has, ordered-entered, ordered-ascending}
 
 -- where the piece of a number stands in the order
 abbrev pub Placed : List Piece → ℕ → Type 0
