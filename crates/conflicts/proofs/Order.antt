@@ -40,43 +40,6 @@ level-precedes x y e h =
     let d : x .piece .at .destroyed ≡ y .piece .at .destroyed = ap (λ (l : Location). l .destroyed) e in
     record { by-address = omega arith; by-created = λ _. omega arith; by-destroyed = λ _ _. omega arith; by-number = λ _. h }
 
-<<<<<<< HEAD
--- an entry that comes before another comes before all that this one precedes
-less-before : (e x y : Entry) → Less (e .piece .at) (x .piece .at) → Precedes x y → Precedes e y
-less-before e x y h k = record { by-address = omega (arith, h .by-address, k .by-address); by-created = created; by-destroyed = λ a c. omega (arith, destroyed a c); by-number = number }
-  where
-    left : e .piece .at .address ≡ y .piece .at .address → e .piece .at .address ≡ x .piece .at .address
-    left a = omega (arith, h .by-address, k .by-address)
-
-    right : e .piece .at .address ≡ y .piece .at .address → x .piece .at .address ≡ y .piece .at .address
-    right a = omega (arith, h .by-address, k .by-address)
-
-    created : e .piece .at .address ≡ y .piece .at .address → e .piece .at .created ≤ y .piece .at .created
-    created a = omega (arith, h .by-created (left a), k .by-created (right a))
-
-    destroyed : e .piece .at .address ≡ y .piece .at .address → e .piece .at .created ≡ y .piece .at .created → e .piece .at .destroyed < y .piece .at .destroyed
-    destroyed a c =
-        let p : e .piece .at .created ≡ x .piece .at .created = omega (arith, h .by-created (left a), k .by-created (right a)) in
-        let q : x .piece .at .created ≡ y .piece .at .created = omega arith in
-        omega (arith, h .by-destroyed (left a) p, k .by-destroyed (right a) q)
-
-    number : e .piece .at ≡ y .piece .at → e .number < y .number
-    number s =
-        let a : e .piece .at .address ≡ y .piece .at .address = ap (λ (l : Location). l .address) s in
-        let c : e .piece .at .created ≡ y .piece .at .created = ap (λ (l : Location). l .created) s in
-        let d : e .piece .at .destroyed ≡ y .piece .at .destroyed = ap (λ (l : Location). l .destroyed) s in
-        absurd (omega (arith, destroyed a c))
-
--- what the test of `enter` tells
-abbrev pub Turn : Bool → Entry → Entry → Type 0
-Turn true e x = Less (e .piece .at) (x .piece .at)
-Turn false e x = (x .piece .at ≡ e .piece .at) ⊎ Less (x .piece .at) (e .piece .at)
-
-pub turn : (e x : Entry) → Turn (is-lt (order (e .piece .at) (x .piece .at))) e x
-turn e x = go (order (e .piece .at) (x .piece .at)) (cmp (e .piece .at) (x .piece .at))
-  where
-    go : (o : Ordering) → Cmp o (e .piece .at) (x .piece .at) → Turn (is-lt o) e x
-=======
 -- what comes before an entry comes before all that this one precedes
 pub less-on : (l : Location) (x y : Entry) → Less l (x .piece .at) → Precedes x y → Less l (y .piece .at)
 less-on l x y h k = record { by-address = omega (arith, h .by-address, k .by-address); by-created = created; by-destroyed = destroyed }
@@ -105,7 +68,6 @@ pub turn : (l m : Location) → Turn (is-lt (order l m)) l m
 turn l m = go (order l m) (cmp l m)
   where
     go : (o : Ordering) → Cmp o l m → Turn (is-lt o) l m
->>>>>>> 999ad1ec2780a4aa3d6ce7aabfee2bb3c850d708
     go Ordering·lt c = c
     go Ordering·eq c = inl (sym c)
     go Ordering·gt c = inr c
@@ -165,19 +127,11 @@ Ascending (e ∷ es) = ((x : Entry) → Mem x es → Precedes e x) × Ascending 
 pub enter-ascending : (e : Entry) (es : List Entry) → ((x : Entry) → Mem x es → x .number < e .number) → Ascending es → Ascending (enter e es)
 unfolding enter
 enter-ascending e [] f s = ((λ x m. absurd (not-nil m)), tt)
-<<<<<<< HEAD
-enter-ascending e (x ∷ xs) f s = go (is-lt (order (e .piece .at) (x .piece .at))) (turn e x) (enter-ascending e xs (λ y m. f y (later m)) (s .1))
-  where
-    front : Less (e .piece .at) (x .piece .at) → (y : Entry) → Mem y (x ∷ xs) → Precedes e y
-    front h y (here q) = subst (Precedes e) (sym q) (less-precedes e x h)
-    front h y (later m) = less-before e x y h (s .0 y m)
-=======
 enter-ascending e (x ∷ xs) f s = go (is-lt (order (e .piece .at) (x .piece .at))) (turn (e .piece .at) (x .piece .at)) (enter-ascending e xs (λ y m. f y (later m)) (s .1))
   where
     front : Less (e .piece .at) (x .piece .at) → (y : Entry) → Mem y (x ∷ xs) → Precedes e y
     front h y (here q) = subst (Precedes e) (sym q) (less-precedes e x h)
     front h y (later m) = less-precedes e y (less-on (e .piece .at) x y h (s .0 y m))
->>>>>>> 999ad1ec2780a4aa3d6ce7aabfee2bb3c850d708
 
     new : (x .piece .at ≡ e .piece .at) ⊎ Less (x .piece .at) (e .piece .at) → Precedes x e
     new (inl q) = level-precedes x e q (f x (here refl))
@@ -187,11 +141,7 @@ enter-ascending e (x ∷ xs) f s = go (is-lt (order (e .piece .at) (x .piece .at
     back h y (inl q) = subst (Precedes x) (sym q) h
     back h y (inr m) = s .0 y m
 
-<<<<<<< HEAD
-    go : (o : Bool) → Turn o e x → Ascending (enter e xs) → Ascending (cond o (e ∷ x ∷ xs) (x ∷ enter e xs))
-=======
     go : (o : Bool) → Turn o (e .piece .at) (x .piece .at) → Ascending (enter e xs) → Ascending (cond o (e ∷ x ∷ xs) (x ∷ enter e xs))
->>>>>>> 999ad1ec2780a4aa3d6ce7aabfee2bb3c850d708
     go true t h = (front t, s)
     go false t h = ((λ y m. back (new t) y (enter-mem e xs m)), h)
 
