@@ -86,7 +86,7 @@ module _ (xs : List ℕ) (p : ℕ) (h : p + 48 ≤ length xs) where
   pub piece-length : le64 xs p ≤ 16 → length (piece-in xs p .bytes) ≡ le64 xs p
   piece-length s = omega (arith, length-take (le64 xs p) (drop (p + 8) xs), length-drop (p + 8) xs)
 
-  piece-small : length (piece-in xs p .bytes) ≤ 16 → le64 xs p ≤ 16
+  pub piece-small : length (piece-in xs p .bytes) ≤ 16 → le64 xs p ≤ 16
   piece-small s = omega (arith, length-take (le64 xs p) (drop (p + 8) xs), length-drop (p + 8) xs)
 
   pub sound-is : piece-sound xs p ≡ true → PieceSound (piece-in xs p)

@@ -1,19 +1,19 @@
 -- Bytes that stand in a list: parts of them, numbers read where they stand, those just written, and those that a write elsewhere leaves.
 -- Assumes nothing.
-use Prim.Native.Nat.{ℕ, zero, suc, _+_, _/_, _^_, _≤_, _<_}
+use Prim.Native.Nat.{ℕ, zero, suc, _+_, _-_, _/_, _^_, _≤_, _<_}
 use native.Mathlib.Omega.{arith}
-use mathlib.Core.Path.{_≡_, refl, sym, subst, _∙_}
+use mathlib.Core.Path.{_≡_, refl, sym, ap, subst, _∙_}
 use mathlib.Core.Bool.{Bool, true, false, _&&_}
-use mathlib.Core.Logic.{inl}
+use mathlib.Core.Logic.{_⊎_, inl, inr}
 use mathlib.Core.List.{List, [], _∷_, _++_}
 use lib.ListN.{length, getD, set, length-set}
-use lib.Seq.{sets, getD-set-same}
+use lib.Seq.{sets, length-sets, getD-set-same, ext-getD}
 use lib.Dec.{eqb}
 use borrow.Author.Tests.{eqb-true, eq-eqb}
 use Rattle.words.specs.Words.{leN, bytesN, le64, bytes64}
 use Rattle.words.specs.Holding.{Holds, stands}
 use Rattle.words.proofs.Laws.{top}
-use Rattle.words.proofs.Parts.{getD-sets-out}
+use Rattle.words.proofs.Parts.{lt-or-ge, getD-sets, getD-sets-out, getD-part, length-bytes64, bytes64-le64}
 
 pub holds-at : (s : List ℕ) (a b : ℕ) (xs : List ℕ) → a ≡ b → Holds s a xs → Holds s b xs
 holds-at s a b xs e h = subst (λ (n : ℕ). Holds s n xs) e h
@@ -83,3 +83,28 @@ pub holds-stands : (s : List ℕ) (at : ℕ) (xs : List ℕ) → Holds s at xs �
 unfolding Holds stands
 holds-stands s at [] h = refl
 holds-stands s at (x ∷ xs) h = rw (eq-eqb (getD s at 0) x (h .0)) (holds-stands s (at + 1) xs (h .1))
+
+-- byte for byte
+pub holds-all : (s : List ℕ) (at : ℕ) (xs : List ℕ) → ((i : ℕ) → i < length xs → getD xs i 0 ≡ getD s (at + i) 0) → Holds s at xs
+unfolding Holds
+holds-all s at [] f = tt
+holds-all s at (x ∷ xs) f =
+    let z : at + 0 ≡ at = omega arith in (
+      sym (f 0 (omega arith) ∙ ap (λ (k : ℕ). getD s k 0) z),
+      holds-all s (at + 1) xs (λ i l. let n : at + suc i ≡ at + 1 + i = omega arith in f (suc i) (omega arith) ∙ ap (λ (k : ℕ). getD s k 0) n),
+    )
+
+-- a number stands where it is read
+pub le-holds : (s : List ℕ) (at : ℕ) → ((k : ℕ) → getD s k 0 < 256) → at + 8 ≤ length s → Holds s at (bytes64 (le64 s at))
+le-holds s at b h = holds-all s at (bytes64 (le64 s at)) (λ i l. ap (λ (xs : List ℕ). getD xs i 0) (sym (bytes64-le64 s at b h)) ∙ getD-part 8 s at i (omega (arith, length-bytes64 (le64 s at))))
+
+-- writing what stands there changes nothing
+pub sets-held : (s : List ℕ) (at : ℕ) (xs : List ℕ) → at + length xs ≤ length s → Holds s at xs → sets s at xs ≡ s
+sets-held s at xs h k = ext-getD 0 (sets s at xs) s (length-sets s at xs) (λ i b. go i (lt-or-ge i at) (lt-or-ge i (at + length xs)))
+  where
+    go : (i : ℕ) → (i < at) ⊎ (at ≤ i) → (i < at + length xs) ⊎ (at + length xs ≤ i) → getD (sets s at xs) i 0 ≡ getD s i 0
+    go i (inl l) o = getD-sets-out xs s at i (inl l)
+    go i (inr l) (inr o) = getD-sets-out xs s at i (inr o)
+    go i (inr l) (inl o) =
+        let e : at + (i - at) ≡ i = omega arith in
+        ap (λ (j : ℕ). getD (sets s at xs) j 0) (sym e) ∙ getD-sets xs s at (i - at) (omega arith) h ∙ holds-get s at xs (i - at) k (omega arith) ∙ ap (λ (j : ℕ). getD s j 0) e
