@@ -29,6 +29,23 @@ address-of l = l .address
 abbrev end-of : Location → ℕ
 end-of l = l .destroyed
 
+loop-holds : tie.Need-loop-holds Inv-loop μ-loop
+loop-holds c = (c .before .pre .1, refl)
+
+location-requires : tie.Need-location-requires Inv-loop μ-loop
+location-requires c κs = (c .before .before .before .before .pre .0, omega (arith, ltb-true))
+
+returns : tie.Need-returns Inv-loop μ-loop
+returns c =
+    let at = c .before .before .before .before in
+    let a = at .before .before .args in
+    among-past (a .v .count) (location-of (a .s .now) (a .v)) (plain (a .x)) (a .end) (at .loop .g) (at .before .before .pre .2) (omega (arith, ltb-true)) (omega (arith, leb-true, ap address-of (c .before .location .ensures))) ∙ at .loop .inv .1
+
+first-from-requires : tie.Need-first-from-requires Inv-loop μ-loop
+first-from-requires c κs =
+    let s = c .before .before .before .before .before .before in
+    (s .pre .0, omega (arith, ltb-true), s .pre .2)
+
 abbrev claims : lts.Claims
 claims = (location-reads.Asked, location-reads.Learnt, first-from-reads.Asked, first-from-reads.Learnt)
 
@@ -51,23 +68,6 @@ turn c =
       address = ap address-of (read .location .ensures);
       found = c .first-from .ensures;
     }
-
-loop-holds : tie.Need-loop-holds Inv-loop μ-loop
-loop-holds c = (c .before .pre .1, refl)
-
-location-requires : tie.Need-location-requires Inv-loop μ-loop
-location-requires c κs = (c .before .before .before .before .pre .0, omega (arith, ltb-true))
-
-returns : tie.Need-returns Inv-loop μ-loop
-returns c =
-    let at = c .before .before .before .before in
-    let a = at .before .before .args in
-    among-past (a .v .count) (location-of (a .s .now) (a .v)) (plain (a .x)) (a .end) (at .loop .g) (at .before .before .pre .2) (omega (arith, ltb-true)) (omega (arith, leb-true, ap address-of (c .before .location .ensures))) ∙ at .loop .inv .1
-
-first-from-requires : tie.Need-first-from-requires Inv-loop μ-loop
-first-from-requires c κs =
-    let s = c .before .before .before .before .before .before in
-    (s .pre .0, omega (arith, ltb-true), s .pre .2)
 
 sub-location : tie.Need-sub-location Inv-loop μ-loop
 sub-location c = omega (arith, ltb-true)
