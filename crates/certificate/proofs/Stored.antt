@@ -2,7 +2,7 @@
 use Prim.Native.Nat.{ℕ, suc, _+_, _*_, _^_, _≤_, _<_}
 use native.Mathlib.Omega.{arith}
 use mathlib.Core.Path.{_≡_, refl, sym, ap, _∙_, subst}
-use mathlib.Core.Bool.{true}
+use mathlib.Core.Bool.{Bool, true}
 use mathlib.Core.List.{List, List·Memᴰ as Mem}
 use lib.ListN.{length, getD}
 use Rattle.words.specs.Words.{le64}
@@ -56,7 +56,7 @@ module _ (m : List ℕ) (b : (k : ℕ) → getD m k 0 < 256) (h : Header) (count
   pub stored-count : count ≡ length (ordered (pieces-in m h))
   stored-count = s .counted ∙ sym (ordered-count ps)
 
-  in-line : Lined (length es) (λ i. entry es i .piece .at)
+  pub in-line : Lined (length (ordered (pieces-in m h))) (λ i. entry (ordered (pieces-in m h)) i .piece .at)
   in-line = ordered-lined ps alive (s .apart)
 
   held : Holds m base (own-bytes es)
@@ -103,6 +103,12 @@ module _ (m : List ℕ) (b : (k : ℕ) → getD m k 0 < 256) (h : Header) (count
     below : location-of m line i .address + le64 m (piece-at m base i) ≤ last-number
     below = omega (arith, ap (λ (x : Location). x .address) stored-location, stored-length, sound .below)
 
+    pub stored-end : le64 m (work-at (h .capacity) + 16 * i + 8) ≡ le64 m (piece-at m (work-at (h .capacity)) i + 40)
+    stored-end =
+        let e : piece-at m base i + 24 + 16 ≡ piece-at m base i + 40 = omega arith in
+        let d : le64 m (piece-at m base i + 24 + 16) ≡ entry es i .piece .at .destroyed = ap (λ (p : Piece). p .at .destroyed) piece in
+        sym (holds-le m (base + 16 * i + 8) (entry es i .piece .at .destroyed) (omega (arith, d, le64-lt m (piece-at m base i + 24 + 16) b)) (both .end)) ∙ sym d ∙ ap (le64 m) e
+
     pub stored-small : length (entry (ordered (pieces-in m h)) i .piece .bytes) ≤ 16
     stored-small = sound .small
 
@@ -120,3 +126,18 @@ module _ (m : List ℕ) (b : (k : ℕ) → getD m k 0 < 256) (h : Header) (count
 
   pub stored-inside : Inside m (line-of h count)
   stored-inside = record { logged = refl; within = stored-within; lined = stored-lined; below = below }
+
+-- ── an entry in line ──
+
+module _ (m : List ℕ) (v : Line) (d : Inside m v) (i : ℕ) (l : i < v .count) where
+  -- its number lies within the memory
+  pub inside-number : v .base + 16 * i + 16 ≤ length m
+  inside-number = omega (arith, d .within .numbers (d .logged))
+
+  place : (o : Bool) → v .logged ≡ o → o ≡ true → place-of m v i ≡ 64 + 48 * number-at m (v .base) i + 24
+  unfolding place-of
+  place o e f = rw (e ∙ f)
+
+  -- and so does its piece
+  pub inside-piece : 64 + 48 * number-at m (v .base) i + 48 ≤ length m
+  inside-piece = omega (arith, d .within .places i l, place (v .logged) refl (d .logged))

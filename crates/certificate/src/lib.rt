@@ -6,10 +6,12 @@ use memory_header::Header;
 use memory_header::LOGGED_SIZE;
 use memory_header::NODE_SIZE;
 ghost use mathlib.Core.Path.{_≡_};
-ghost use mathlib.Core.Bool.{true, not};
+ghost use mathlib.Core.Bool.{true, not, cond};
 ghost use mathlib.Core.Option.{some};
 ghost use Prim.Native.Nat.{_+_, _*_, _≤_, _<_};
 ghost use lib.ListN.{length};
+ghost use lib.Dec.{eqb};
+ghost use Rattle.words.specs.Words.{le64};
 ghost use Rattle.memory_header.specs.Layout.{work-at};
 ghost use Rattle.memory_header.specs.Answers.{header-of, heading-at};
 ghost use Rattle.conflicts.specs.Promises.{filled};
@@ -17,7 +19,7 @@ ghost use Rattle.index_memory.specs.Log.{log-in, log-sound};
 ghost use Rattle.index_memory.specs.Index.{log-right, order-right};
 ghost use Rattle.certificate.specs.Entries.{all, entry-right, lives-inside, Inside, LogWithin};
 
-// What the end of a piece's life takes in the log stands behind its length, its bytes, its address and its creation.
+// The end of a piece in the log stands behind its length, its bytes, its address and its creation.
 const PIECE_END: usize = 40;
 
 // Where the certificate begins.
@@ -28,6 +30,17 @@ pub fn certificate_at(h: Header) -> usize
     HEADER_SIZE + NODE_SIZE * h.node_room + LOGGED_SIZE * h.entry_room
 }
 
+// One for a piece of the log that has a byte, none for one that has not.
+fn counted(mem: &[u8], k: usize) -> usize
+    requires { ⌜ (64 + 48 * k + 48 ≤ length (now mem)) × (k ≤ 1048576) ⌝ }
+    ensures { λ r. ⌜ r ≡ cond (eqb (le64 (now (mem .entry)) (64 + 48 * k)) 0) 0 1 ⌝ }
+{
+    if words::get64(mem, HEADER_SIZE + LOGGED_SIZE * k) == 0 {
+        return 0;
+    }
+    1
+}
+
 // How many of the pieces in the log have a byte.
 pub fn filled(mem: &[u8], pieces: usize) -> usize
     requires { ⌜ LogWithin (now mem) pieces × (log-sound (now mem) pieces 64 ≡ true) ⌝ }
@@ -36,9 +49,7 @@ pub fn filled(mem: &[u8], pieces: usize) -> usize
     let mut count = 0;
     let mut k = 0;
     while k < pieces {
-        if words::get64(mem, HEADER_SIZE + LOGGED_SIZE * k) != 0 {
-            count += 1;
-        }
+        count += counted(mem, k);
         k += 1;
     }
     count
