@@ -13,7 +13,8 @@ use borrow.Author.Tests.{eq-eqb, eqb-true}
 use Rattle.words.specs.Words.{le64}
 use Rattle.words.proofs.Parts.{sets-append, le64-sets-other, lt-or-ge}
 use Rattle.definitions.specs.Calls.{Capacity, needed}
-use Rattle.trie.specs.Trie.{Trie, nodes, entries}
+use Rattle.definitions.specs.Conflicts.{free}
+use Rattle.trie.specs.Trie.{Trie, nodes, entries, trie-pieces}
 use Rattle.trie.specs.Test.{index-rule}
 use Rattle.image_format.specs.Image.{image}
 use Rattle.image_format.specs.Reading.{Layout, right, refused, read-image}
@@ -26,7 +27,7 @@ use Rattle.image_format.proofs.Verdict.{check-accepts, image-passes}
 use Rattle.memory_header.specs.Layout.{Room, Header, header-at, header-bytes, header-right}
 use Rattle.memory_header.specs.Answers.{heading-at}
 use Rattle.index_memory.specs.Log.{log-in}
-use Rattle.index_memory.specs.Index.{Index, broken, opened, finished, log-right, open-index, read-index, image-part, if-right, finished-index}
+use Rattle.index_memory.specs.Index.{Index, broken, opened, finished, log-right, order-right, open-index, read-index, image-part, if-right, finished-index}
 use Rattle.memory_header.proofs.HeaderBytes.{HeaderFits, length-header, header-written, first-zero, second-zero}
 use Rattle.memory_header.proofs.HeaderFacts.{HeaderFacts, header-facts, facts-room, heading-some}
 use Rattle.index_memory.proofs.Holding.{index-by-image}
@@ -36,7 +37,7 @@ use Rattle.finished_memory.specs.Room.{capacity-of, Within}
 
 -- ── the memory of a finished index holds its trie ──
 
-module _ (m : List ℕ) (c : Capacity) (t : Trie) (r : Room m c) (w : Within c t) (v : Savable t) (rule : index-rule t ≡ true) where
+module _ (m : List ℕ) (c : Capacity) (t : Trie) (r : Room m c) (w : Within c t) (v : Savable t) where
   abbrev h : Header
   h = finished-header c t
 
@@ -124,14 +125,15 @@ module _ (m : List ℕ) (c : Capacity) (t : Trie) (r : Room m c) (w : Within c t
   by-image : read-index memory ≡ finished-index memory h
   by-image = index-by-image memory h (sym (subst (λ (x : Header). some x ≡ heading-at memory) header (heading-some memory (subst (HeaderFacts memory) (sym header) facts)))) (λ e. omega arith)
 
-  right-image : (s : List ℕ) → s ≡ image t → if-right (check-image s) h s ≡ finished c t
-  right-image s e =
-      ap (λ (x : List ℕ). if-right (check-image x) h x) e ∙ ap (λ (l : Layout). if-right l h (image t)) (image-passes t v rule)
-      ∙ ap (λ (u : Trie). cond (eqb (nodes t) (nodes t) && eqb (entries t) (entries t)) (finished c u) broken) (image-read t v .1)
-      ∙ rw (eq-eqb (nodes t) (nodes t) refl, eq-eqb (entries t) (entries t) refl) refl
+  module _ (rule : index-rule t ≡ true) (apart : free (trie-pieces t) ≡ true) where
+    right-image : (s : List ℕ) → s ≡ image t → if-right (check-image s) h s ≡ finished c t
+    right-image s e =
+        ap (λ (x : List ℕ). if-right (check-image x) h x) e ∙ ap (λ (l : Layout). if-right l h (image t)) (image-passes t v rule apart)
+        ∙ ap (λ (u : Trie). cond (eqb (nodes t) (nodes t) && eqb (entries t) (entries t)) (finished c u) broken) (image-read t v .1)
+        ∙ rw (eq-eqb (nodes t) (nodes t) refl, eq-eqb (entries t) (entries t) refl) refl
 
-  pub finished-holds : read-index (finished-memory m c t) ≡ finished c t
-  finished-holds = by-image ∙ right-image (take (length (image t)) (drop 64 memory)) part
+    pub finished-holds : read-index (finished-memory m c t) ≡ finished c t
+    finished-holds = by-image ∙ right-image (take (length (image t)) (drop 64 memory)) part
 
 -- ── what a memory holds ──
 
@@ -154,6 +156,7 @@ record Passed (h : Header) (s : List ℕ) (c : Capacity) (t : Trie) : Type 0 whe
   trie : trie-in s ≡ t
   read : read-image s ≡ right (h .nodes) (h .entries)
   rule : index-rule t ≡ true
+  apart : free (trie-pieces t) ≡ true
 
 passed : (l : Layout) (h : Header) (s : List ℕ) → check-image s ≡ l → (c : Capacity) (t : Trie) → if-right l h s ≡ finished c t → Passed h s c t
 passed (refused n) h s q c t e = absurd (let z : _≡_ {A = ℕ} 0 1 = cc in omega arith)
@@ -166,14 +169,15 @@ passed (right k j) h s q c t e = go (eqb (h .nodes) k && eqb (h .entries) j) ref
         let n : h .nodes ≡ k = eqb-true (h .nodes) k (and-left (eqb (h .nodes) k) (eqb (h .entries) j) p) in
         let i : h .entries ≡ j = eqb-true (h .entries) j (and-right (eqb (h .nodes) k) (eqb (h .entries) j) p) in
         let u : trie-in s ≡ t = cc in
-        record { capacity = cc; trie = u; read = x .0 ∙ sym (rw (n, i) refl); rule = subst (λ (y : Trie). index-rule y ≡ true) u (x .1) }
+        record { capacity = cc; trie = u; read = x .read ∙ sym (rw (n, i) refl); rule = subst (λ (y : Trie). index-rule y ≡ true) u (x .rule); apart = subst (λ (y : Trie). free (trie-pieces y) ≡ true) u (x .apart) }
 
--- what is known of a finished index: it can be saved, and is within its capacity
+-- what is known of a finished index: it can be saved, is within its capacity, and its pieces are free of conflicts
 pub record FinishedIs (m : List ℕ) (c : Capacity) (t : Trie) : Type 0 where
   pub room : Room m c
   pub within : Within c t
   pub savable : Savable t
   pub rule : index-rule t ≡ true
+  pub apart : free (trie-pieces t) ≡ true
 
 module _ (m : List ℕ) where
   abbrev there : Header
@@ -196,7 +200,7 @@ module _ (m : List ℕ) where
       by-layout (right k j) s e = by-test (eqb (there .nodes) k && eqb (there .entries) j) (finished (there .capacity) (trie-in s)) refl e
 
       go : (o : Bool) → header-right m ≡ o → (p : Bool) → capacity-of (cond o (cond p (open-index m there) (finished-index m there)) broken) ≡ some c → Room m c
-      go true r true e = room-by r c (by-test (log-right m there) (opened (there .capacity) (log-in m (there .payload) 64)) refl e)
+      go true r true e = room-by r c (by-test (log-right m there && order-right m there) (opened (there .capacity) (log-in m (there .payload) 64)) refl e)
       go true r false e = room-by r c (by-layout (check-image (image-part m there)) (image-part m there) e)
       go false r p e = absurd (let z : _≡_ {A = ℕ} 0 1 = cc in omega arith)
 
@@ -217,9 +221,9 @@ module _ (m : List ℕ) where
           let j : entries t ≡ there .entries = subst (λ (x : Trie). entries x ≡ there .entries) (p .trie) (k .2) in
           let cn : there .capacity .nodes ≡ c .nodes = ap (λ (x : Capacity). x .nodes) (p .capacity) in
           let ce : there .capacity .entries ≡ c .entries = ap (λ (x : Capacity). x .entries) (p .capacity) in
-          record { room = room-by r c (p .capacity); within = record { nodes = omega (arith, f .nodes); entries = omega (arith, f .entries) }; savable = subst Savable (p .trie) (k .3); rule = p .rule }
+          record { room = room-by r c (p .capacity); within = record { nodes = omega (arith, f .nodes); entries = omega (arith, f .entries) }; savable = subst Savable (p .trie) (k .3); rule = p .rule; apart = p .apart }
 
       go : (o : Bool) → header-right m ≡ o → (p : Bool) → cond o (cond p (open-index m there) (finished-index m there)) broken ≡ finished c t → FinishedIs m c t
-      go true r true f = absurd (never-open (log-right m there) f)
+      go true r true f = absurd (never-open (log-right m there && order-right m there) f)
       go true r false f = from r (passed (check-image (image-part m there)) there (image-part m there) refl c t f)
       go false r p f = absurd (let z : _≡_ {A = ℕ} 0 1 = cc in omega arith)

@@ -1,6 +1,7 @@
--- An image that is not accepted is refused with 13, 14 or 15. Assumes nothing.
+-- An image that is not accepted is refused with 13, 14, 15 or 18; its layout with one of the first three. Assumes nothing.
 use Prim.Native.Nat.{ℕ, zero, suc, _+_, _*_}
-use mathlib.Core.Path.{_≡_, refl}
+use native.Mathlib.Omega.{arith}
+use mathlib.Core.Path.{_≡_, refl, subst}
 use mathlib.Core.Bool.{Bool, true, false, cond}
 use mathlib.Core.Logic.{_⊎_, inl, inr}
 use mathlib.Core.List.{List}
@@ -8,16 +9,23 @@ use lib.ListN.{length, getD}
 use lib.Dec.{leb, ltb, eqb}
 use borrow.Author.Tests.{eqb-false}
 use Rattle.words.specs.Words.{le64}
-use Rattle.definitions.specs.Causes.{number, cut-short, unknown-kind, image-broken}
+use Rattle.definitions.specs.Conflicts.{free}
+use Rattle.definitions.specs.Causes.{Cause, number, cut-short, unknown-kind, image-broken, conflict}
+use Rattle.trie.specs.Trie.{trie-pieces}
 use Rattle.trie.specs.Test.{index-rule}
 use Rattle.kinds.specs.Kinds.{fits}
 use Rattle.image_format.specs.Held.{trie-in}
 use Rattle.image_format.specs.Reading.{ListRead, past, cut, HeadRead, head, no-head, behind-list, read-list, read-lists, read-head, Table, find-byte, table-fault, sparse-table, TableRead, table, no-table, unless-fault, open-table, Slot, offset, skip, slot-at, Step, done, fault, behind, Turn, child, gap, none-due, wrong, slot-turn, turn-at, by-turn, read-child, all-met, read-turns, read-table, behind-table, behind-head, read-node, read-counts, read-root, Layout, right, refused, to-the-end, read-image}
-use Rattle.image_format.specs.Check.{and-rule, check-image}
+use Rattle.image_format.specs.Check.{and-if, check-image}
+use Rattle.saving.specs.Promises.{OnlyConflict, ConflictOnly}
 
--- the numbers of an image's faults
+-- the numbers of a layout's faults
 abbrev pub Number : ℕ → Type 0
 Number n = (n ≡ number cut-short) ⊎ ((n ≡ number unknown-kind) ⊎ (n ≡ number image-broken))
+
+-- and of an image's
+abbrev pub Fault : ℕ → Type 0
+Fault n = Number n ⊎ (n ≡ number conflict)
 
 thirteen : Number 13
 thirteen = inl refl
@@ -158,11 +166,37 @@ image-in : (s : List ℕ) → InLayout (read-image s)
 unfolding read-image read-root
 image-in s = end-in s (read-root s) (either InStep (eqb (length s) 0) thirteen (either InStep (eqb (getD s 0 0) 0) (counts-in s 3 1) (node-in s 17 0)))
 
-pub check-in : (s : List ℕ) → InLayout (check-image s)
+abbrev pub Faulty : Layout → Type 0
+Faulty (right nodes entries) = Unit {0}
+Faulty (refused c) = Fault c
+
+layout-faulty : (x : Layout) → InLayout x → Faulty x
+layout-faulty (right nodes entries) i = tt
+layout-faulty (refused c) i = inl i
+
+faulty-if : (o : Bool) (c : Cause) → Fault (number c) → (x : Layout) → Faulty x → Faulty (and-if o c x)
+faulty-if o c f (refused n) i = i
+faulty-if true c f (right nodes entries) i = tt
+faulty-if false c f (right nodes entries) i = f
+
+pub check-in : (s : List ℕ) → Faulty (check-image s)
 unfolding check-image
-check-in s = go (index-rule (trie-in s)) (read-image s) (image-in s)
+check-in s =
+    faulty-if (free (trie-pieces (trie-in s))) conflict (inr refl) (and-if (index-rule (trie-in s)) image-broken (read-image s))
+    (faulty-if (index-rule (trie-in s)) image-broken (inl fifteen) (read-image s) (layout-faulty (read-image s) (image-in s)))
+
+-- 18 is said of an image that is right but for it
+pub only-conflict : ConflictOnly
+unfolding check-image
+only-conflict s e = go (read-image s) (image-in s) refl (index-rule (trie-in s)) refl (free (trie-pieces (trie-in s))) refl e
   where
-    go : (o : Bool) (x : Layout) → InLayout x → InLayout (and-rule o x)
-    go o (refused c) i = i
-    go true (right nodes entries) i = tt
-    go false (right nodes entries) i = fifteen
+    never : Number 18 → ⊥
+    never (inl z) = omega arith
+    never (inr (inl z)) = omega arith
+    never (inr (inr z)) = omega arith
+
+    go : (x : Layout) → InLayout x → read-image s ≡ x → (o : Bool) → index-rule (trie-in s) ≡ o → (u : Bool) → free (trie-pieces (trie-in s)) ≡ u → and-if u conflict (and-if o image-broken x) ≡ refused 18 → OnlyConflict s
+    go (refused n) i q o r u f z = absurd (never (subst Number (let w : n ≡ 18 = cc in w) i))
+    go (right k j) i q false r u f z = absurd (let w : _≡_ {A = ℕ} 15 18 = cc in omega arith)
+    go (right k j) i q true r true f z = absurd (let w : _≡_ {A = ℕ} 0 1 = cc in omega arith)
+    go (right k j) i q true r false f z = record { nodes = k; entries = j; read = q; rule = r; clash = f }

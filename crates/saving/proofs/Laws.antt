@@ -34,7 +34,7 @@ use Rattle.finished_memory.proofs.Holds.{part-bytes, part-small}
 use Rattle.saving.specs.Saving.{Saving, save-by, save-memory, load-by, load-memory}
 use Rattle.memory_header.specs.Answers.{outcome-as}
 use Rattle.memory_header.specs.declared.Outcome.the-variants as L
-use Rattle.saving.proofs.Faults.{Number}
+use Rattle.saving.proofs.Faults.{Fault}
 
 -- ── an image that passes the test ──
 
@@ -78,10 +78,11 @@ abbrev pub load-image : Layout → Capacity → List ℕ → List ℕ → Done
 load-image x c m s = unless-refused (first-cause (image-checks c (fault-of x) (nodes-in x) (entries-in x))) m (finished-memory m c (trie-in s))
 
 -- an image that is not accepted is refused with its own number
-pub fault-over : (c : Capacity) (m s : List ℕ) (n : ℕ) → Number n → _≡_ {A = Done} (record { refusal = n; memory = m }) (load-image (refused n) c m s)
-fault-over c m s n (inl e) = rw e
-fault-over c m s n (inr (inl e)) = rw e
-fault-over c m s n (inr (inr e)) = rw e
+pub fault-over : (c : Capacity) (m s : List ℕ) (n : ℕ) → Fault n → _≡_ {A = Done} (record { refusal = n; memory = m }) (load-image (refused n) c m s)
+fault-over c m s n (inl (inl e)) = rw e
+fault-over c m s n (inl (inr (inl e))) = rw e
+fault-over c m s n (inl (inr (inr e))) = rw e
+fault-over c m s n (inr e) = rw e
 
 -- nothing is loaded over what breaks the index rule
 pub load-broken : (m s : List ℕ) → read-index m ≡ broken → record { refusal = number index-rule-broken; memory = m } ≡ load-memory m s

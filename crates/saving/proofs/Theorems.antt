@@ -10,17 +10,17 @@ use lib.ListN.{length, take, drop}
 use lib.Seq.{sets, sets-eq, take-append-seam, take-length}
 use lib.Dec.{ltb}
 use borrow.Author.Tests.{ltb-false}
+use Rattle.definitions.specs.Conflicts.{free}
 use Rattle.definitions.specs.Causes.{Cause, save-buffer-too-short, too-many-nodes, too-many-entries, first-cause}
 use Rattle.definitions.specs.Calls.{Capacity, save-checks, load-checks}
-use Rattle.trie.specs.Trie.{Trie, nodes, entries}
+use Rattle.trie.specs.Trie.{Trie, nodes, entries, trie-pieces}
 use Rattle.trie.specs.Test.{index-rule}
 use Rattle.image_format.specs.Image.{image}
 use Rattle.image_format.specs.Held.{trie-in}
 use Rattle.image_format.specs.Reading.{Layout, right, refused, fault-of, nodes-in, entries-in}
 use Rattle.image_format.specs.Savable.{Savable}
 use Rattle.image_format.proofs.Theorems.{image-read}
-use Rattle.image_format.specs.Check.{and-rule, check-image}
-use Rattle.index_rule.proofs.Theorems.{check-image-is, index-rule-is}
+use Rattle.image_format.specs.Check.{check-image}
 use Rattle.memory_header.specs.Opening.{Done, unless-refused}
 use Rattle.index_memory.specs.Index.{Index, broken, opened, finished, standing-of, read-index}
 use Rattle.memory_header.proofs.Opening.{refused-leaves}
@@ -30,16 +30,17 @@ use Rattle.finished_memory.proofs.Holds.{FinishedIs, finished-holds, finished-i
 use Rattle.saving.specs.Saving.{Saving, saved-or-refused, image-of, save-by, save-memory, load-by, load-memory}
 use Rattle.saving.specs.Promises.{Lent, LoadHolds, SaveOfLoaded, bytes-of, SaveIsImage, LoadOfSaved, ImageRefusal}
 use Rattle.saving.proofs.Laws.{accepted, save-as, saved, load-image, fault-over, load-as, both-within}
-use Rattle.saving.proofs.Faults.{Number, InLayout, check-in}
-use Rattle.image_format.proofs.Verdict.{image-passes}
+use Rattle.saving.proofs.Faults.{Fault, Faulty, check-in}
+use Rattle.image_format.proofs.Verdict.{check-accepts, image-passes}
 
 -- ── a load that is not refused ──
 
 -- a fault is not 0
-pub fault-some : {n : ℕ} → Number n → n ≡ 0 → ⊥
-fault-some (inl e) z = omega arith
-fault-some (inr (inl e)) z = omega arith
-fault-some (inr (inr e)) z = omega arith
+pub fault-some : {n : ℕ} → Fault n → n ≡ 0 → ⊥
+fault-some (inl (inl e)) z = omega arith
+fault-some (inl (inr (inl e))) z = omega arith
+fault-some (inl (inr (inr e))) z = omega arith
+fault-some (inr e) z = omega arith
 
 record Accepted (c : Capacity) (x : Layout) : Type 0 where
   nodes : ℕ
@@ -48,7 +49,7 @@ record Accepted (c : Capacity) (x : Layout) : Type 0 where
   few-nodes : nodes ≤ c .nodes
   few-entries : entries ≤ c .entries
 
-accepted-by : (m s : List ℕ) (c : Capacity) (x : Layout) → InLayout x → load-image x c m s .refusal ≡ 0 → Accepted c x
+accepted-by : (m s : List ℕ) (c : Capacity) (x : Layout) → Faulty x → load-image x c m s .refusal ≡ 0 → Accepted c x
 accepted-by m s c (refused n) i e = absurd (fault-some i (ap (λ (d : Done). d .refusal) (fault-over c m s n i) ∙ e))
 accepted-by m s c (right n k) i e = go (ltb (c .nodes) n) refl (ltb (c .entries) k) refl e
   where
@@ -65,12 +66,12 @@ had m s (opened c ps) e = (c, refl)
 had m s (finished c t) e = (c, refl)
 
 -- an image that passes the test, loaded where there is room for it
-held : (m s : List ℕ) (c : Capacity) (t : Trie) → capacity-of (read-index m) ≡ some c → check-image s ≡ right (nodes t) (entries t) → trie-in s ≡ t → Within c t → Savable t → index-rule t ≡ true
+held : (m s : List ℕ) (c : Capacity) (t : Trie) → capacity-of (read-index m) ≡ some c → check-image s ≡ right (nodes t) (entries t) → trie-in s ≡ t → Within c t → Savable t → index-rule t ≡ true → free (trie-pieces t) ≡ true
     → (load-memory m s .refusal ≡ 0) × (read-index (load-memory m s .memory) ≡ finished c t)
-held m s c t h e q w v rule =
+held m s c t h e q w v rule apart =
     let is : load-memory m s ≡ record { refusal = 0; memory = finished-memory m c (trie-in s) } =
     sym (both-within c m s (nodes t) (entries t) (w .nodes) (w .entries) ∙ load-as m s c (right (nodes t) (entries t)) h e) in
-    (ap (λ (d : Done). d .refusal) is, ap (λ (d : Done). read-index (d .memory)) is ∙ ap (λ (x : Trie). read-index (finished-memory m c x)) q ∙ finished-holds m c t (room-of m c h) w v rule)
+    (ap (λ (d : Done). d .refusal) is, ap (λ (d : Done). read-index (d .memory)) is ∙ ap (λ (x : Trie). read-index (finished-memory m c x)) q ∙ finished-holds m c t (room-of m c h) w v rule apart)
 
 -- what a load that was not refused had before it
 record Before (m s : List ℕ) : Type 0 where
@@ -89,10 +90,10 @@ load-holds m s l e =
     let h = before m s e in
     let i = h .image in
     let w = accepted s (l .bytes) (l .small) (i .nodes) (i .entries) (i .is) in
-    let rule : index-rule (trie-in s) ≡ true = index-rule-is (trie-in s) (w .3 .shaped) .1 (check-image-is s (l .bytes) (l .small) (i .nodes) (i .entries) .0 (i .is) .1) in
+    let a = check-accepts s (i .nodes) (i .entries) (i .is) in
     let within : Within (h .capacity) (trie-in s) = record { nodes = omega (arith, w .1, i .few-nodes); entries = omega (arith, w .2, i .few-entries) } in
     let passes : check-image s ≡ right (nodes (trie-in s)) (entries (trie-in s)) = i .is ∙ sym (rw (w .1, w .2) refl) in
-    record { capacity = h .capacity; had = h .had; holds = held m s (h .capacity) (trie-in s) (h .had) passes refl within (w .3) rule .1 }
+    record { capacity = h .capacity; had = h .had; holds = held m s (h .capacity) (trie-in s) (h .had) passes refl within (w .3) (a .rule) (a .apart) .1 }
 
 -- ── saving what was loaded ──
 
@@ -132,12 +133,12 @@ load-of-saved m m′ buffer c c′ t l e r h w =
     loaded : (load-memory m′ (image t) .refusal ≡ 0) × (read-index (load-memory m′ (image t) .memory) ≡ finished c′ t)
     loaded =
         let f : FinishedIs m c t = finished-is m c t (l .bytes) (l .small) e in
-        held m′ (image t) c′ t h (image-passes t (f .savable) (f .rule)) (image-read t (f .savable) .1) w (f .savable) (f .rule)
+        held m′ (image t) c′ t h (image-passes t (f .savable) (f .rule) (f .apart)) (image-read t (f .savable) .1) w (f .savable) (f .rule) (f .apart)
 
 -- ── a call that is refused ──
 
 pub image-refusal : ImageRefusal
-image-refusal s n e = subst InLayout e (check-in s)
+image-refusal s n e = subst Faulty e (check-in s)
 
 save-refused : (o : Option Cause) (s buffer : List ℕ) → (saved-or-refused o s buffer .refusal ≡ 0 → ⊥) → saved-or-refused o s buffer .buffer ≡ buffer
 save-refused none s buffer f = absurd (f refl)

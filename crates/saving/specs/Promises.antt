@@ -1,17 +1,20 @@
 -- What save and load promise of each other, on memories as they are lent. Assumes nothing.
 use Prim.Native.Nat.{ℕ, _^_, _≤_, _<_}
 use mathlib.Core.Path.{_≡_}
+use mathlib.Core.Bool.{true, false}
 use mathlib.Core.Logic.{_⊎_}
 use mathlib.Core.List.{List}
 use mathlib.Core.Option.{some}
 use lib.ListN.{length, take}
 use lib.Seq.{sets}
-use Rattle.definitions.specs.Causes.{number, cut-short, unknown-kind, image-broken}
+use Rattle.definitions.specs.Conflicts.{free}
+use Rattle.definitions.specs.Causes.{number, cut-short, unknown-kind, image-broken, conflict}
 use Rattle.definitions.specs.Calls.{Capacity}
-use Rattle.trie.specs.Trie.{Trie}
+use Rattle.trie.specs.Trie.{Trie, trie-pieces}
+use Rattle.trie.specs.Test.{index-rule}
 use Rattle.image_format.specs.Image.{image}
 use Rattle.image_format.specs.Held.{trie-in}
-use Rattle.image_format.specs.Reading.{refused}
+use Rattle.image_format.specs.Reading.{right, refused, read-image}
 use Rattle.image_format.specs.Savable.{AllBytes}
 use Rattle.image_format.specs.Check.{check-image}
 use Rattle.index_memory.specs.Index.{finished, read-index}
@@ -51,6 +54,17 @@ LoadOfSaved =
     → capacity-of (read-index m′) ≡ some c′ → Within c′ t
     → (load-memory m′ (bytes-of (save-memory m buffer)) .refusal ≡ 0) × (read-index (load-memory m′ (bytes-of (save-memory m buffer)) .memory) ≡ finished c′ t)
 
--- what an image itself is refused with: 13, 14 or 15
+-- what an image itself is refused with: 13, 14, 15 or 18
 abbrev pub ImageRefusal : Type 0
-ImageRefusal = (s : List ℕ) (n : ℕ) → check-image s ≡ refused n → (n ≡ number cut-short) ⊎ ((n ≡ number unknown-kind) ⊎ (n ≡ number image-broken))
+ImageRefusal = (s : List ℕ) (n : ℕ) → check-image s ≡ refused n → ((n ≡ number cut-short) ⊎ ((n ≡ number unknown-kind) ⊎ (n ≡ number image-broken))) ⊎ (n ≡ number conflict)
+
+-- 18 is said of an image that is right but for conflicts: its layout, and the rest of the rule
+pub record OnlyConflict (s : List ℕ) : Type 0 where
+  pub nodes : ℕ
+  pub entries : ℕ
+  pub read : read-image s ≡ right nodes entries
+  pub rule : index-rule (trie-in s) ≡ true
+  pub clash : free (trie-pieces (trie-in s)) ≡ false
+
+abbrev pub ConflictOnly : Type 0
+ConflictOnly = (s : List ℕ) → check-image s ≡ refused (number conflict) → OnlyConflict s
