@@ -3,14 +3,15 @@ use Prim.Native.Nat.{ℕ, zero, suc, _+_, _*_, _^_, _≤_, _<_}
 use native.Mathlib.Omega.{arith}
 use mathlib.Core.Path.{_≡_, refl, sym, ap, _∙_, subst}
 use mathlib.Core.List.{List, [], _∷_, _++_}
-use lib.ListN.{length, getD}
+use lib.ListN.{length, length-append}
 use Rattle.words.specs.Words.{le64, bytes64}
 use Rattle.words.specs.Holding.{Holds}
 use Rattle.words.proofs.Holding.{holds-at, holds-left, holds-right, holds-append}
 use Rattle.words.proofs.Parts.{length-bytes64}
 use Rattle.definitions.specs.Blocks.{Piece}
-use Rattle.conflicts.specs.Order.{Entry, nth, entry}
-use Rattle.conflicts.specs.Promises.{own-bytes}
+use Rattle.conflicts.specs.Order.{Entry, ordered, reach-at, entries-bytes, certificate, nth, entry}
+use Rattle.conflicts.specs.Promises.{filled, own-bytes}
+use Rattle.conflicts.proofs.Order.{ordered-count}
 use Rattle.index_memory.specs.Log.{piece-in, log-in}
 
 -- piece k of a log
@@ -57,3 +58,16 @@ entries-held m at (e ∷ es) f =
     let s : Holds m (at + 8 + 8) (own-bytes es) = holds-at m (at + 16) (at + 8 + 8) (own-bytes es) (omega arith) r in
     holds-append m at 8 (bytes64 (e .number)) (bytes64 (e .piece .at .destroyed) ++ own-bytes es) (length-bytes64 (e .number)) (x .number)
     (holds-append m (at + 8) 8 (bytes64 (e .piece .at .destroyed)) (own-bytes es) (length-bytes64 (e .piece .at .destroyed)) (x .end) s)
+
+-- ---- the whole certificate
+
+length-entries : (a reach : ℕ) (es : List Entry) → length (entries-bytes a reach es) ≡ 16 * length es
+unfolding entries-bytes
+length-entries a reach [] = omega arith
+length-entries a reach (e ∷ es) =
+    let r : ℕ = reach-at a reach (e .piece .at) in
+    let rest : List ℕ = entries-bytes (e .piece .at .address) r es in
+    omega (arith, length-append (bytes64 (e .number)) (bytes64 r ++ rest), length-append (bytes64 r) rest, length-bytes64 (e .number), length-bytes64 r, length-entries (e .piece .at .address) r es)
+
+pub length-certificate : (ps : List Piece) → length (certificate ps) ≡ 16 * filled ps
+length-certificate ps = length-entries 0 0 (ordered ps) ∙ ap (λ (n : ℕ). 16 * n) (ordered-count ps)

@@ -26,19 +26,19 @@ filled-upto (p ∷ ps) = go (eqb (length (p .bytes)) 0) (filled-upto ps)
     go true h = omega arith
     go false h = omega arith
 
+pub filled-append : (ps rs : List Piece) → filled (ps ++ rs) ≡ filled ps + filled rs
+unfolding filled
+filled-append [] rs = omega arith
+filled-append (q ∷ ps) rs = go (eqb (length (q .bytes)) 0) (filled-append ps rs)
+  where
+    go : (o : Bool) → filled (ps ++ rs) ≡ filled ps + filled rs → cond o (filled (ps ++ rs)) (suc (filled (ps ++ rs))) ≡ cond o (filled ps) (suc (filled ps)) + filled rs
+    go true e = e
+    go false e = omega arith
+
 -- one more
 filled-snoc : (ps : List Piece) (p : Piece) → filled (ps ++ (p ∷ [])) ≡ filled ps + cond (eqb (length (p .bytes)) 0) 0 1
 unfolding filled
-filled-snoc [] p = go (eqb (length (p .bytes)) 0)
-  where
-    go : (o : Bool) → cond o 0 1 ≡ 0 + cond o 0 1
-    go true = refl
-    go false = refl
-filled-snoc (q ∷ ps) p = go (eqb (length (q .bytes)) 0) (filled-snoc ps p)
-  where
-    go : (o : Bool) → filled (ps ++ (p ∷ [])) ≡ filled ps + cond (eqb (length (p .bytes)) 0) 0 1 → cond o (filled (ps ++ (p ∷ []))) (suc (filled (ps ++ (p ∷ [])))) ≡ cond o (filled ps) (suc (filled ps)) + cond (eqb (length (p .bytes)) 0) 0 1
-    go true e = e
-    go false e = omega arith
+filled-snoc ps p = filled-append ps (p ∷ [])
 
 module _ (m : List ℕ) (pieces : ℕ) (w : LogWithin m pieces) (s : log-sound m pieces 64 ≡ true) where
   pub filled-start : 0 ≡ filled (log-in m 0 64)

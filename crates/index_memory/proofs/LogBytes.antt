@@ -138,7 +138,7 @@ is-log-sound xs (suc n) p h f =
     and-true (is-sound xs p (omega arith) (f (piece-in xs p) (here refl))) (is-log-sound xs n (p + 48) (omega arith) (λ q m. f q (later m)))
 
 -- a sound log lies in its bytes
-log-ext : (n p : ℕ) (xs ys : List ℕ) → length xs ≡ length ys → p + 48 * n ≤ length xs → AllSound (log-in xs n p)
+pub log-ext : (n p : ℕ) (xs ys : List ℕ) → length xs ≡ length ys → p + 48 * n ≤ length xs → AllSound (log-in xs n p)
     → ((k : ℕ) → p ≤ k → k < p + 48 * n → getD xs k 0 ≡ getD ys k 0) → log-in xs n p ≡ log-in ys n p
 unfolding log-in
 log-ext zero p xs ys len h f g = refl

@@ -1,11 +1,12 @@
 -- The ways out of the checks of a block, each behind those before it, and the header that counts the block. Assumes nothing.
 use Prim.Native.Nat.{ℕ, _+_, _≤_, _<_}
 use mathlib.Core.Path.{_≡_, refl, ap, _∙_}
+use mathlib.Core.Bool.{Bool, true, false}
 use borrow.Author.Tests.{lt-ltb, le-ltb, le-leb, lt-leb}
 use Rattle.definitions.specs.Location.{Location}
 use Rattle.definitions.specs.Blocks.{entry-charge}
 use Rattle.definitions.specs.Causes.{first-cause}
-use Rattle.definitions.specs.Calls.{Capacity, last-number, memory-checks}
+use Rattle.definitions.specs.Calls.{Capacity, last-number, capacity-checks, memory-checks}
 use Rattle.memory_header.specs.Layout.{Header}
 use Rattle.memory_header.specs.Answers.{header-of}
 use Rattle.memory_header.specs.declared.Header as C
@@ -13,9 +14,25 @@ use Rattle.tally.specs.Tallied.{recorded}
 use Rattle.header_tally.specs.Tallies.{tally-in, with-tally}
 use Rattle.judging.specs.Judged.{piece-count, block-nodes, grown, Verdict, counted, refused, verdict}
 
-module _ (c : Capacity) (nodes entries n : ℕ) (l : Location) (g : Header) where
+-- by what it charges
+module _ (c : Capacity) (nodes entries : ℕ) (g : Header) where
+  abbrev charged : Verdict
+  charged = verdict (first-cause (capacity-checks c nodes entries)) g
+
+  pub refused-7 : c .nodes < nodes → refused 7 ≡ charged
+  refused-7 e = rw (lt-ltb (c .nodes) nodes e)
+
+  module _ (e : nodes ≤ c .nodes) where
+    pub refused-8 : c .entries < entries → refused 8 ≡ charged
+    refused-8 f = rw (le-ltb (c .nodes) nodes e, lt-ltb (c .entries) entries f)
+
+    pub not-refused : entries ≤ c .entries → counted g ≡ charged
+    not-refused f = rw (le-ltb (c .nodes) nodes e, le-ltb (c .entries) entries f)
+
+-- by its length, its life and its address, then by what it clashes with
+module _ (c : Capacity) (clashes : Bool) (nodes entries n : ℕ) (l : Location) (g : Header) where
   abbrev answer : Verdict
-  answer = verdict (first-cause (memory-checks c nodes entries n l)) g
+  answer = verdict (first-cause (memory-checks c clashes nodes entries n l)) g
 
   pub refused-4 : 4096 < n → refused 4 ≡ answer
   refused-4 a = rw (lt-ltb 4096 n a)
@@ -29,29 +46,11 @@ module _ (c : Capacity) (nodes entries n : ℕ) (l : Location) (g : Header) wher
       refused-6 d = rw (le-ltb 4096 n a, lt-leb (l .destroyed) (l .created) b, lt-ltb last-number (l .address + n) d)
 
       module _ (d : l .address + n ≤ last-number) where
-        pub refused-7 : c .nodes < nodes → refused 7 ≡ answer
-        refused-7 e = rw (le-ltb 4096 n a, lt-leb (l .destroyed) (l .created) b, le-ltb last-number (l .address + n) d, lt-ltb (c .nodes) nodes e)
+        pub refused-18 : clashes ≡ true → refused 18 ≡ answer
+        refused-18 e = rw (le-ltb 4096 n a, lt-leb (l .destroyed) (l .created) b, le-ltb last-number (l .address + n) d, e)
 
-        module _ (e : nodes ≤ c .nodes) where
-          pub refused-8 : c .entries < entries → refused 8 ≡ answer
-          refused-8 f =
-              rw (
-                le-ltb 4096 n a,
-                lt-leb (l .destroyed) (l .created) b,
-                le-ltb last-number (l .address + n) d,
-                le-ltb (c .nodes) nodes e,
-                lt-ltb (c .entries) entries f,
-              )
-
-          pub not-refused : entries ≤ c .entries → counted g ≡ answer
-          not-refused f =
-              rw (
-                le-ltb 4096 n a,
-                lt-leb (l .destroyed) (l .created) b,
-                le-ltb last-number (l .address + n) d,
-                le-ltb (c .nodes) nodes e,
-                le-ltb (c .entries) entries f,
-              )
+        pub charge-decides : clashes ≡ false → verdict (first-cause (capacity-checks c nodes entries)) g ≡ answer
+        charge-decides e = rw (le-ltb 4096 n a, lt-leb (l .destroyed) (l .created) b, le-ltb last-number (l .address + n) d, e)
 
 -- the header that counts a block: what it charges goes to the tally
 pub grown-by : (h r : C.Header) (n x y z : ℕ) → x ≡ block-nodes n → y ≡ entry-charge n → z ≡ piece-count n

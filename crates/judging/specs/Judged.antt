@@ -1,11 +1,12 @@
 -- What the pieces of a block charge together, in closed form, and a Memory block judged by the header's value. Assumes nothing.
 use Prim.Native.Nat.{ℕ, _+_, _*_, _/_, _%_, max}
+use mathlib.Core.Bool.{Bool}
 use mathlib.Core.List.{List}
 use mathlib.Core.Option.{Option, none, some}
 use Rattle.definitions.specs.Location.{Location}
 use Rattle.definitions.specs.Blocks.{entry-charge}
 use Rattle.definitions.specs.Causes.{Cause, number, Check, first-cause}
-use Rattle.definitions.specs.Calls.{memory-checks}
+use Rattle.definitions.specs.Calls.{capacity-checks, memory-checks}
 use Rattle.memory_header.specs.Layout.{Header}
 
 -- how many pieces a block of n bytes has: one for 16 bytes or less, an empty block too
@@ -29,9 +30,13 @@ abbrev pub verdict : Option Cause → Header → Verdict
 verdict none h = counted h
 verdict (some c) h = refused (number c)
 
--- a Memory block of n bytes at l: its checks by the header's value, and its verdict
-abbrev pub judged-checks : Header → ℕ → Location → List Check
-judged-checks h n l = memory-checks (h .capacity) (grown h n .nodes) (grown h n .entries) n l
+-- a block of n bytes by what it charges alone
+abbrev pub counted-within : Header → ℕ → Verdict
+counted-within h n = verdict (first-cause (capacity-checks (h .capacity) (grown h n .nodes) (grown h n .entries))) (grown h n)
 
-abbrev pub judged : Header → ℕ → Location → Verdict
-judged h n l = verdict (first-cause (judged-checks h n l)) (grown h n)
+-- a Memory block of n bytes at l that clashes with what is held or not: its checks by the header's value, and its verdict
+abbrev pub judged-checks : Header → Bool → ℕ → Location → List Check
+judged-checks h clashes n l = memory-checks (h .capacity) clashes (grown h n .nodes) (grown h n .entries) n l
+
+abbrev pub judged : Header → Bool → ℕ → Location → Verdict
+judged h clashes n l = verdict (first-cause (judged-checks h clashes n l)) (grown h n)

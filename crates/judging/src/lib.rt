@@ -1,12 +1,16 @@
-// A block judged by the header of an open index: what its pieces charge, and the header that counts it, or why it is refused.
+// A block judged by the header and the certificate of an open index: the header that counts it too, or why it is refused.
 use definitions::PIECE_SIZE;
 use location::SpacetimeLocation;
 use memory_header::Header;
 ghost use mathlib.Core.Path.{_≡_};
 ghost use Prim.Native.Nat.{_≤_};
+ghost use lib.ListN.{length};
 ghost use Rattle.location.specs.Plain.{plain};
 ghost use Rattle.memory_header.specs.Answers.{header-of};
-ghost use Rattle.judging.specs.Judged.{piece-count, block-nodes, judged};
+ghost use Rattle.definitions.specs.Blocks.{pieces};
+ghost use Rattle.definitions.specs.Conflicts.{clash};
+ghost use Rattle.certificate.specs.Stored.{pieces-in, Stored};
+ghost use Rattle.judging.specs.Judged.{piece-count, block-nodes, counted-within, judged};
 ghost use Rattle.judging.specs.Verdicts.{verdict-of};
 
 // A block judged: the header that counts it too, or the number of its refusal.
@@ -26,6 +30,23 @@ fn block_nodes(n: usize) -> usize
     n / PIECE_SIZE * WHOLE_PIECE_NODES + index_memory::piece_nodes(n % PIECE_SIZE)
 }
 
+// The header that counts a block of n bytes too, if there is room for it.
+fn count_block(h: Header, n: usize) -> Judged
+    requires { ⌜ (n ≤ 4096) × (h .nodes ≤ h .«node_room») × (h .entries ≤ h .«entry_room») × (h .payload ≤ h .entries) ⌝ }
+    ensures { λ r. ⌜ verdict-of r ≡ counted-within (header-of h) n ⌝ }
+{
+    let nodes = block_nodes(n);
+    let entries = index_memory::entry_charge(n);
+    if h.node_room - h.nodes < nodes {
+        return Judged::Refused(definitions::TOO_MANY_NODES);
+    }
+    if h.entry_room - h.entries < entries {
+        return Judged::Refused(definitions::TOO_MANY_ENTRIES);
+    }
+    let pieces = piece_count(n);
+    Judged::Counted(header_tally::charged(h, nodes, entries, h.payload + pieces))
+}
+
 // How many pieces a block of n bytes has.
 pub fn piece_count(n: usize) -> usize
     requires { ⌜ n ≤ 4096 ⌝ }
@@ -37,11 +58,12 @@ pub fn piece_count(n: usize) -> usize
     (n + PIECE_SIZE - 1) / PIECE_SIZE
 }
 
-// A Memory block of n bytes judged behind the pieces that h counts.
-pub fn judge(h: Header, n: usize, l: SpacetimeLocation) -> Judged
-    requires { ⌜ (h .nodes ≤ h .«node_room») × (h .entries ≤ h .«entry_room») × (h .payload ≤ h .entries) ⌝ }
-    ensures { λ r. ⌜ verdict-of r ≡ judged (header-of h) n (plain l) ⌝ }
+// A Memory block judged behind the pieces that h counts, of which so many have a byte.
+pub fn judge(mem: &[u8], h: Header, count: usize, l: SpacetimeLocation, data: &[u8]) -> Judged
+    requires { ⌜ (h .nodes ≤ h .«node_room») × (h .entries ≤ h .«entry_room») × (h .payload ≤ h .entries) × Stored (now mem) (header-of h) count ⌝ }
+    ensures { λ r. ⌜ verdict-of r ≡ judged (header-of h) (clash (pieces (record { bytes = now («data» .entry); at = plain l })) (pieces-in (now (mem .entry)) (header-of h))) (length (now («data» .entry))) (plain l) ⌝ }
 {
+    let n = data.len();
     if definitions::DATA_LIMIT < n {
         return Judged::Refused(definitions::DATA_TOO_LONG);
     }
@@ -51,14 +73,8 @@ pub fn judge(h: Header, n: usize, l: SpacetimeLocation) -> Judged
     if u64::MAX - (n as u64) < l.address.0 {
         return Judged::Refused(definitions::ADDRESS_TOO_HIGH);
     }
-    let nodes = block_nodes(n);
-    let entries = index_memory::entry_charge(n);
-    if h.node_room - h.nodes < nodes {
-        return Judged::Refused(definitions::TOO_MANY_NODES);
+    if clashing::clashes(mem, h, count, l, n) {
+        return Judged::Refused(definitions::CONFLICT);
     }
-    if h.entry_room - h.entries < entries {
-        return Judged::Refused(definitions::TOO_MANY_ENTRIES);
-    }
-    let pieces = piece_count(n);
-    Judged::Counted(header_tally::charged(h, nodes, entries, h.payload + pieces))
+    count_block(h, n)
 }

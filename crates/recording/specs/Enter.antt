@@ -7,11 +7,13 @@ use lib.ListN.{length}
 use lib.Dec.{eqb}
 use Rattle.definitions.specs.Blocks.{Block, Piece, memory-kind}
 use Rattle.definitions.specs.Blocks as B
+use Rattle.definitions.specs.Conflicts.{clash}
 use Rattle.definitions.specs.Causes.{first-cause}
 use Rattle.definitions.specs.Calls.{kind-checks}
 use Rattle.memory_header.specs.Layout.{Header, with-header}
 use Rattle.memory_header.specs.Opening.{Done}
 use Rattle.index_memory.specs.Index.{opened, open-header, read-index}
+use Rattle.certificate.specs.Stored.{pieces-in}
 use Rattle.judging.specs.Judged.{grown, Verdict, counted, refused, verdict, judged-checks}
 use Rattle.recording.specs.Record.{logged}
 
@@ -21,10 +23,11 @@ pub record Pending (m : List ℕ) (h : Header) : Type 0 where
   pub counts : h ≡ open-header (h .capacity) pieces
   pub holds : read-index (with-header m h) ≡ opened (h .capacity) pieces
 
--- a block by its kind and, if that is Memory, by the header's value; one of kind 0, 2, 3 or 4 is taken, and the header stays
-abbrev pub judged-by-kind : Header → ℕ → Block → Verdict
-judged-by-kind h kind b =
-    verdict (first-cause (kind-checks kind (judged-checks h (length (b .bytes)) (b .at))))
+-- a block by its kind and, if that is Memory, by the pieces held and the header's value; one of kind 0, 2, 3 or 4 is taken, and the
+-- header stays
+abbrev pub judged-by-kind : List ℕ → Header → ℕ → Block → Verdict
+judged-by-kind m h kind b =
+    verdict (first-cause (kind-checks kind (judged-checks h (clash (B.pieces b) (pieces-in m h)) (length (b .bytes)) (b .at))))
     (cond (eqb kind memory-kind) (grown h (length (b .bytes))) h)
 
 -- a refused block changes nothing
@@ -32,9 +35,9 @@ abbrev pub unless-turned-back : Verdict → List ℕ → List ℕ → List ℕ
 unless-turned-back (counted h) old new = new
 unless-turned-back (refused n) old new = old
 
--- the pieces of a Memory block that is taken go behind the log; the header is not written yet
+-- the pieces of a Memory block that is taken go behind the log and into the certificate; the header is not written yet
 abbrev pub entered : List ℕ → Header → ℕ → Block → List ℕ
-entered m h kind b = unless-turned-back (judged-by-kind h kind b) m (cond (eqb kind memory-kind) (logged m h (B.pieces b)) m)
+entered m h kind b = unless-turned-back (judged-by-kind m h kind b) m (cond (eqb kind memory-kind) (logged m h (B.pieces b)) m)
 
 -- the answer and the memory once the header is written
 abbrev pub settled : Verdict → Header → List ℕ → Done

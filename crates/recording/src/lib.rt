@@ -15,10 +15,12 @@ ghost use Rattle.memory_header.specs.Layout.{header-at};
 ghost use Rattle.memory_header.specs.Answers.{header-of};
 ghost use Rattle.index_memory.specs.Log.{piece-bytes, log-bytes, log-in};
 ghost use Rattle.index_memory.specs.Index.{read-index, opened};
+ghost use Rattle.conflicts.specs.Promises.{filled};
+ghost use Rattle.certificate.specs.Stored.{pieces-in};
 ghost use Rattle.judging.specs.Judged.{piece-count};
 ghost use Rattle.judging.specs.Verdicts.{verdict-of};
 ghost use Rattle.recording.specs.Cut.{part};
-ghost use Rattle.recording.specs.Record.{record-memory, logged, Fitting};
+ghost use Rattle.recording.specs.Record.{record-memory, logged, Fitting, filled-after};
 ghost use Rattle.recording.specs.Enter.{Pending, judged-by-kind, entered};
 ghost use Rattle.recording.specs.Recorded.{recorded-as};
 
@@ -75,19 +77,45 @@ fn put_pieces(mem: &mut [u8], from: usize, data: &[u8], l: SpacetimeLocation)
     }
 }
 
-// Appends the pieces of a block that fits to the log.
-fn append(mem: &mut [u8], h: Header, data: &[u8], l: SpacetimeLocation)
-    requires { ⌜ Fitting (now mem) (header-of h) (record { bytes = now «data»; at = plain l }) ⌝ }
+// Appends the pieces of a block that fits to the log, and enters them into the certificate.
+fn append(mem: &mut [u8], h: Header, count: usize, data: &[u8], l: SpacetimeLocation)
+    requires { ⌜ Fitting (now mem) (header-of h) count (record { bytes = now «data»; at = plain l }) ⌝ }
     ensures { λ _. ⌜ now (mem .exit) ≡ logged (now (mem .entry)) (header-of h) (pieces (record { bytes = now («data» .entry); at = plain l })) ⌝ }
 {
     put_pieces(mem, HEADER_SIZE + LOGGED_SIZE * h.payload, data, l);
+    let n = data.len();
+    if n == 0 {
+        return;
+    }
+    ordering::enter_pieces(mem, h, count, judging::piece_count(n));
 }
 
-// Enters a block into an open index whose header is h, and answers the header that counts it too; no header is written here.
-// Only the bytes of a block of kind Memory are entered.
-pub fn enter(mem: &mut [u8], h: Header, kind: u64, l: SpacetimeLocation, data: &[u8]) -> Judged
-    requires { ⌜ Pending (now mem) (header-of h) ⌝ }
-    ensures verdict { λ r. ⌜ verdict-of r ≡ judged-by-kind (header-of h) kind (record { bytes = now («data» .entry); at = plain l }) ⌝ }
+// How many pieces have a byte with a block of n bytes of that kind behind them.
+pub fn filled_after(count: usize, kind: u64, n: usize) -> usize
+    requires { ⌜ (n ≤ 4096) × (count ≤ 1048576) ⌝ }
+    ensures { λ r. ⌜ r ≡ filled-after count kind n ⌝ }
+{
+    if kind != definitions::MEMORY_KIND as u64 {
+        return count;
+    }
+    if n == 0 {
+        return count;
+    }
+    count + judging::piece_count(n)
+}
+
+// Enters a block into an open index whose header is h, where so many pieces have a byte, and answers the header that counts it
+// too; no header is written here. Only the bytes of a block of kind Memory are entered.
+pub fn enter(
+    mem: &mut [u8],
+    h: Header,
+    count: usize,
+    kind: u64,
+    l: SpacetimeLocation,
+    data: &[u8],
+) -> Judged
+    requires { ⌜ Pending (now mem) (header-of h) × (count ≡ filled (pieces-in (now mem) (header-of h))) ⌝ }
+    ensures verdict { λ r. ⌜ verdict-of r ≡ judged-by-kind (now (mem .entry)) (header-of h) kind (record { bytes = now («data» .entry); at = plain l }) ⌝ }
     ensures memory { λ _. ⌜ now (mem .exit) ≡ entered (now (mem .entry)) (header-of h) kind (record { bytes = now («data» .entry); at = plain l }) ⌝ }
 {
     if (definitions::LAST_KIND as u64) < kind {
@@ -96,9 +124,9 @@ pub fn enter(mem: &mut [u8], h: Header, kind: u64, l: SpacetimeLocation, data: &
     if kind != definitions::MEMORY_KIND as u64 {
         return Judged::Counted(h);
     }
-    match judging::judge(h, data.len(), l) {
+    match judging::judge(mem, h, count, l, data) {
         Judged::Counted(counted) => {
-            append(mem, h, data, l);
+            append(mem, h, count, data, l);
             Judged::Counted(counted)
         }
         Judged::Refused(n) => Judged::Refused(n),
@@ -117,7 +145,8 @@ pub fn record_open(
     ensures answer { λ r. ⌜ r ≡ recorded-as (record-memory (now (mem .entry)) kind (record { bytes = now («data» .entry); at = plain l }) .refusal) ⌝ }
     ensures memory { λ _. ⌜ now (mem .exit) ≡ record-memory (now (mem .entry)) kind (record { bytes = now («data» .entry); at = plain l }) .memory ⌝ }
 {
-    match enter(mem, h, kind, l, data) {
+    let count = certificate::filled(mem, h.payload);
+    match enter(mem, h, count, kind, l, data) {
         Judged::Counted(counted) => {
             memory_header::put_header(mem, counted);
             Recorded::Taken
