@@ -42,7 +42,7 @@ module _ {n : ℕ} {at : ℕ → Location} {x : Location} (t : Turn n at x) wher
   first = subst (λ (k : ℕ). FirstFrom n at (t .g) (t .b) (x .destroyed) k) (sym (t .found)) (first-from-is n at (t .lined) (t .g) (t .b) (x .destroyed) (omega arith))
 
   -- an entry before q is at address b and created before x ends
-  created : (j : ℕ) → t .g ≤ j → j < t .q → (at j .address ≡ t .b) × (at j .created < x .destroyed)
+  pub created : (j : ℕ) → t .g ≤ j → j < t .q → (at j .address ≡ t .b) × (at j .created < x .destroyed)
   created j h k =
       let v : Earlier true (at j) (t .b) (x .destroyed) = earlier-told (at j) (t .b) (x .destroyed) true (first .before j h k) in
       let e : at j .address ≡ t .b = omega (arith, v .0, upto n at (t .lined) (t .g) j h (omega (arith, first .high)) .by-address) in
@@ -73,21 +73,28 @@ module _ {n : ℕ} {at : ℕ → Location} {x : Location} (t : Turn n at x) wher
         go (inl k) = k
         go (inr k) = absurd (omega (arith, earlier-told (at (t .g)) (t .b + 1) 0 false (behind .after (t .g) k (t .inside)) .0))
 
-    -- the last before q has ended: those before it ended earlier, those from q on are created when x has ended
-    ended : (t .g < t .q → at (t .q - 1) .destroyed ≤ x .created) → (j : ℕ) → t .g ≤ j → j < p → Together x (at j) → ⊥
-    ended d j h k w = go (lt-or-le j (t .q)) (lt-or-le (at j .address) (t .b + 1))
+    -- those from q on at address b are created when x has ended
+    pub not-yet : (j : ℕ) → t .q ≤ j → j < p → Together x (at j) → ⊥
+    not-yet j h k w = go (lt-or-le (at j .address) (t .b + 1))
       where
-        go : (j < t .q) ⊎ (t .q ≤ j) → (at j .address < t .b + 1) ⊎ (t .b + 1 ≤ at j .address) → ⊥
-        go (inl l) o =
+        go : (at j .address < t .b + 1) ⊎ (t .b + 1 ≤ at j .address) → ⊥
+        go (inl o) =
+            let v : Earlier false (at j) (t .b) (x .destroyed) = earlier-told (at j) (t .b) (x .destroyed) false (first .after j h (omega (arith, behind .high))) in
+            omega (arith, w .right, v .1 (omega (arith, v .0)))
+        go (inr o) =
+            let v : Earlier true (at j) (t .b + 1) 0 = earlier-told (at j) (t .b + 1) 0 true (behind .before j h k) in
+            omega (arith, v .1 (omega (arith, v .0)))
+
+    -- the last before q has ended: those before it ended earlier
+    ended : (t .g < t .q → at (t .q - 1) .destroyed ≤ x .created) → (j : ℕ) → t .g ≤ j → j < p → Together x (at j) → ⊥
+    ended d j h k w = go (lt-or-le j (t .q))
+      where
+        go : (j < t .q) ⊎ (t .q ≤ j) → ⊥
+        go (inl l) =
             let c : (at j .address ≡ t .b) × (at j .created < x .destroyed) = created j h l in
             let c′ : (at (t .q - 1) .address ≡ t .b) × (at (t .q - 1) .created < x .destroyed) = created (t .q - 1) (omega arith) (omega arith) in
             omega (arith, w .left, d (omega arith), upto n at (t .lined) j (t .q - 1) (omega arith) (omega (arith, first .high)) .by-destroyed (omega (arith, c .0, c′ .0)))
-        go (inr l) (inl o) =
-            let v : Earlier false (at j) (t .b) (x .destroyed) = earlier-told (at j) (t .b) (x .destroyed) false (first .after j l (omega (arith, behind .high))) in
-            omega (arith, w .right, v .1 (omega (arith, v .0)))
-        go (inr l) (inr o) =
-            let v : Earlier true (at j) (t .b + 1) 0 = earlier-told (at j) (t .b + 1) 0 true (behind .before j l k) in
-            omega (arith, v .1 (omega (arith, v .0)))
+        go (inr l) = not-yet j l k w
 
     pub among-on : (end : ℕ) → (t .g < t .q → at (t .q - 1) .destroyed ≤ x .created) → lives-among at (n - p) p x end ≡ lives-among at (n - t .g) (t .g) x end
     among-on end d = same-test (lives-among at (n - p) p x end) (lives-among at (n - t .g) (t .g) x end)
