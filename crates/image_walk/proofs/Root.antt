@@ -1,16 +1,17 @@
 -- The root of an image that was accepted, or that was made, stands at its start. Assumes nothing.
-use Prim.Native.Nat.{ℕ, _^_, _<_}
+use Prim.Native.Nat.{ℕ, zero, suc, _^_, _<_}
 use native.Mathlib.Omega.{arith}
-use mathlib.Core.Path.{_≡_, refl, subst}
+use mathlib.Core.Path.{_≡_, refl, sym, subst, _∙_}
 use mathlib.Core.List.{List, []}
 use lib.ListN.{length, getD}
+use borrow.Author.Tests.{eq-eqb}
 use Rattle.trie.specs.Trie.{Node, Trie, empty, root}
 use Rattle.image_format.proofs.ReadBack.{all-read, holds-in, node-length}
 use Rattle.image_format.proofs.Shapes.{fitting}
 use Rattle.image_format.proofs.Theorems.{read-image-is}
 use Rattle.image_format.specs.Held.{trie-in}
 use Rattle.image_format.specs.Image.{children-of, image}
-use Rattle.image_format.specs.Reading.{read-image, right}
+use Rattle.image_format.specs.Reading.{right, refused, read-image, read-root, RightImage}
 use Rattle.image_format.specs.Savable.{AllBytes, Savable}
 use Rattle.image_walk.specs.Here.{NodeHere, RootHere, Laid}
 
@@ -56,3 +57,29 @@ here-root s a l nodes entries e z =
 -- a node stands at the start
 pub root-laid : (s : List ℕ) → RootHere s → Laid s 0
 root-laid s h = record { depth = 16; node = h .node; here = h .here }
+
+-- ── an image whose layout is right ──
+
+read-nothing : (s : List ℕ) → length s ≡ 0 → read-image s ≡ refused 13
+unfolding read-image read-root
+read-nothing s z = rw (eq-eqb (length s) 0 z) refl
+
+-- an image has a first byte
+pub layout-some : (s : List ℕ) → RightImage s → 0 < length s
+layout-some s h = go (length s) refl
+  where
+    clash : {n k e : ℕ} → refused n ≡ right k e → ⊥
+    clash f = let z : _≡_ {A = ℕ} 0 1 = cc in omega arith
+
+    go : (n : ℕ) → length s ≡ n → 0 < n
+    go zero q = absurd (clash (sym (read-nothing s q) ∙ h .read))
+    go (suc n) q = omega arith
+
+-- a first byte 0 is that of an empty index
+pub trie-empty : (s : List ℕ) → getD s 0 0 ≡ 0 → trie-in s ≡ empty
+unfolding trie-in
+trie-empty s z = rw (eq-eqb (getD s 0 0) 0 z) refl
+
+-- another is that of the root
+pub root-of : (s : List ℕ) → AllBytes s → length s < 2 ^ 64 → RightImage s → (getD s 0 0 ≡ 0 → ⊥) → RootHere s
+root-of s a l h z = here-root s a l (h .nodes) (h .entries) (h .read) z

@@ -1,21 +1,19 @@
 -- The rule from the root on, and the whole check of an image. Assumes nothing.
-use Prim.Native.Nat.{ℕ, zero, suc, _-_, _^_, _≤_, _<_}
+use Prim.Native.Nat.{ℕ, _≤_}
 use native.Mathlib.Omega.{arith}
-use mathlib.Core.Path.{_≡_, refl, sym, ap, _∙_}
+use mathlib.Core.Path.{_≡_, sym, ap, _∙_}
 use mathlib.Core.Bool.{Bool, true, false, _&&_, cond}
 use mathlib.Core.List.{List}
 use lib.ListN.{length, getD}
-use borrow.Author.Tests.{eq-eqb}
 use Rattle.definitions.specs.Conflicts.{free}
 use Rattle.definitions.specs.Causes.{image-broken, conflict}
 use Rattle.trie.specs.Trie.{trie-pieces}
 use Rattle.trie.specs.Test.{node-right, fronts-within, forest-right, siblings, index-rule}
 use Rattle.image_format.specs.Held.{trie-in}
-use Rattle.image_format.specs.Reading.{Layout, right, refused, read-image, read-root, RightImage}
-use Rattle.image_format.specs.Savable.{AllBytes}
+use Rattle.image_format.specs.Reading.{Layout, right, refused, read-image}
 use Rattle.image_walk.specs.Parts.{parts-at}
 use Rattle.image_walk.specs.Here.{RootHere}
-use Rattle.image_walk.proofs.Root.{here-root}
+use Rattle.image_walk.proofs.Root.{trie-empty}
 use Rattle.node_rule.specs.Parts.{PartsOf, HasParts, HasTable}
 use Rattle.single_runs.specs.Says.{children-right, ChildrenAsked, ChildrenSays}
 use Rattle.fronts.specs.FrontRule.{RootFronts}
@@ -27,29 +25,9 @@ use Rattle.image_walk.specs.declared.Node.{Node as Parts}
 
 -- ── the first byte ──
 
-read-nothing : (s : List ℕ) → length s ≡ 0 → read-image s ≡ refused 13
-unfolding read-image read-root
-read-nothing s z = rw (eq-eqb (length s) 0 z) refl
-
--- an image has a first byte
-pub layout-some : (s : List ℕ) → RightImage s → 0 < length s
-layout-some s h = go (length s) refl
-  where
-    clash : {n k e : ℕ} → refused n ≡ right k e → ⊥
-    clash f = let z : _≡_ {A = ℕ} 0 1 = cc in omega arith
-
-    go : (n : ℕ) → length s ≡ n → 0 < n
-    go zero q = absurd (clash (sym (read-nothing s q) ∙ h .read))
-    go (suc n) q = omega arith
-
 -- 0 is that of an empty index, which meets the rule
 pub rule-empty : (s : List ℕ) → getD s 0 0 ≡ 0 → true ≡ index-rule (trie-in s)
-unfolding trie-in
-rule-empty s z = rw (eq-eqb (getD s 0 0) 0 z) refl
-
--- another is that of the root
-pub root-of : (s : List ℕ) → AllBytes s → length s < 2 ^ 64 → RightImage s → (getD s 0 0 ≡ 0 → ⊥) → RootHere s
-root-of s a l h z = here-root s a l (h .nodes) (h .entries) (h .read) z
+rule-empty s z = ap index-rule (sym (trie-empty s z))
 
 -- ── the root ──
 

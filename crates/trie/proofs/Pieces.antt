@@ -14,22 +14,22 @@ use Rattle.trie.proofs.Stands.{Stands, stands-map, stands-none, stands-
 
 -- ── pieces ──
 
-here-mem : {p : Piece} (path : List ℕ) (ls : List Location) → Mem p (pieces-here path ls) → (p .bytes ≡ path) × Mem (p .at) ls
+pub here-mem : {p : Piece} (path : List ℕ) (ls : List Location) → Mem p (pieces-here path ls) → (p .bytes ≡ path) × Mem (p .at) ls
 here-mem path (l ∷ ls) (here e) = (ap (λ (x : Piece). x .bytes) e, here (ap (λ (x : Piece). x .at) e))
 here-mem path (l ∷ ls) (behind h) =
     let k = here-mem path ls h in
     (k .0, behind (k .1))
 
-mem-here : {p : Piece} (path : List ℕ) (ls : List Location) → p .bytes ≡ path → Mem (p .at) ls → Mem p (pieces-here path ls)
+pub mem-here : {p : Piece} (path : List ℕ) (ls : List Location) → p .bytes ≡ path → Mem (p .at) ls → Mem p (pieces-here path ls)
 mem-here path (l ∷ ls) e (here f) = here (λ i. record { bytes = e i; at = f i })
 mem-here path (l ∷ ls) e (behind h) = behind (mem-here path ls e h)
 
 module _ (p : Piece) where
   -- the piece has the bytes of the path behind `front`, and its location is a chunk there
-  abbrev PieceAt : List ℕ → List ℕ → Lists → Type 0
+  abbrev pub PieceAt : List ℕ → List ℕ → Lists → Type 0
   PieceAt front w h = (p .bytes ≡ front ++ w) × Mem (p .at) (h .chunks)
 
-  forest-stands : (front : List ℕ) (f : Forest) → Apart f → Mem p (forest-pieces front f) → Stands f (PieceAt front)
+  pub forest-stands : (front : List ℕ) (f : Forest) → Apart f → Mem p (forest-pieces front f) → Stands f (PieceAt front)
   forest-stands front leaf a m = absurd (not-nil m)
   forest-stands front (more b h below later) a m = go (forest-stands (front ++ (b ∷ [])) below (a .1)) (forest-stands front later (a .2)) (append-cases (pieces-here (front ++ (b ∷ [])) (h .chunks) ++ forest-pieces (front ++ (b ∷ [])) below) m)
     where

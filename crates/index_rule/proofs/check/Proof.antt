@@ -22,24 +22,4 @@ returns-2 c =
     let t = c .before .before .before .t .given in
     let q = ap layout-of (sym (t .1)) ∙ c .before .before .before .before .before .read-image .ensures in
     let r = c .before .index-rule in
-    check-holds (now (a .s)) _ _ q (r .result) (r .ensures) (c .if1 .taken)
-
-returns-3 : tie.Need-returns-3
-returns-3 c =
-    let a = c .before .before .before .before .before .before .before .args in
-    let t = c .before .before .before .t .given in
-    let q = ap layout-of (sym (t .1)) ∙ c .before .before .before .before .before .read-image .ensures in
-    let r = c .before .index-rule in
-    check-fails (now (a .s)) _ _ q (r .result) (r .ensures) (c .if1 .left)
-
-pub check-spec : {M : Type 1} → statement M
-check-spec =
-    tie.close
-    (tie.spec
-    (λ c κs. search needs)
-    (λ c. search needs)
-    (λ c. search needs)
-    index-rule-requires
-    returns
-    returns-2
-    returns-3)
+    check-fails (now (a .s)) _ _ q (r .result) (r .ensures) (not-true _ (c .if1 .taken))

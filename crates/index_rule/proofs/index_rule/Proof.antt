@@ -3,8 +3,8 @@ use native.Mathlib.Omega.{arith}
 use borrow.Author.Needs.{needs}
 use borrow.Author.Tests.{not-true, not-false}
 use denote.Ref.{now}
-use Rattle.image_walk.proofs.Root.{root-laid}
-use Rattle.index_rule.proofs.Whole.{layout-some, root-asked, root-of, root-parts, root-table, rule-by-children, rule-empty, rule-not-node}
+use Rattle.image_walk.proofs.Root.{layout-some, root-laid, root-of}
+use Rattle.index_rule.proofs.Whole.{root-asked, root-parts, root-table, rule-by-children, rule-empty, rule-not-node}
 use Rattle.index_rule.proofs.index_rule.Statement.{statement}
 use Rattle.index_rule.proofs.index_rule.Tie as tie
 
