@@ -1,1 +1,2 @@
--- Assumes nothing.
+-- `Writes` has bytes written before others and entries moved. Assumes nothing.
+pub mod Writes
