@@ -5,7 +5,7 @@ use mathlib.Core.Path.{_≡_, refl, sym, ap, _∙_}
 use mathlib.Core.Logic.{inl}
 use mathlib.Core.List.{List, [], _∷_, _++_}
 use lib.ListN.{length, getD, set, take, drop, length-append}
-use lib.Seq.{sets, set-comm, length-take-le, take-add, drop-drop}
+use lib.Seq.{sets, set-comm, take-add, drop-drop}
 use Rattle.words.specs.Words.{le64, setLe64, bytes64}
 use Rattle.words.proofs.Parts.{sets-append, length-bytes64, setLe64-sets, bytes64-le64, le64-sets-other}
 
