@@ -149,10 +149,10 @@ own-length (e ∷ es) =
     let b : List ℕ = bytes64 (e .piece .at .destroyed) in
     omega (arith, length-append a (b ++ own-bytes es), length-append b (own-bytes es), length-bytes64 (e .number), length-bytes64 (e .piece .at .destroyed), own-length es)
 
-own-parts : (k : ℕ) (es : List Entry) → own-bytes es ≡ own-bytes (take k es) ++ own-bytes (drop k es)
+pub own-parts : (k : ℕ) (es : List Entry) → own-bytes es ≡ own-bytes (take k es) ++ own-bytes (drop k es)
 own-parts k es = ap own-bytes (sym (take-append-drop k es)) ∙ own-append (take k es) (drop k es)
 
-own-front : (k : ℕ) (es : List Entry) → k ≤ length es → length (own-bytes (take k es)) ≡ 16 * k
+pub own-front : (k : ℕ) (es : List Entry) → k ≤ length es → length (own-bytes (take k es)) ≡ 16 * k
 own-front k es h = omega (arith, own-length (take k es), length-take-le k es h)
 
 pub own-take : (k : ℕ) (es : List Entry) → k ≤ length es → take (16 * k) (own-bytes es) ≡ own-bytes (take k es)
