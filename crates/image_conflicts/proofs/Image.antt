@@ -25,7 +25,7 @@ use Rattle.trie.specs.Rule.{Has, OwedSuffix, NodeRule}
 use Rattle.trie.specs.Test.{node-right, fronts-within, forest-right, siblings}
 use Rattle.trie.proofs.Pieces.{here-mem, forest-stands, pieces-has}
 use Rattle.trie.proofs.Test.{rule-test-is}
-use Rattle.image_conflicts.specs.Due.{AllEnding, forest-due, is-met, conflict-free}
+use Rattle.image_conflicts.specs.Due.{AllEnding, forest-due, no-conflict, conflict-free}
 use Rattle.image_conflicts.specs.Promises.{filled-pieces, RootSuffixes, ImageFree, ConflictFreeIs}
 use Rattle.image_conflicts.proofs.Inside.{none-inside}
 use Rattle.image_conflicts.proofs.Carried.{Carried, right-ending, right-carried}
@@ -39,13 +39,13 @@ same-lined n f g e s = record {
 }
 
 -- so many were left
-record Met (o : Option ℕ) : Type 0 where
+record Left (o : Option ℕ) : Type 0 where
   left : ℕ
   is : o ≡ some left
 
-met-is : (o : Option ℕ) → is-met o ≡ true → Met o
-met-is none e = absurd (not-both refl e)
-met-is (some k) e = record { left = k; is = refl }
+left-is : (o : Option ℕ) → no-conflict o ≡ true → Left o
+left-is none e = absurd (not-both refl e)
+left-is (some k) e = record { left = k; is = refl }
 
 module _ (n : Node) (r : NodeRule n) where
   -- ── the root's suffixes ──
@@ -126,12 +126,12 @@ module _ (n : Node) (r : NodeRule n) where
 
     test-clear : conflict-free at count (n .children) ≡ true → ClearImage (filled-pieces n) all
     unfolding conflict-free
-    test-clear e = go (met-is (forest-due at count 1 (n .children) count) (and-right (in-line at (count - 1)) (is-met (forest-due at count 1 (n .children) count)) e))
+    test-clear e = go (left-is (forest-due at count 1 (n .children) count) (and-right (in-line at (count - 1)) (no-conflict (forest-due at count 1 (n .children) count)) e))
       where
         line : Lined count at
-        line = in-line-is count at all-alive .0 (and-left (in-line at (count - 1)) (is-met (forest-due at count 1 (n .children) count)) e)
+        line = in-line-is count at all-alive .0 (and-left (in-line at (count - 1)) (no-conflict (forest-due at count 1 (n .children) count)) e)
 
-        go : Met (forest-due at count 1 (n .children) count) → ClearImage (filled-pieces n) all
+        go : Left (forest-due at count 1 (n .children) count) → ClearImage (filled-pieces n) all
         go x = record {
           count = omega (arith, c .count, no-fewer (filled-pieces n) all suffixes);
           lined = same-lined count at (loc all) num line;
@@ -143,7 +143,7 @@ module _ (n : Node) (r : NodeRule n) where
 
     clear-test : ClearImage (filled-pieces n) all → conflict-free at count (n .children) ≡ true
     unfolding conflict-free
-    clear-test x = and-true (in-line-is count at all-alive .1 line) (ap is-met (counted-due at count [] 1 refl (n .children) carried count 0 c))
+    clear-test x = and-true (in-line-is count at all-alive .1 line) (ap no-conflict (counted-due at count [] 1 refl (n .children) carried count 0 c))
       where
         line : Lined count at
         line = same-lined count (loc all) at (λ i h. sym (num i h)) (x .lined)

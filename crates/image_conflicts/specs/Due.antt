@@ -50,10 +50,10 @@ node-due at n m x due =
     then-due (chunks-due at n m (x .lists .chunks) due) (λ k. cond (is-nil (x .lists .suffixes)) (some k) (forest-due at n (m + 1) (x .children) k))
 
 -- no conflict was met
-abbrev pub is-met : Option ℕ → Bool
-is-met none = false
-is-met (some k) = true
+abbrev pub no-conflict : Option ℕ → Bool
+no-conflict none = false
+no-conflict (some k) = true
 
 -- the n locations are in line, and the chunks below the root are clear and no more
 unfoldable pub conflict-free : (ℕ → Location) → ℕ → Forest → Bool
-conflict-free at n f = in-line at (n - 1) && is-met (forest-due at n 1 f n)
+conflict-free at n f = in-line at (n - 1) && no-conflict (forest-due at n 1 f n)
