@@ -73,7 +73,7 @@ module _ (ps : List Piece) (ls : List Location) (w : Locations ps ls) where
       let z : Less (loc ls i) (loc ls i) = subst (Less (loc ls i)) (sym s) (sorted-at Less ls (w .sorted) i j h k) in
       less-asym z z
 
-  no-fewer : length ls ≤ length ps
+  pub no-fewer : length ls ≤ length ps
   no-fewer = no-more-than (length ps) (length ls) (named .pick) picked different
 
   -- ── free of conflicts, so clear ──

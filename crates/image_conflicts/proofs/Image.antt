@@ -8,7 +8,6 @@ use mathlib.Core.Logic.{_⊎_, inl, inr, _↔_}
 use mathlib.Core.List.{List, [], _∷_, List·Memᴰ as Mem, List·Memᴰ·append-cases as append-cases, Memᴰ·append-right as append-right}
 use mathlib.Core.Option.{Option, none, some}
 use lib.ListN.{length}
-use borrow.Author.Tests.{eqb-true}
 use Rattle.definitions.specs.Location.{Location, meets}
 use Rattle.definitions.specs.Blocks.{Piece}
 use Rattle.definitions.specs.Conflicts.{conflicting, free}
@@ -20,13 +19,13 @@ use Rattle.conflicts.specs.Order.{nowhere, loc}
 use Rattle.conflicts.specs.Promises.{PieceAt, Locations, ClearImage}
 use Rattle.conflicts.proofs.Line.{in-line-is}
 use Rattle.conflicts.proofs.Numbers.{at-member}
-use Rattle.conflicts.proofs.Images.{locations-free}
+use Rattle.conflicts.proofs.Images.{no-fewer, locations-free}
 use Rattle.trie.specs.Trie.{Node, root, pieces-here, trie-pieces}
 use Rattle.trie.specs.Rule.{Has, OwedSuffix, NodeRule}
 use Rattle.trie.specs.Test.{node-right, fronts-within, forest-right, siblings}
 use Rattle.trie.proofs.Pieces.{here-mem, forest-stands, pieces-has}
 use Rattle.trie.proofs.Test.{rule-test-is}
-use Rattle.image_conflicts.specs.Due.{AllEnding, forest-due, none-left, conflict-free}
+use Rattle.image_conflicts.specs.Due.{AllEnding, forest-due, no-conflict, conflict-free}
 use Rattle.image_conflicts.specs.Promises.{filled-pieces, RootSuffixes, ImageFree, ConflictFreeIs}
 use Rattle.image_conflicts.proofs.Inside.{none-inside}
 use Rattle.image_conflicts.proofs.Carried.{Carried, right-ending, right-carried}
@@ -39,9 +38,14 @@ same-lined n f g e s = record {
   alive = λ i h. subst (λ (l : Location). l .created < l .destroyed) (e i h) (s .alive i h);
 }
 
-none-left-is : (o : Option ℕ) → none-left o ≡ true → o ≡ some 0
-none-left-is none e = absurd (not-both refl e)
-none-left-is (some k) e = ap (λ (x : ℕ). some x) (eqb-true k 0 e)
+-- so many were left
+record Left (o : Option ℕ) : Type 0 where
+  left : ℕ
+  is : o ≡ some left
+
+left-is : (o : Option ℕ) → no-conflict o ≡ true → Left o
+left-is none e = absurd (not-both refl e)
+left-is (some k) e = record { left = k; is = refl }
 
 module _ (n : Node) (r : NodeRule n) where
   -- ── the root's suffixes ──
@@ -122,21 +126,24 @@ module _ (n : Node) (r : NodeRule n) where
 
     test-clear : conflict-free at count (n .children) ≡ true → ClearImage (filled-pieces n) all
     unfolding conflict-free
-    test-clear e = record {
-      count = omega (arith, c .count);
-      lined = same-lined count at (loc all) num line;
-      inside = λ p m i h a b. subst (λ (l : Location). meets (p .at) l ≡ false) (num i h) (none-inside count at line (length (p .bytes)) (p .at) .0 (c .clear p m) i h (subst (λ (l : Location). p .at .address < l .address) (sym (num i h)) a) (subst (λ (l : Location). l .address < p .at .address + length (p .bytes)) (sym (num i h)) b));
-    }
+    test-clear e = go (left-is (forest-due at count 1 (n .children) count) (and-right (in-line at (count - 1)) (no-conflict (forest-due at count 1 (n .children) count)) e))
       where
         line : Lined count at
-        line = in-line-is count at all-alive .0 (and-left (in-line at (count - 1)) (none-left (forest-due at count 1 (n .children) count)) e)
+        line = in-line-is count at all-alive .0 (and-left (in-line at (count - 1)) (no-conflict (forest-due at count 1 (n .children) count)) e)
 
-        c : Counted at count (filled-pieces n) count 0
-        c = due-counted at count [] 1 refl (n .children) carried count 0 (none-left-is (forest-due at count 1 (n .children) count) (and-right (in-line at (count - 1)) (none-left (forest-due at count 1 (n .children) count)) e))
+        go : Left (forest-due at count 1 (n .children) count) → ClearImage (filled-pieces n) all
+        go x = record {
+          count = omega (arith, c .count, no-fewer (filled-pieces n) all suffixes);
+          lined = same-lined count at (loc all) num line;
+          inside = λ p m i h a b. subst (λ (l : Location). meets (p .at) l ≡ false) (num i h) (none-inside count at line (length (p .bytes)) (p .at) .0 (c .clear p m) i h (subst (λ (l : Location). p .at .address < l .address) (sym (num i h)) a) (subst (λ (l : Location). l .address < p .at .address + length (p .bytes)) (sym (num i h)) b));
+        }
+          where
+            c : Counted at count (filled-pieces n) count (x .left)
+            c = due-counted at count [] 1 refl (n .children) carried count (x .left) (x .is)
 
     clear-test : ClearImage (filled-pieces n) all → conflict-free at count (n .children) ≡ true
     unfolding conflict-free
-    clear-test x = and-true (in-line-is count at all-alive .1 line) (ap none-left (counted-due at count [] 1 refl (n .children) carried count 0 c))
+    clear-test x = and-true (in-line-is count at all-alive .1 line) (ap no-conflict (counted-due at count [] 1 refl (n .children) carried count 0 c))
       where
         line : Lined count at
         line = same-lined count (loc all) at (λ i h. sym (num i h)) (x .lined)

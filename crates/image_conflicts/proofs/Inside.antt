@@ -14,6 +14,10 @@ use Rattle.conflicts.specs.Promises.{FirstFrom, LivesAmong}
 use Rattle.conflicts.proofs.Line.{Earlier, earlier-told, first-from-is, lives-among-is}
 use Rattle.image_conflicts.specs.Due.{lives-inside, all-clear}
 
+-- what is found lies among them
+pub first-within : (n : ℕ) (at : ℕ → Location) → Lined n at → (b c g : ℕ) → g ≡ first-from at (n - 0) 0 b c → g ≤ n
+first-within n at s b c g e = omega (arith, first-from-is n at s 0 b c (omega arith) .high)
+
 module _ (n : ℕ) (at : ℕ → Location) (s : Lined n at) (m : ℕ) (x : Location) where
   -- the first behind the piece's first address
   first : FirstFrom n at 0 (x .address + 1) 0 (first-from at n 0 (x .address + 1) 0)
@@ -30,9 +34,6 @@ module _ (n : ℕ) (at : ℕ → Location) (s : Lined n at) (m : ℕ) (x : Locat
           low v = let e : at i .address ≡ x .address + 1 = omega (arith, v .0) in omega (arith, v .1 e)
 
   -- what the code finds
-  pub first-within : first-from at (n - 0) 0 (x .address + 1) 0 ≤ n
-  first-within = first-from-is n at s 0 (x .address + 1) 0 (omega arith) .high
-
   pub inside-told : (g : ℕ) → g ≡ first-from at (n - 0) 0 (x .address + 1) 0 → (r : Bool) → r ≡ lives-among at (n - g) g x (x .address + m) → not r ≡ not (lives-inside at n m x)
   unfolding lives-inside
   inside-told g e r f =

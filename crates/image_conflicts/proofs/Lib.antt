@@ -1,8 +1,8 @@
--- `Image` has the promises; what stands before it serves them. Assumes nothing.
+-- `Inside`, `Carried` and `Counted` lead to the promises in `Image`; `Chunks`, `Nodes` and `Root` serve the functions. Assumes nothing.
 pub mod Inside
-pub mod Chunks
-pub mod Nodes
 pub mod Carried
 pub mod Counted
 pub mod Image
+pub mod Chunks
+pub mod Nodes
 pub mod Root

@@ -26,7 +26,7 @@ use Rattle.image_walk.proofs.Paths.{short-path}
 use Rattle.image_walk.proofs.Root.{trie-empty}
 use Rattle.node_rule.specs.Parts.{PartsOf}
 use Rattle.node_rule.proofs.Parts.{parts-of}
-use Rattle.image_conflicts.specs.Due.{forest-due, none-left, conflict-free}
+use Rattle.image_conflicts.specs.Due.{forest-due, no-conflict, conflict-free}
 use Rattle.image_conflicts.specs.Contracts.{due-of, Ready, ChildrenAsked, ChildrenSays}
 use Rattle.image_conflicts.specs.declared.Due.{Due}
 use Rattle.image_conflicts.proofs.Image.{all-ending, all-alive, conflict-free-is}
@@ -68,7 +68,7 @@ module _ (s : List ℕ) (h : RootHere s) (e : index-rule (trie-in s) ≡ true) (
   module _ (r : Bool) (f : r ≡ in-line (location-of s (suffix-line p)) (p .«suffix_count» - 1)) where
     pub not-in-line : r ≡ false → false ≡ free (trie-pieces (trie-in s))
     unfolding conflict-free
-    not-in-line z = ap (λ (o : Bool). o && none-left (forest-due (location-of s (suffix-line p)) (p .«suffix_count») 1 (h .node .children) (p .«suffix_count»))) (sym z ∙ f) ∙ by-test
+    not-in-line z = ap (λ (o : Bool). o && no-conflict (forest-due (location-of s (suffix-line p)) (p .«suffix_count») 1 (h .node .children) (p .«suffix_count»))) (sym z ∙ f) ∙ by-test
 
     module _ (z : r ≡ true) where
       pub root-ready : Ready s (suffix-line p)
@@ -82,9 +82,9 @@ module _ (s : List ℕ) (h : RootHere s) (e : index-rule (trie-in s) ≡ true) (
       pub root-asked : ChildrenAsked s p 1 16
       root-asked = record { node = h .node; is = root-is; ending = all-ending (h .node) rule; levels = omega arith }
 
-      pub root-says : (d : Due) → ChildrenSays s (suffix-line p) p 1 16 (p .«suffix_count») d → none-left (due-of d) ≡ free (trie-pieces (trie-in s))
+      pub root-says : (d : Due) → ChildrenSays s (suffix-line p) p 1 16 (p .«suffix_count») d → no-conflict (due-of d) ≡ free (trie-pieces (trie-in s))
       unfolding conflict-free
       root-says d c =
-          ap none-left (c .says (h .node) root-is)
-          ∙ ap (λ (o : Bool). o && none-left (forest-due (location-of s (suffix-line p)) (p .«suffix_count») 1 (h .node .children) (p .«suffix_count»))) (sym z ∙ f)
+          ap no-conflict (c .says (h .node) root-is)
+          ∙ ap (λ (o : Bool). o && no-conflict (forest-due (location-of s (suffix-line p)) (p .«suffix_count») 1 (h .node .children) (p .«suffix_count»))) (sym z ∙ f)
           ∙ by-test

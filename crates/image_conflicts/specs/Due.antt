@@ -4,7 +4,7 @@ use mathlib.Core.Bool.{Bool, true, false, not, _&&_, cond}
 use mathlib.Core.List.{List, [], _∷_, List·Memᴰ}
 use mathlib.Core.Option.{Option, none, some}
 use lib.ListN.{length}
-use lib.Dec.{leb, eqb}
+use lib.Dec.{leb}
 use Rattle.definitions.specs.Location.{Location}
 use Rattle.definitions.specs.Calls.{last-number}
 use Rattle.conflicts.specs.Lined.{in-line, first-from, lives-among}
@@ -49,11 +49,11 @@ unfoldable pub node-due : (ℕ → Location) → (n m : ℕ) → Node → ℕ �
 node-due at n m x due =
     then-due (chunks-due at n m (x .lists .chunks) due) (λ k. cond (is-nil (x .lists .suffixes)) (some k) (forest-due at n (m + 1) (x .children) k))
 
--- no more and no fewer than were due
-abbrev pub none-left : Option ℕ → Bool
-none-left none = false
-none-left (some k) = eqb k 0
+-- no conflict was met
+abbrev pub no-conflict : Option ℕ → Bool
+no-conflict none = false
+no-conflict (some k) = true
 
--- the n locations are in line, and the chunks below the root are clear and as many
+-- the n locations are in line, and the chunks below the root are clear and no more
 unfoldable pub conflict-free : (ℕ → Location) → ℕ → Forest → Bool
-conflict-free at n f = in-line at (n - 1) && none-left (forest-due at n 1 f n)
+conflict-free at n f = in-line at (n - 1) && no-conflict (forest-due at n 1 f n)

@@ -114,7 +114,8 @@ fn node_due(s: &[u8], v: Line, at: usize, m: usize, left: usize, due: usize) -> 
     children_due(s, v, n, m + 1, left, rest)
 }
 
-// Whether no two pieces of an image conflict, for one whose layout is right and that meets the index rule.
+// Whether no two pieces of an image conflict, for one whose layout is right and that meets the index rule. Each location
+// is that of a chunk, so that there are more chunks than locations exactly if two share one.
 pub fn conflict_free(s: &[u8]) -> bool
     requires { ⌜ RightImage (now s) × (index-rule (trie-in (now s)) ≡ true) ⌝ }
     ensures { λ r. ⌜ r ≡ free (trie-pieces (trie-in (now (s .entry)))) ⌝ }
@@ -131,9 +132,8 @@ pub fn conflict_free(s: &[u8]) -> bool
     if !lined_locations::in_line(s, line) {
         return false;
     }
-    let met = children_due(s, line, root, 1, PIECE_SIZE, line.count);
-    let Due::Chunks(missing) = met else {
-        return false;
-    };
-    missing == 0
+    match children_due(s, line, root, 1, PIECE_SIZE, line.count) {
+        Due::Chunks(_) => true,
+        Due::Conflict => false,
+    }
 }

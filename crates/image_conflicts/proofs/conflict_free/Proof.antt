@@ -5,7 +5,7 @@ use borrow.Author.Needs.{needs}
 use borrow.Author.Tests.{not-true, not-false}
 use denote.Ref.{now}
 use Rattle.image_walk.proofs.Root.{layout-some, root-laid, root-of}
-use Rattle.image_conflicts.specs.Due.{none-left}
+use Rattle.image_conflicts.specs.Due.{no-conflict}
 use Rattle.image_conflicts.specs.Contracts.{due-of}
 use Rattle.image_conflicts.proofs.Root.{empty-free, root-within, not-in-line, root-ready, root-asked, root-says}
 use Rattle.image_conflicts.proofs.conflict_free.Statement.{statement}
@@ -54,16 +54,16 @@ returns-3 c =
     let n = c .before .before .before .before .before .node-at in
     let l = c .before .before .before .before .in-line in
     let d = c .before .before .children-due in
-    ap (λ o. none-left (due-of o)) (sym (c .enum-told .given .1)) ∙ root-says (now (a .s)) h (c .before .before .before .before .before .before .before .before .before .pre .1) (n .result) (n .ensures) (l .result) (l .ensures) (not-false (l .result) (c .before .before .before .if2 .left)) (d .result) (d .ensures)
+    ap (λ o. no-conflict (due-of o)) (sym (c .enum-told .given .1)) ∙ root-says (now (a .s)) h (c .before .before .before .before .before .before .before .before .before .pre .1) (n .result) (n .ensures) (l .result) (l .ensures) (not-false (l .result) (c .before .before .before .if2 .left)) (d .result) (d .ensures)
 
 returns-4 : tie.Need-returns-4
 returns-4 c =
-    let a = c .before .before .before .before .before .before .before .before .before .before .args in
-    let h = root-of (now (a .s)) (λ i. omega (arith, c .before .before .before .before .before .before .before .before .before .shared-slice-known .given i)) (omega arith) (c .before .before .before .before .before .before .before .before .before .before .pre .0) (c .before .before .before .before .before .before .before .if1 .left) in
-    let n = c .before .before .before .before .before .before .node-at in
-    let l = c .before .before .before .before .before .in-line in
-    let d = c .before .before .before .children-due in
-    ap (λ o. none-left (due-of o)) (sym (c .before .met .given .1)) ∙ root-says (now (a .s)) h (c .before .before .before .before .before .before .before .before .before .before .pre .1) (n .result) (n .ensures) (l .result) (l .ensures) (not-false (l .result) (c .before .before .before .before .if2 .left)) (d .result) (d .ensures)
+    let a = c .before .before .before .before .before .before .before .before .before .args in
+    let h = root-of (now (a .s)) (λ i. omega (arith, c .before .before .before .before .before .before .before .before .shared-slice-known .given i)) (omega arith) (c .before .before .before .before .before .before .before .before .before .pre .0) (c .before .before .before .before .before .before .if1 .left) in
+    let n = c .before .before .before .before .before .node-at in
+    let l = c .before .before .before .before .in-line in
+    let d = c .before .before .children-due in
+    ap (λ o. no-conflict (due-of o)) (sym (c .enum-told2 .given .1)) ∙ root-says (now (a .s)) h (c .before .before .before .before .before .before .before .before .before .pre .1) (n .result) (n .ensures) (l .result) (l .ensures) (not-false (l .result) (c .before .before .before .if2 .left)) (d .result) (d .ensures)
 
 pub conflict-free-spec : {M : Type 1} → statement M
 conflict-free-spec =

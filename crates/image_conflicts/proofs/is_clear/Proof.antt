@@ -1,5 +1,4 @@
 -- `image_conflicts::is_clear` meets its contract: the first location behind the first address, and then one that lives. Assumes nothing.
-use native.Mathlib.Omega.{arith}
 use borrow.Author.Needs.{needs}
 use denote.Ref.{now}
 use Rattle.location.specs.Plain.{plain}
@@ -12,7 +11,7 @@ lives-among-requires : tie.Need-lives-among-requires
 lives-among-requires c κs =
     let a = c .before .before .args in
     let p = c .before .before .pre in
-    (p .0 .within, omega (arith, c .first-from .ensures, first-within (a .v .count) (location-of (now (a .s)) (a .v)) (p .0 .lined) (a .m) (plain (a .x))), p .0 .lined)
+    (p .0 .within, first-within (a .v .count) (location-of (now (a .s)) (a .v)) (p .0 .lined) _ _ _ (c .first-from .ensures), p .0 .lined)
 
 returns : tie.Need-returns
 returns c =
