@@ -1,5 +1,5 @@
 -- A block entered before the header is written: by its kind and its checks, and what it tells of recording. Assumes nothing.
-use Prim.Native.Nat.{ℕ, _≤_, _<_}
+use Prim.Native.Nat.{ℕ, suc, _+_, _≤_, _<_}
 use native.Mathlib.Omega.{arith}
 use mathlib.Core.Path.{_≡_, refl, sym, ap, _∙_, subst}
 use mathlib.Core.Bool.{Bool, true, false, cond}
@@ -77,6 +77,10 @@ some-number m h kind b n e z = go (first-cause (kind-checks kind (judged-checks 
         number-some c (sym i ∙ z)
 
 -- ---- under the index rule
+
+-- with this header the memory is an open index of these pieces
+abbrev Pends : List ℕ → Header → List Piece → Type 0
+Pends m h rs = (w : Pending m h) × (w .pieces ≡ rs)
 
 module _ (m : List ℕ) (h : Header) (p : Pending m h) where
   abbrev c : Capacity
@@ -224,14 +228,14 @@ module _ (m : List ℕ) (h : Header) (p : Pending m h) where
       recorded-by false true (some x) q = rw q refl
 
       pending-by : Fits (b .at) → (g : Header) (o₁ o₂ : Bool) (a : Option Cause) → cause ≡ a → verdict-by o₁ o₂ ≡ counted g
-          → Pending (unless-turned-back (verdict-by o₁ o₂) m (written o₂)) g
+          → Pends (unless-turned-back (verdict-by o₁ o₂) m (written o₂)) g (cond o₂ (ps ++ pieces b) ps)
       pending-by f g true o₂ a q e = absurd (not-counted e)
       pending-by f g false false a q e =
-          subst (Pending m) (same-header e) p
+          subst (λ (x : Header). Pends m x ps) (same-header e) (p, refl)
       pending-by f g false true none q e =
           let i : new ≡ g = same-header (sym (ap (λ (y : Option Cause). verdict y new) q) ∙ e) in
           let w : Pending (logged m h (pieces b)) new = record { pieces = ps ++ pieces b; counts = refl; holds = ap read-index (sym (over q)) ∙ read-appended whole c ps b (p .holds) q f } in
-          rw q (subst (Pending (logged m h (pieces b))) i w)
+          rw q (subst (λ (x : Header). Pends (logged m h (pieces b)) x (ps ++ pieces b)) i (w, refl))
       pending-by f g false true (some x) q e = absurd (not-counted (sym (ap (λ (y : Option Cause). verdict y new) q) ∙ e))
 
 pub entered-records : EnteredRecords
@@ -241,10 +245,14 @@ entered-records m h kind b p =
     ∙ recorded-by m h p b kind (ltb last-kind kind) (eqb kind memory-kind) (cause m h p b) refl
     ∙ ap (λ (v : Verdict). settled v h (unless-turned-back v m (cond (eqb kind memory-kind) (logged m h (pieces b)) m))) (by-pieces m h p b kind)
 
-pub entered-pending : EnteredPending
-entered-pending m h new₀ kind b p f e =
-    subst (λ (v : Verdict). Pending (unless-turned-back v m (cond (eqb kind memory-kind) (logged m h (pieces b)) m)) new₀) (by-pieces m h p b kind)
+entered-pends : (m : List ℕ) (h new : Header) (kind : ℕ) (b : Block) (p : Pending m h) → Fits (b .at) → judged-by-kind m h kind b ≡ counted new
+    → Pends (entered m h kind b) new (cond (eqb kind memory-kind) (p .pieces ++ pieces b) (p .pieces))
+entered-pends m h new₀ kind b p f e =
+    subst (λ (v : Verdict). Pends (unless-turned-back v m (cond (eqb kind memory-kind) (logged m h (pieces b)) m)) new₀ (cond (eqb kind memory-kind) (p .pieces ++ pieces b) (p .pieces))) (by-pieces m h p b kind)
     (pending-by m h p b kind f new₀ (ltb last-kind kind) (eqb kind memory-kind) (cause m h p b) refl (by-pieces m h p b kind ∙ e))
+
+pub entered-pending : EnteredPending
+entered-pending m h new₀ kind b p f e = entered-pends m h new₀ kind b p f e .0
 
 -- ---- how many pieces have a byte
 
@@ -268,11 +276,14 @@ filled-block count b = go (eqb (length (b .bytes)) 0) (eq (length (b .bytes)) 0)
     go false e = omega (arith, filled-all (pieces b) (λ x k. piece-of b x k .some (omega (arith, e))), pieces-length b)
 
 pub entered-filled : EnteredFilled
-entered-filled m h new₀ kind b p f e = go (eqb kind memory-kind) refl
+entered-filled m h new₀ kind b p f e = ap filled (pending-pieces (entered m h kind b) new₀ (w .0) ∙ w .1) ∙ go (eqb kind memory-kind)
   where
-    q : Pending (entered m h kind b) new₀
-    q = entered-pending m h new₀ kind b p f e
+    w : Pends (entered m h kind b) new₀ (cond (eqb kind memory-kind) (p .pieces ++ pieces b) (p .pieces))
+    w = entered-pends m h new₀ kind b p f e
 
-    go : (o : Bool) → eqb kind memory-kind ≡ o → filled (pieces-in (entered m h kind b) new₀) ≡ cond o (cond (eqb (length (b .bytes)) 0) (filled (pieces-in m h)) (filled (pieces-in m h) + piece-count (length (b .bytes)))) (filled (pieces-in m h))
-    go true k = ap filled (pending-pieces (entered m h kind b) new₀ q) ∙ _
-    go false k = _
+    held : filled (p .pieces) ≡ filled (pieces-in m h)
+    held = ap filled (sym (pending-pieces m h p))
+
+    go : (o : Bool) → filled (cond o (p .pieces ++ pieces b) (p .pieces)) ≡ cond o (cond (eqb (length (b .bytes)) 0) (filled (pieces-in m h)) (filled (pieces-in m h) + piece-count (length (b .bytes)))) (filled (pieces-in m h))
+    go true = filled-append (p .pieces) (pieces b) ∙ ap (λ (n : ℕ). n + filled (pieces b)) held ∙ filled-block (filled (pieces-in m h)) b
+    go false = held

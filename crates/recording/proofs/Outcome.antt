@@ -1,9 +1,10 @@
 -- What recording into an open index answers and leaves, by what entering the block gives. Assumes nothing.
-use Prim.Native.Nat.{ℕ, _<_}
+use Prim.Native.Nat.{ℕ, _+_, _*_, _≤_, _<_}
+use native.Mathlib.Omega.{arith}
 use mathlib.Core.Path.{_≡_, refl, sym, ap, _∙_, subst}
-use mathlib.Core.Bool.{cond}
+use mathlib.Core.Bool.{true, cond}
 use mathlib.Core.List.{List}
-use lib.ListN.{getD}
+use lib.ListN.{length, getD}
 use lib.Dec.{eqb}
 use borrow.Author.Tests.{ne-eqb}
 use Rattle.definitions.specs.Blocks.{Block, Piece, pieces, memory-kind}
@@ -12,10 +13,13 @@ use Rattle.definitions.specs.Calls.{record-checks}
 use Rattle.memory_header.specs.Layout.{Header, header-at, with-header}
 use Rattle.memory_header.specs.Opening.{Done}
 use Rattle.memory_header.proofs.HeaderBytes.{header-same}
+use Rattle.memory_header.proofs.HeaderFacts.{open-payload}
 use Rattle.memory_header.proofs.Opening.{refused-leaves}
-use Rattle.index_memory.specs.Log.{log-in}
+use Rattle.index_memory.specs.Log.{log-in, log-sound}
+use Rattle.index_memory.proofs.LogBytes.{is-log-sound}
 use Rattle.index_memory.specs.Index.{Index, opened, standing-of, read-index}
-use Rattle.index_memory.proofs.Holding.{OpenIs, open-is, open-counted}
+use Rattle.index_memory.proofs.Holding.{OpenIs, open-is, open-room, open-counted}
+use Rattle.certificate.specs.Entries.{LogWithin}
 use Rattle.judging.specs.Judged.{Verdict, counted, refused}
 use Rattle.recording.specs.Record.{appended, record-by, record-memory}
 use Rattle.recording.specs.Enter.{Pending, entered, settled}
@@ -39,6 +43,16 @@ record-leaves m kind b =
 -- an answer and a memory are those of a recording
 abbrev pub Answers : Recorded → List ℕ → Done → Type 0
 Answers r m d = (r ≡ recorded-as (d .refusal)) × (m ≡ d .memory)
+
+-- what counting the pieces that have a byte asks for
+pub log-asked : (m : List ℕ) (h : Header) → header-at m ≡ h → read-index m ≡ opened (h .capacity) (log-in m (h .payload) 64) → LogWithin m (h .payload) × (log-sound m (h .payload) 64 ≡ true)
+log-asked m h e q =
+    let o = open-is m (h .capacity) (log-in m (h .payload) 64) q in
+    let f = o .header in
+    let p : header-at m .payload ≡ h .payload = ap (λ (x : Header). x .payload) e in
+    let c : header-at m .payload ≤ header-at m .capacity .entries = open-payload m (header-at m) f (o .phase) in
+    let r : 64 + 48 * h .payload ≤ length m = omega (arith, open-room m (header-at m) f (o .phase), p) in
+    ((r, omega (arith, c, p, f .few-entries)), is-log-sound m (h .payload) 64 r (o .sound))
 
 module _ (m : List ℕ) (h : Header) (e : header-at m ≡ h) (q : read-index m ≡ opened (h .capacity) (log-in m (h .payload) 64)) (bytes : (k : ℕ) → getD m k 0 < 256) where
   abbrev log : List Piece
@@ -65,6 +79,6 @@ module _ (m : List ℕ) (h : Header) (e : header-at m ≡ h) (q : read-index m �
 
     pub refused-by : (n : ℕ) (m₁ : List ℕ) → Enters m h kind b (refused n) m₁ → Answers (Refused n) m₁ (record-memory m kind b)
     refused-by n m₁ w =
-        let k = some-number h kind b n (w .0) in
+        let k = some-number m h kind b n (w .0) in
         let s : m₁ ≡ m = w .1 ∙ rw (← w .0) in
         subst (Answers (Refused n) m₁) (by-verdict (refused n) m₁ w) (rw (ne-eqb n 0 k) (refl, s ∙ sym standing ∙ ap (λ (x : List ℕ). with-header x h) (sym s)))

@@ -11,7 +11,6 @@ use Rattle.definitions.specs.Conflicts.{clash}
 use Rattle.definitions.specs.Causes.{first-cause}
 use Rattle.definitions.specs.Calls.{Capacity, block-checks}
 use Rattle.definitions.specs.Recording.{Sound}
-use Rattle.definitions.proofs.Cutting.{PieceOf, piece-of}
 use Rattle.definitions.proofs.Tallied.{nodes-with, entries-with}
 use Rattle.definitions.proofs.Checks.{none-applies}
 use Rattle.definitions.proofs.Conflicts.{free-added}
@@ -26,8 +25,8 @@ use Rattle.recording.specs.Record.{Fitting}
 use Rattle.recording.specs.Promises.{ReadAppended}
 use Rattle.index_memory.proofs.Charges.{charge-count}
 use Rattle.recording.proofs.Cut.{pieces-nodes, pieces-entries, pieces-length}
-use Rattle.index_memory.proofs.LogBytes.{AllFit, AllSound}
 use Rattle.index_memory.proofs.Holding.{open-is}
+use Rattle.recording.proofs.Pieces.{sound-pieces, fit-pieces}
 use Rattle.recording.proofs.Appending.{read-behind}
 
 -- ---- the checks
@@ -64,28 +63,7 @@ fitting m c ps b count r t e z =
       room = omega (arith, charge-count (ps ++ pieces b), length-append ps (pieces b), pieces-length b, p .few-entries, r .held, t .counted, filled-upto (pieces-in m (open-header c ps)), ap length e);
     }
 
--- ---- the pieces
-
-pub sound-pieces : (b : Block) → Sound b → AllSound (pieces b)
-sound-pieces b s p k =
-    let w : PieceOf (b .at) (b .bytes) p = piece-of b p k in
-    record {
-      small = w .small;
-      alive = omega (arith, w .created, w .destroyed, s .alive);
-      below = omega (arith, w .address, w .fits, s .below);
-    }
-
-pub fit-pieces : (b : Block) → Sound b → Fits (b .at) → AllFit (pieces b)
-fit-pieces b s f p k =
-    let w : PieceOf (b .at) (b .bytes) p = piece-of b p k in
-    record {
-      small = w .small;
-      place = record {
-        address = omega (arith, w .address, w .fits, s .below);
-        created = omega (arith, w .created, f .created);
-        destroyed = omega (arith, w .destroyed, f .destroyed);
-      };
-    }
+-- ---- what is read back
 
 -- a block that is taken goes behind the pieces that are there
 pub read-appended : ReadAppended
