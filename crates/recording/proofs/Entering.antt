@@ -9,7 +9,7 @@ use mathlib.Core.Option.{Option, none, some}
 use lib.ListN.{length, getD}
 use lib.Seq.{length-sets}
 use lib.Dec.{ltb, eqb}
-use borrow.Author.Tests.{lt-ltb, le-ltb, eq-eqb, ne-eqb}
+use borrow.Author.Tests.{ltb-false, lt-ltb, le-ltb, eq-eqb, ne-eqb}
 use Rattle.words.specs.Holding.{Holds}
 use Rattle.words.proofs.Holding.{holds-ext}
 use Rattle.words.proofs.Parts.{getD-sets-out}
@@ -17,7 +17,7 @@ use Rattle.definitions.specs.Blocks.{Block, Piece, pieces, memory-kind, last-ki
 use Rattle.definitions.specs.Conflicts.{clash, free}
 use Rattle.definitions.specs.Causes.{Cause, number, unknown-kind, Check, first-cause}
 use Rattle.definitions.specs.Calls.{Capacity, kind-checks, block-checks}
-use Rattle.definitions.proofs.Checks.{number-some}
+use Rattle.definitions.proofs.Checks.{number-some, NoneApplies, none-applies}
 use Rattle.definitions.proofs.Cutting.{PieceOf, piece-of}
 use Rattle.definitions.proofs.Views.{Eq, eq}
 use Rattle.memory_header.specs.Layout.{Room, Header, work-at, header-bytes, with-header}
@@ -36,7 +36,7 @@ use Rattle.certificate.proofs.Bytes.{length-certificate}
 use Rattle.certificate.proofs.Counting.{filled-upto, filled-append}
 use Rattle.judging.specs.Judged.{piece-count, grown, Verdict, counted, refused, verdict, judged-checks, judged}
 use Rattle.recording.specs.Record.{logged, appended, Fitting, filled-after, record-by, record-memory}
-use Rattle.recording.specs.Enter.{Pending, judged-by-kind, unless-turned-back, entered, settled}
+use Rattle.recording.specs.Enter.{Pending, judged-by-kind, unless-turned-back, entered, settled, FilledAfter}
 use Rattle.recording.specs.Promises.{EnteredRecords, EnteredPending, EnteredFilled}
 use Rattle.recording.proofs.Appending.{header-over}
 use Rattle.recording.proofs.Cut.{pieces-length}
@@ -287,3 +287,25 @@ entered-filled m h new₀ kind b p f e = ap filled (pending-pieces (entered m h 
     go : (o : Bool) → filled (cond o (p .pieces ++ pieces b) (p .pieces)) ≡ cond o (cond (eqb (length (b .bytes)) 0) (filled (pieces-in m h)) (filled (pieces-in m h) + piece-count (length (b .bytes)))) (filled (pieces-in m h))
     go true = filled-append (p .pieces) (pieces b) ∙ ap (λ (n : ℕ). n + filled (pieces b)) held ∙ filled-block (filled (pieces-in m h)) b
     go false = held
+
+-- as a verdict and a memory of entering the block tell it
+pub filled-told : (m : List ℕ) (h : Header) (kind : ℕ) (b : Block) → Pending m h → Fits (b .at) → (count : ℕ) → count ≡ filled (pieces-in m h) → (v : Verdict) (m′ : List ℕ) → Enters m h kind b v m′
+    → FilledAfter v m′ count kind (length (b .bytes))
+filled-told m h kind b p f count e v m′ w new₀ c =
+    ap (λ (x : List ℕ). filled (pieces-in x new₀)) (w .1) ∙ entered-filled m h new₀ kind b p f (sym (w .0) ∙ c) ∙ ap (λ (n : ℕ). filled-after n kind (length (b .bytes))) (sym e)
+
+-- ---- a Memory block that is taken is short
+
+pub counted-short : (m : List ℕ) (h g : Header) (kind : ℕ) (b : Block) → judged-by-kind m h kind b ≡ counted g → kind ≡ 1 → length (b .bytes) ≤ 4096
+counted-short m h g kind b e k = go (first-cause (kind-checks kind checks)) refl e
+  where
+    checks : List Check
+    checks = judged-checks h (clash (pieces b) (pieces-in m h)) (length (b .bytes)) (b .at)
+
+    memory : (o : Bool) → o ≡ true → NoneApplies (cond o checks []) → length (b .bytes) ≤ 4096
+    memory true q n = ltb-false 4096 (length (b .bytes)) (n .0)
+    memory false q n = absurd (let z : _≡_ {A = ℕ} 0 1 = cc in omega arith)
+
+    go : (a : Option Cause) → first-cause (kind-checks kind checks) ≡ a → verdict a (cond (eqb kind memory-kind) (grown h (length (b .bytes))) h) ≡ counted g → length (b .bytes) ≤ 4096
+    go none q f = memory (eqb kind memory-kind) (eq-eqb kind memory-kind k) (none-applies (kind-checks kind checks) q .1)
+    go (some c) q f = absurd (not-counted f)

@@ -13,9 +13,10 @@ use Rattle.definitions.specs.Calls.{kind-checks}
 use Rattle.memory_header.specs.Layout.{Header, with-header}
 use Rattle.memory_header.specs.Opening.{Done}
 use Rattle.index_memory.specs.Index.{opened, open-header, read-index}
+use Rattle.conflicts.specs.Promises.{filled}
 use Rattle.certificate.specs.Stored.{pieces-in}
 use Rattle.judging.specs.Judged.{grown, Verdict, counted, refused, verdict, judged-checks}
-use Rattle.recording.specs.Record.{logged}
+use Rattle.recording.specs.Record.{logged, filled-after}
 
 -- with this header, which counts its pieces, the memory is an open index
 pub record Pending (m : List ℕ) (h : Header) : Type 0 where
@@ -43,3 +44,7 @@ entered m h kind b = unless-turned-back (judged-by-kind m h kind b) m (cond (eqb
 abbrev pub settled : Verdict → Header → List ℕ → Done
 settled (counted new) h m = record { refusal = 0; memory = with-header m new }
 settled (refused n) h m = record { refusal = n; memory = with-header m h }
+
+-- where a block is taken, so many of the pieces that its header counts have a byte
+abbrev pub FilledAfter : Verdict → List ℕ → (count kind n : ℕ) → Type 0
+FilledAfter v m count kind n = (new : Header) → v ≡ counted new → filled (pieces-in m new) ≡ filled-after count kind n

@@ -21,7 +21,7 @@ ghost use Rattle.judging.specs.Judged.{piece-count};
 ghost use Rattle.judging.specs.Verdicts.{verdict-of};
 ghost use Rattle.recording.specs.Cut.{part};
 ghost use Rattle.recording.specs.Record.{record-memory, logged, Fitting, filled-after};
-ghost use Rattle.recording.specs.Enter.{Pending, judged-by-kind, entered};
+ghost use Rattle.recording.specs.Enter.{Pending, judged-by-kind, entered, FilledAfter};
 ghost use Rattle.recording.specs.Recorded.{recorded-as};
 
 // Whether a block is taken, or why not.
@@ -92,7 +92,7 @@ fn append(mem: &mut [u8], h: Header, count: usize, data: &[u8], l: SpacetimeLoca
 
 // How many pieces have a byte with a block of n bytes of that kind behind them.
 pub fn filled_after(count: usize, kind: u64, n: usize) -> usize
-    requires { ⌜ (n ≤ 4096) × (count ≤ 1048576) ⌝ }
+    requires { ⌜ (kind ≡ 1 → n ≤ 4096) × (count ≤ 1048576) ⌝ }
     ensures { λ r. ⌜ r ≡ filled-after count kind n ⌝ }
 {
     if kind != definitions::MEMORY_KIND as u64 {
@@ -117,6 +117,7 @@ pub fn enter(
     requires { ⌜ Pending (now mem) (header-of h) × (count ≡ filled (pieces-in (now mem) (header-of h))) ⌝ }
     ensures verdict { λ r. ⌜ verdict-of r ≡ judged-by-kind (now (mem .entry)) (header-of h) kind (record { bytes = now («data» .entry); at = plain l }) ⌝ }
     ensures memory { λ _. ⌜ now (mem .exit) ≡ entered (now (mem .entry)) (header-of h) kind (record { bytes = now («data» .entry); at = plain l }) ⌝ }
+    ensures filled { λ r. ⌜ FilledAfter (verdict-of r) (now (mem .exit)) count kind (length (now («data» .entry))) ⌝ }
 {
     if (definitions::LAST_KIND as u64) < kind {
         return Judged::Refused(definitions::UNKNOWN_KIND);

@@ -41,7 +41,7 @@ returns c =
     let start = known .before in
     let b : Block = record { bytes = now (start .args .«data»); at = plain (start .args .l) } in
     taken-by _ _ (start .pre .0) (start .pre .1) (λ j. omega (arith, known .slice-known .given j)) _ b (header-of (g .0 .0)) (e .enter .last .0) (w .put-header .last .0)
-    (sym (ap verdict-of (g .1)) ∙ e .enter .ensures .0, e .enter .ensures .1) (w .put-header .ensures)
+    (sym (ap verdict-of (g .1)) ∙ e .enter .ensures .0, e .enter .ensures .1 .0) (w .put-header .ensures)
 
 returns-2 : tie.Need-returns-2
 returns-2 c =
@@ -51,7 +51,7 @@ returns-2 c =
     let start = known .before in
     let b : Block = record { bytes = now (start .args .«data»); at = plain (start .args .l) } in
     refused-by _ _ (start .pre .0) (start .pre .1) (λ j. omega (arith, known .slice-known .given j)) _ b (g .0 .0) (e .enter .last .0)
-    (sym (ap verdict-of (g .1)) ∙ e .enter .ensures .0, e .enter .ensures .1)
+    (sym (ap verdict-of (g .1)) ∙ e .enter .ensures .0, e .enter .ensures .1 .0)
 
 pub record-open-spec : {M : Type 1} → statement M
 record-open-spec =
