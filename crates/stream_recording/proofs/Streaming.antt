@@ -105,11 +105,11 @@ module _ (s m₀ : List ℕ) where
         stops n y = rw (ne-eqb n 0 y) refl
 
     by-read : (x : Read) → x ≡ read-block s (p .at) → behind (p .taken) (record-read x whole (record-from k s)) ≡ all → length (entered-next m (p .header) x) ≡ length m₀
-        → Going (entered-next m (p .header) x) (next-progress p x)
+        → Going (entered-next m (p .header) x) (next-progress m p x)
     by-read (block kind b next) e a l =
         let r : BlockRead s (p .at) kind b next = block-read s (p .at) kind b next e in
-        by-verdict kind b next r (cond (eqb kind memory-kind) (logged m (p .header) (pieces b)) m) (judged-by-kind (p .header) kind b)
-        (λ z. some-number (p .header) kind b 0 z refl)
+        by-verdict kind b next r (cond (eqb kind memory-kind) (logged m (p .header) (pieces b)) m) (judged-by-kind m (p .header) kind b)
+        (λ z. some-number m (p .header) kind b 0 z refl)
         (entered-records m (p .header) kind b pending)
         (λ h v. entered-pending m (p .header) h kind b pending (block-fits s (p .at) kind b next bytes r) v)
         a l
@@ -117,7 +117,7 @@ module _ (s m₀ : List ℕ) where
     by-read (refused n) e a l = halts n a
 
   pub going-on : ((k : ℕ) → getD s k 0 < 256) → (m : List ℕ) (p : Progress) → Going m p → p .going ≡ true → (m′ : List ℕ) (r : Progress)
-      → r ≡ next-progress p (read-block s (p .at)) → m′ ≡ entered-next m (p .header) (read-block s (p .at)) → length m′ ≡ length m → Going m′ r
+      → r ≡ next-progress m p (read-block s (p .at)) → m′ ≡ entered-next m (p .header) (read-block s (p .at)) → length m′ ≡ length m → Going m′ r
   unfolding record-from
   going-on bytes m p g t m′ r e f l =
       let n : g .count ≡ suc (g .count - 1) = omega (arith, g .enough t, g .few, g .inside) in
@@ -127,25 +127,25 @@ module _ (s m₀ : List ℕ) where
       subst (λ (x : List ℕ). Going x r) (sym f) (subst (Going (entered-next m (p .header) (read-block s (p .at)))) (sym e) w)
 
   -- the cursor moves on, or there is no more
-  pub moves-on : (p : Progress) (x : Read) → x ≡ read-block s (p .at) → next-progress p x .going ≡ true → p .at < next-progress p x .at
-  moves-on p (block kind b next) e t = go (judged-by-kind (p .header) kind b) t
+  pub moves-on : (m : List ℕ) (p : Progress) (x : Read) → x ≡ read-block s (p .at) → next-progress m p x .going ≡ true → p .at < next-progress m p x .at
+  moves-on m p (block kind b next) e t = go (judged-by-kind m (p .header) kind b) t
     where
       go : (v : Verdict) → on-or-halted p next v .going ≡ true → p .at < on-or-halted p next v .at
       go (counted h) t = omega (arith, block-read s (p .at) kind b next e .behind)
       go (J.refused n) t = absurd (let y : _≡_ {A = ℕ} 0 1 = cc in omega arith)
-  moves-on p nothing e t = absurd (let y : _≡_ {A = ℕ} 0 1 = cc in omega arith)
-  moves-on p (refused n) e t = absurd (let y : _≡_ {A = ℕ} 0 1 = cc in omega arith)
+  moves-on m p nothing e t = absurd (let y : _≡_ {A = ℕ} 0 1 = cc in omega arith)
+  moves-on m p (refused n) e t = absurd (let y : _≡_ {A = ℕ} 0 1 = cc in omega arith)
 
   -- blocks that may come, and the end
   abbrev pub steps-left : Progress → ℕ
   steps-left p = cond (p .going) (suc (length s - p .at)) 0
 
-  pub fewer-left : (m : List ℕ) (p r : Progress) → p .going ≡ true → r ≡ next-progress p (read-block s (p .at)) → Going m r → steps-left r < steps-left p
-  fewer-left m p r t e g = rw t (go (r .going) refl)
+  pub fewer-left : (m m′ : List ℕ) (p r : Progress) → p .going ≡ true → r ≡ next-progress m p (read-block s (p .at)) → Going m′ r → steps-left r < steps-left p
+  fewer-left m m′ p r t e g = rw t (go (r .going) refl)
     where
       go : (o : Bool) → r .going ≡ o → cond o (suc (length s - r .at)) 0 < suc (length s - p .at)
       go true q =
-          let w = moves-on p (read-block s (p .at)) refl (sym (ap (λ (x : Progress). x .going) e) ∙ q) in
+          let w = moves-on m p (read-block s (p .at)) refl (sym (ap (λ (x : Progress). x .going) e) ∙ q) in
           omega (arith, w, ap (λ (x : Progress). x .at) e, g .inside)
       go false q = omega arith
 

@@ -25,11 +25,11 @@ abbrev pub on-or-halted : Progress → ℕ → Verdict → Progress
 on-or-halted p next (counted h) = record { header = h; at = next; taken = p .taken + 1; number = 0; going = true }
 on-or-halted p next (J.refused n) = halted p n
 
--- by what was read at the cursor
-abbrev pub next-progress : Progress → Read → Progress
-next-progress p (block kind b next) = on-or-halted p next (judged-by-kind (p .header) kind b)
-next-progress p nothing = halted p 0
-next-progress p (refused n) = halted p n
+-- by what was read at the cursor, and what the memory holds
+abbrev pub next-progress : List ℕ → Progress → Read → Progress
+next-progress m p (block kind b next) = on-or-halted p next (judged-by-kind m (p .header) kind b)
+next-progress m p nothing = halted p 0
+next-progress m p (refused n) = halted p n
 
 -- and the memory, whose header is not written
 abbrev pub entered-next : List ℕ → Header → Read → List ℕ

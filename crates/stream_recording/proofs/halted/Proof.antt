@@ -4,7 +4,7 @@ use Rattle.stream_recording.proofs.halted.Statement.{statement}
 use Rattle.stream_recording.proofs.halted.Tie as tie
 
 returns : tie.Need-returns
-returns c = refl
+returns c = (refl, refl)
 
 pub halted-spec : {M : Type 1} → statement M
 halted-spec = tie.close (tie.spec returns)
