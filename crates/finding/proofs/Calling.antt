@@ -1,8 +1,11 @@
 -- What an inspection tells the calls. Assumes nothing.
 use Prim.Native.Nat.{ℕ, _+_, _-_, _≤_, _<_, _^_}
 use mathlib.Core.Path.{_≡_, sym, ap, _∙_, subst}
+use mathlib.Core.Bool.{true}
 use mathlib.Core.List.{List}
 use lib.ListN.{length, take, drop}
+use Rattle.definitions.specs.Conflicts.{free}
+use Rattle.trie.specs.Trie.{trie-pieces}
 use Rattle.trie.specs.Rule.{Rule}
 use Rattle.image_format.specs.Held.{trie-in}
 use Rattle.image_format.specs.Reading.{read-image, right, RightImage}
@@ -24,14 +27,14 @@ use Rattle.finding.proofs.FindCall.{by-pieces, Finds, searched}
 -- ── the image ──
 
 module _ (s : List ℕ) (a : AllBytes s) (l : length s < 2 ^ 64) (t : AcceptedImage s) where
-  both : (read-image s ≡ right (t .nodes) (t .entries)) × Rule (trie-in s)
-  both = check-image-is s a l (t .nodes) (t .entries) .0 (sym (t .is))
+  accepted : (read-image s ≡ right (t .nodes) (t .entries)) × Rule (trie-in s) × (free (trie-pieces (trie-in s)) ≡ true)
+  accepted = check-image-is s a l (t .nodes) (t .entries) .0 (sym (t .is))
 
   right-image : RightImage s
-  right-image = record { nodes = t .nodes; entries = t .entries; read = both .0 }
+  right-image = record { nodes = t .nodes; entries = t .entries; read = accepted .0 }
 
   rule-image : Rule (trie-in s)
-  rule-image = both .1
+  rule-image = accepted .1
 
 -- ── the part that the code cuts out ──
 

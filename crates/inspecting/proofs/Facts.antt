@@ -15,10 +15,10 @@ use Rattle.image_format.specs.Check.{check-image}
 use Rattle.memory_header.specs.Layout.{Header, header-at, payload-size}
 use Rattle.memory_header.specs.Answers.{header-of, heading-at}
 use Rattle.index_memory.specs.Log.{log-in}
-use Rattle.index_memory.specs.Index.{Index, broken, finished, image-part, if-right, finished-index, log-right, read-index}
+use Rattle.index_memory.specs.Index.{Index, broken, finished, image-part, if-right, finished-index, log-right, order-right, read-index}
 use Rattle.memory_header.specs.declared.Header as C
 use Rattle.memory_header.proofs.HeaderFacts.{HeaderFacts, heading-is}
-use Rattle.index_memory.proofs.Holding.{index-broken, open-by-log, broken-by-log, index-by-image}
+use Rattle.index_memory.proofs.Holding.{index-broken, open-by-log, broken-by-log, broken-by-order, index-by-image}
 use Rattle.inspecting.specs.Held.{SaysImage, Inspects}
 use Rattle.inspecting.specs.declared.Held.the-variants.{Broken, Open, Finished}
 
@@ -72,11 +72,14 @@ module _ (m : List ℕ) where
   held-broken e = record { holds = index-broken m (sym e); told = tt }
 
   module _ (h : C.Header) (e : some (header-of h) ≡ heading-at m) where
-    pub held-open : h .phase ≡ 0 → (r : Bool) → r ≡ log-right m (header-of h) → r ≡ true → Inspects m (Open h)
-    held-open z r q t = record { holds = open-by-log m (header-of h) (sym e) z (sym q ∙ t); told = heading-is m (header-of h) (sym e) .1 }
+    pub held-open : h .phase ≡ 0 → log-right m (header-of h) ≡ true → (r : Bool) → r ≡ order-right m (header-of h) → r ≡ true → Inspects m (Open h)
+    held-open z l r q t = record { holds = open-by-log m (header-of h) (sym e) z l (sym q ∙ t); told = heading-is m (header-of h) (sym e) .1 }
 
     pub held-log-broken : h .phase ≡ 0 → (r : Bool) → r ≡ log-right m (header-of h) → r ≡ false → Inspects m Broken
     held-log-broken z r q t = record { holds = broken-by-log m (header-of h) (sym e) z (sym q ∙ t); told = tt }
+
+    pub held-order-broken : h .phase ≡ 0 → log-right m (header-of h) ≡ true → (r : Bool) → r ≡ order-right m (header-of h) → r ≡ false → Inspects m Broken
+    held-order-broken z l r q t = record { holds = broken-by-order m (header-of h) (sym e) z l (sym q ∙ t); told = tt }
 
     pub phase-one : (h .phase ≡ 0 → ⊥) → h .phase ≡ 1
     phase-one z = omega (arith, heading-is m (header-of h) (sym e) .0 .phase, z)

@@ -37,7 +37,10 @@ pub fn inspect(mem: &[u8]) -> Held
         return Held::Broken;
     };
     if h.phase == 0 {
-        if index_memory::log_right(mem, h) {
+        if !index_memory::log_right(mem, h) {
+            return Held::Broken;
+        }
+        if certificate::order_right(mem, h) {
             return Held::Open(h);
         }
         return Held::Broken;
