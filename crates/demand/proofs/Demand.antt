@@ -13,14 +13,14 @@ use Rattle.definitions.specs.Location.{Location}
 use Rattle.definitions.specs.Blocks.{Block, Piece, pieces, pieces-of}
 use Rattle.definitions.specs.Places.{places-counted}
 use Rattle.definitions.specs.Rows.{rows}
-use Rattle.definitions.specs.Runs.{RowsAreRuns, Consistent, Query, SameRows, SameHeld}
+use Rattle.definitions.specs.Runs.{RowsAreRuns, Query, SameRows, SameHeld}
 use Rattle.definitions.specs.Causes.{Cause, number, scratch-too-small, too-many-rows, first-cause}
 use Rattle.definitions.specs.Calls.{Capacity, Recorded, fresh, query-limit, block-checks, search-checks}
 use Rattle.definitions.specs.Recording.{Sound, after-all, taken}
 use Rattle.definitions.proofs.Chains.{SamePieces, rows-by-set}
 use Rattle.definitions.proofs.Checks.{none-refused}
 use Rattle.definitions.proofs.Cutting.{FromBlock, pieces-mem}
-use Rattle.definitions.proofs.Taken.{Right, right-recording, finished-recording, taken-sound, recording-rows, recordings-same}
+use Rattle.definitions.proofs.Taken.{Right, right-recording, finished-recording, taken-sound, taken-consistent, recording-rows, recordings-same}
 use Rattle.trie.specs.Trie.{Trie, trie-pieces}
 use Rattle.trie.specs.Build.{trie-of}
 use Rattle.trie.proofs.BuildRule.{SoundPiece}
@@ -89,7 +89,7 @@ module _
       c = r .capacity
 
       start : Follows c (read-appended c) (read-finished c) fresh (open-memory (r .memory) c .memory)
-      start = record { right = record { sound = λ b h. absurd (not-nil h); nodes = λ h. h; entries = omega arith }; fit = λ b h. absurd (not-nil h); holds-it = opened-fresh (r .memory) c (r .opened) }
+      start = record { right = record { sound = λ b h. absurd (not-nil h); consistent = tt; nodes = λ h. h; entries = omega arith }; fit = λ b h. absurd (not-nil h); holds-it = opened-fresh (r .memory) c (r .opened) }
 
       w : Follows c (read-appended c) (read-finished c) (after-all c fresh (r .calls)) (final r)
       w = follow-all c (read-appended c) (read-finished c) fresh (open-memory (r .memory) c .memory) (r .calls) (r .fit) start
@@ -127,9 +127,9 @@ module _
       let n : length rs ≡ length rs′ = omega (arith, h .count, h′ .count) in
       rows-fix rs rs′ (sym (h .records) ∙ ap (λ (k : ℕ). take k (f .rows)) n ∙ h′ .records)
 
-  rows-exact : (r : Recording) → Consistent (taken-in r) → RowsExact r
-  rows-exact r c q w l scratch lent e =
-      let m : RowsAreRuns (taken-in r) q = recording-rows (r .capacity) (r .calls) c q l in
+  rows-exact : (r : Recording) → RowsExact r
+  rows-exact r q w l scratch lent e =
+      let m : RowsAreRuns (taken-in r) q = recording-rows (r .capacity) (r .calls) q l in
       (rows (pieces-of (taken-in r)) q, hands-over r q scratch lent e, record { runs = m .exactly; in-order = m .in-order })
 
   empty-query : (r : Recording) → EmptyQuery r
@@ -145,11 +145,11 @@ module _
   answers : (r : Recording) → Answers r
   answers r q w = (24 * places-counted (held r) q, length (rows (held r) q), λ scratch lent h k. ap (λ (f : Found). f .refusal) (searched-is r q scratch lent) ∙ room-answers (r .capacity) (ended r) q scratch lent (w .short) h k)
 
-  same-rows : (r r′ : Recording) → Consistent (taken-in r) → Consistent (taken-in r′) → SameAnswers r r′ ↔ SameHeld (taken-in r) (taken-in r′)
-  same-rows r r′ c c′ = ((λ s. main .0 (to s)), λ h. fro (main .1 h))
+  same-rows : (r r′ : Recording) → SameAnswers r r′ ↔ SameHeld (taken-in r) (taken-in r′)
+  same-rows r r′ = ((λ s. main .0 (to s)), λ h. fro (main .1 h))
     where
       main : SameRows (taken-in r) (taken-in r′) ↔ SameHeld (taken-in r) (taken-in r′)
-      main = recordings-same (r .capacity) (r′ .capacity) (r .calls) (r′ .calls) c c′
+      main = recordings-same (r .capacity) (r′ .capacity) (r .calls) (r′ .calls)
 
       blank : ℕ → List Row
       blank n = replicate n (record { address = 0; «created_at» = 0; «destroyed_at» = 0 })
@@ -172,4 +172,4 @@ module _
       fro s q w scratch scratch′ lent lent′ e e′ = (rows (pieces-of (taken-in r)) q, hands-over r q scratch lent e, subst (HandsOver (searched r′ q scratch′ lent′)) (sym (s q w)) (hands-over r′ q scratch′ lent′ e′))
 
   pub demand-3 : Demand3
-  demand-3 = record { rows-exact = rows-exact; empty-query = empty-query; only-buffers = only-buffers; answers = answers; same-rows = same-rows }
+  demand-3 = record { consistent = λ r. taken-consistent (r .capacity) (r .calls); rows-exact = rows-exact; empty-query = empty-query; only-buffers = only-buffers; answers = answers; same-rows = same-rows }

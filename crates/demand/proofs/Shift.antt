@@ -135,9 +135,9 @@ flattens r =
     record { recording = single-calls; same-memory = refl; same-capacity = refl; same-calls = refl; same-final = after-flattened m (r .calls) }
 
 pub shift-rows-exact : ShiftRowsExact
-shift-rows-exact r w c q h l scratch lent e =
+shift-rows-exact r w q h l scratch lent e =
     subst (λ (m : List ℕ). search-memory m q scratch lent .refusal ≡ 0 → (rs : _) × HandsOver (search-memory m q scratch lent) rs × Exactly (w .recording) q rs) (w .same-final)
-    (demand .rows-exact (w .recording) c q h l scratch lent) e
+    (demand .rows-exact (w .recording) q h l scratch lent) e
 
 pub stream-image : StreamImage
 stream-image m s buffer = ap (λ (x : List ℕ). save-memory (finish-memory x .memory) buffer) (sym (after-singles m (stream s)))

@@ -93,8 +93,10 @@ SameAnswers r r′ = (q : List ℕ) → Query q → (scratch scratch′ : ℕ) (
 
 -- demand 3
 pub record Demand3 : Type 1 where
-  pub rows-exact : (r : Recording) → Consistent (taken-in r) → RowsExact r
+  -- no two of the blocks that were taken share a byte address and a live tick
+  pub consistent : (r : Recording) → Consistent (taken-in r)
+  pub rows-exact : (r : Recording) → RowsExact r
   pub empty-query : (r : Recording) → EmptyQuery r
   pub only-buffers : (r : Recording) → OnlyBuffers r
   pub answers : (r : Recording) → Answers r
-  pub same-rows : (r r′ : Recording) → Consistent (taken-in r) → Consistent (taken-in r′) → SameAnswers r r′ ↔ SameHeld (taken-in r) (taken-in r′)
+  pub same-rows : (r r′ : Recording) → SameAnswers r r′ ↔ SameHeld (taken-in r) (taken-in r′)

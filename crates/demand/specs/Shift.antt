@@ -4,7 +4,7 @@ use mathlib.Core.Path.{_≡_}
 use mathlib.Core.List.{List, [], _∷_, _++_, List·Memᴰ}
 use lib.ListN.{length}
 use Rattle.definitions.specs.Location.{Location}
-use Rattle.definitions.specs.Runs.{Consistent, Query}
+use Rattle.definitions.specs.Runs.{Query}
 use Rattle.definitions.specs.Calls.{Capacity}
 use Rattle.definitions.specs.Recording.{Call, record-block, finish}
 use Rattle.memory_header.specs.Opening.{open-memory}
@@ -86,7 +86,7 @@ Flattens = (r : Shift) → AsSingles r
 -- rows are exactly the longest runs of what was taken, by streams too
 abbrev pub ShiftRowsExact : Type 0
 ShiftRowsExact =
-    (r : Shift) (w : AsSingles r) → Consistent (taken-in (w .recording)) → (q : List ℕ) → Query q → 0 < length q → (scratch : ℕ) (lent : List Row)
+    (r : Shift) (w : AsSingles r) → (q : List ℕ) → Query q → 0 < length q → (scratch : ℕ) (lent : List Row)
     → search-memory (shift-final r) q scratch lent .refusal ≡ 0 → (rs : List Location) × HandsOver (search-memory (shift-final r) q scratch lent) rs × Exactly (w .recording) q rs
 
 -- the image that is saved after a stream call and a finish is the one that single records give
