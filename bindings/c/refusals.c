@@ -140,7 +140,7 @@ static void recording(void)
     leaves("save before finish", HELMAPRICOT_BEFORE_FINISH, save(sizeof out));
     leaves("kind 5", HELMAPRICOT_UNKNOWN_KIND, record(5, 100, 10, 50, "abc"));
     leaves("4,097 bytes", HELMAPRICOT_DATA_TOO_LONG,
-           helmapricot_record(memory, sizeof memory, HELMAPRICOT_MEMORY, 100, 50, 10, long_data, sizeof long_data));
+           helmapricot_record(memory, sizeof memory, HELMAPRICOT_MEMORY, 100, 10, 50, long_data, sizeof long_data));
     leaves("no life", HELMAPRICOT_NO_LIFE, record(HELMAPRICOT_MEMORY, UINT64_MAX, 10, 10, "abc"));
     leaves("too high", HELMAPRICOT_ADDRESS_TOO_HIGH, record(HELMAPRICOT_MEMORY, UINT64_MAX - 2, 10, 50, "abc"));
     leaves("a byte of it at its last tick", HELMAPRICOT_CONFLICT, record(HELMAPRICOT_MEMORY, 102, 49, 60, "x"));

@@ -109,7 +109,7 @@ fn behind_6_and_before_7() -> Done {
     // no node and no entry is left
     let mut index = Index::new(4, 4)?;
     index.record(Kind::Memory, top, 1, 9, b"ab")?;
-    assert_eq!(recorded(&index, top, 1, 9, &[b'a'; 4097]), Err(Refusal::DataTooLong));
+    assert_eq!(recorded(&index, top - 4095, 1, 9, &[b'a'; 4097]), Err(Refusal::DataTooLong));
     assert_eq!(recorded(&index, top, 5, 5, b"abc"), Err(Refusal::NoLife));
     assert_eq!(recorded(&index, top, 1, 9, b"abc"), Err(Refusal::AddressTooHigh));
     assert_eq!(recorded(&index, top + 1, 1, 9, b"b"), Err(Refusal::Conflict));
