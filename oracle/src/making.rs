@@ -170,8 +170,10 @@ impl Maker {
         }
     }
 
-    /// A label buffer: so many bytes, written anew each round while the former label ends, cut the same way or anew.
+    /// A label buffer: so many bytes, written anew each round while the former label ends, cut the same way or anew. Its pieces begin
+    /// and end alike again and again.
     pub fn add_label(&mut self, size: usize, rounds: u64, same_cut: bool) {
+        self.want = Want::Consistent;
         let first = self.least.min(u64::MAX - size as u64);
         let mut cuts = self.cuts(size);
         let mut tick = self.first_tick.min(u64::MAX - 8 * rounds);
