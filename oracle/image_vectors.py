@@ -1,10 +1,12 @@
 #!/usr/bin/env python3
-"""Makes the vectors of crates/test_image_vectors: images, sound and damaged, and what document 01 says of each.
+"""Makes the vectors of crates/test_image_vectors: images, sound, damaged and with conflicting pieces, and what documents 01 and 02
+say of each.
 
     oracle/image_vectors.py DIR     writes DIR/data/images and DIR/stdout
 
-This is a reader of its own, written from document 01 and from nothing else: it builds tries by inserting pieces one by one,
-saves them, and judges bytes in layout order, then by the index rule in the document's words.
+This is a reader of its own, written from the documents and from nothing else: it builds tries by inserting pieces one by one,
+saves them, and judges bytes in layout order, then by the index rule in the document's words, then (request 2) for two pieces that
+share a byte address and a live tick.
 
 A vector is a mode byte, a number (8 bytes, lowest first) and more. Mode 0: a length and an image, which is judged. Mode 1:
 the same, and every part of the image from its start is judged, from 0 bytes to all of them. Mode 2: an index and a byte; the
@@ -194,6 +196,19 @@ def meets_rule(root):
     return all(set(n.prefixes) == prefixes.get(p, set()) and set(n.suffixes) == suffixes.get(p, set()) and p in owed for p, n in nodes.items())
 
 
+def conflicting(root):
+    """Whether two pieces share a byte address and a live tick: looked for in the bytes of one after the other."""
+    lives = {}
+    for path, n in walk(root):
+        for a, c, d in n.chunks:
+            for i in range(len(path)):
+                held = lives.setdefault(a + i, [])
+                if any(max(c, x) < min(d, y) for x, y in held):
+                    return True
+                held.append((c, d))
+    return False
+
+
 def judge(s):
     r = Reader(s)
     try:
@@ -202,6 +217,8 @@ def judge(s):
         return f"(refused {e.args[0]})"
     if end != len(s) or (root is not None and not meets_rule(root)):
         return "(refused 15)"
+    if root is not None and conflicting(root):
+        return "(refused 18)"
     return f"(right {r.nodes} {r.entries})"
 
 
@@ -234,7 +251,7 @@ def vectors(rng):
                 add(s + b"\0")
     deep = image(trie([(range(16), 7, 1, 9), (b"abcabc", 100, 3, 5), (b"", 5, 1, 2), (b"bca", 2**64 - 4, 1, 2)]))
     one = image(trie([(b"a", 5, 1, 2)]))
-    two = image(trie([(b"ab", 5, 1, 3), (b"b", 6, 3, 4), (b"ab", 5, 3, 4)]))
+    two = image(trie([(b"ab", 5, 1, 3), (b"b", 7, 3, 4), (b"ab", 5, 3, 4)]))
     nine = next(s for s in sound if s[0] == 2)
     dense = next(s for s in sound if s[0] == 1)
     for s in (one, two, deep, nine):
@@ -277,7 +294,49 @@ def vectors(rng):
     add(b"\2" + one[1:])
     for k in (0, 4, 255):
         add(one[:67] + bytes([k]) + one[68:])
+    conflicts(rng, add, damage)
     return out
+
+
+def conflicts(rng, add, damage):
+    """Images whose pieces conflict, and some in which they nearly do; damaged, and small ones cut and with a byte behind them."""
+    up = range(16)
+    for blocks in (
+        [(b"a", 5, 1, 3), (b"a", 5, 2, 4)],                 # one string in its own life, begun with it, and within it
+        [(b"a", 5, 1, 3), (b"a", 5, 1, 4)],
+        [(b"a", 5, 1, 9), (b"a", 5, 3, 4)],
+        [(b"a", 5, 1, 3), (b"b", 5, 2, 4)],                 # two strings at one address, and at one location
+        [(b"a", 5, 1, 3), (b"b", 5, 1, 3)],
+        [(b"ab", 5, 1, 3), (b"a", 5, 1, 3)],
+        [(b"ab", 5, 1, 3), (b"b", 6, 1, 3)],                # at another's last byte, its own suffix or not
+        [(b"ab", 5, 1, 3), (b"c", 6, 2, 4)],
+        [(b"ab", 5, 1, 3), (b"bc", 6, 2, 4)],
+        [(up, 0, 1, 3), (b"x", 15, 2, 3)],
+        [(up, TOP - 16, 1, 3), (b"x", TOP - 1, 0, 2)],
+        [(bytes(40), 0, 1, 3), (b"x", 33, 2, 3)],           # in the third piece of a block
+        [(b"a", 6, t, t + 1) for t in range(9)] + [(b"xy", 5, 4, 5)],
+        [(b"a", 6, 2 * t, 2 * t + 1) for t in range(9)] + [(b"xy", 5, 5, 7)],
+        [([b], 100, b, b + 2) for b in range(0, 200, 2)] + [(b"zz", 99, 7, 8)],
+        [(b"a", 5, 1, 3), (b"a", 5, 3, 4), (b"b", 5, 4, 5)],                          # these touch, and are sound
+        [(b"ab", 5, 1, 3), (b"b", 6, 3, 4), (b"b", 7, 1, 3), (b"c", 4, 1, 3)],
+        [(b"abc", 5, 1, 3), (b"", 6, 1, 3), (b"", 6, 2, 9), (b"a", 5, 3, 9)],
+        [(up, 0, 1, 3), (b"x", 15, 0, 1), (b"x", 15, 3, 4), (b"x", 16, 1, 3)],
+        [(b"a", 6, 2 * t, 2 * t + 1) for t in range(9)] + [(b"xy", 5, 5, 6)],
+        [([b], 100, b, b + 2) for b in range(0, 200, 2)] + [(b"z", 99, 7, 8)],
+        [(b"a", 5, 1, 3), (b"a", 5, 1, 3)],                 # a block twice stands once in an image
+    ):
+        s = image(trie(blocks))
+        if len(s) < 3000:
+            add(s + b"\0")
+            add(s[:-1])
+        add(s)
+        for _ in range(20):
+            damage(rng.randrange(len(s)), rng.randrange(256))
+    two = image(trie([(b"ab", 5, 1, 3), (b"b", 6, 2, 4)]))
+    add(two, 1)
+    for at in range(len(two)):                              # 13, 14 or 15 wherever a byte breaks more than that
+        for v in (two[at] ^ 1, two[at] ^ 128, (two[at] + 3) % 256):
+            damage(at, v)
 
 
 def main():

@@ -42,7 +42,8 @@ enum helmapricot_answer {
     HELMAPRICOT_UNKNOWN_KIND = 14,          /* space kind over 4, node kind unknown */
     HELMAPRICOT_IMAGE_BROKEN = 15,          /* image layout or index rule broken, bytes left over */
     HELMAPRICOT_CAPACITY_REFUSED = 16,      /* opening with 0 or over 1,048,576 nodes or entries, or in too little memory */
-    HELMAPRICOT_NO_FORM = 17                /* a program's line is no form */
+    HELMAPRICOT_NO_FORM = 17,               /* a program's line is no form */
+    HELMAPRICOT_CONFLICT = 18               /* shares a byte address and a live tick with a piece held (load: two pieces do) */
 };
 
 /* The kinds of a block. Memory blocks are recorded; the others are taken and change nothing. */
@@ -86,8 +87,7 @@ enum helmapricot_node_kind {
     ((size_t)(bytes) / 16 * 136 + (size_t)(bytes) % 16 * ((size_t)(bytes) % 16 + 1) / 2)
 #define HELMAPRICOT_ENTRIES_CHARGED(bytes) ((bytes) == 0 ? (size_t)1 : 2 * (size_t)(bytes))
 
-/* A row: the query stood at the address at every tick from created to destroyed - 1, and not at the tick before or after. That
- * holds where no byte of the recording has two blocks at one tick; where one has, each block's ticks may come as rows of their own. */
+/* A row: the query stood at the address at every tick from created to destroyed - 1, and not at the tick before or after. */
 struct helmapricot_row {
     uint64_t address;
     uint64_t created;
@@ -112,7 +112,9 @@ uint64_t helmapricot_open(uint8_t *mem, size_t mem_len, uint64_t nodes, uint64_t
 
 /* Records a block: these bytes, at this address, at the ticks from created_at to destroyed_at - 1. Changes mem where a
  * Memory block is taken. A block of kind 0, 2, 3 or 4 that passes 1 and 2 is taken, whatever it is, and changes nothing.
- * Answers 0, or 1, 2, 14, 4, 5, 6, 7, 8: the first of these that applies. */
+ * No byte address has two blocks at one tick: a Memory block that would give it a second, of the same byte or another, is
+ * turned back with 18. Blocks that only touch, in addresses or in ticks, are no conflict, and an empty block never is one.
+ * Answers 0, or 1, 2, 14, 4, 5, 6, 18, 7, 8: the first of these that applies. */
 uint64_t helmapricot_record(uint8_t *mem, size_t mem_len, uint64_t kind, uint64_t address, uint64_t created_at,
                             uint64_t destroyed_at, const uint8_t *data, size_t data_len);
 
@@ -120,7 +122,7 @@ uint64_t helmapricot_record(uint8_t *mem, size_t mem_len, uint64_t kind, uint64_
  * mem is tested once. It stops at the first refusal and keeps the blocks before it. *taken is how many were taken, of
  * whatever kind; it is written always, and is 0 for refusals 1 and 2.
  * Answers 0 where all were taken, or 1, 2, even for an empty stream, then for each block 13, 14 as reading it does and 4, 5, 6,
- * 7, 8 as recording it does. */
+ * 18, 7, 8 as recording it does: 18 also where it conflicts with a block before it in the stream. */
 uint64_t helmapricot_record_stream(uint8_t *mem, size_t mem_len, const uint8_t *stream, size_t stream_len, uint64_t *taken);
 
 /* Ends the recording: mem then holds the image of the index, and zeros up to what the capacity needs. Finishing again
@@ -141,8 +143,10 @@ uint64_t helmapricot_search(const uint8_t *mem, size_t mem_len, const uint8_t *q
 uint64_t helmapricot_save(const uint8_t *mem, size_t mem_len, uint8_t *out, size_t out_len, uint64_t *size);
 
 /* Replaces what an index in mem holds, open or finished, by an image, within the capacity that it was opened with. It is
- * finished then. An image is accepted only if it has the layout and the index rule holds.
- * Answers 0, or 1, 13, 14, 15, 7, 8. */
+ * finished then. An image is accepted only if it has the layout and the index rule holds. The rule has it that no two pieces share
+ * a byte address and a live tick; an image that breaks it in this alone is refused with 18, whatever the capacity, and any other
+ * with 15.
+ * Answers 0, or 1, 13, 14, 15, 18, 7, 8. */
 uint64_t helmapricot_load(uint8_t *mem, size_t mem_len, const uint8_t *image, size_t image_len);
 
 /* Reads the block of a stream at a cursor: kind (1 byte), address, length, created_at, destroyed_at (8 each, lowest byte

@@ -2,12 +2,19 @@
 #[link(name = "bench_parts", kind = "static")]
 extern "C" {
     fn helmapricot_check(image: *const u8, len: usize) -> u64;
+    fn helmapricot_judge(image: *const u8, len: usize) -> u64;
     fn helmapricot_layout(image: *const u8, len: usize) -> u64;
     fn helmapricot_search_image(image: *const u8, len: usize, queries: *const u8, queries_len: usize, size: usize, scratch: *mut u8, scratch_len: usize, room: usize, count: *mut u64) -> u64;
 }
 
+/// Layout, bytes left over and index rule, conflicts left out: 0, or 13, 14, 15.
 pub fn check(image: &[u8]) -> u64 {
     unsafe { helmapricot_check(image.as_ptr(), image.len()) }
+}
+
+/// All that an image is tested for: 0, or 13, 14, 15, 18.
+pub fn judge(image: &[u8]) -> u64 {
+    unsafe { helmapricot_judge(image.as_ptr(), image.len()) }
 }
 
 pub fn layout(image: &[u8]) -> u64 {

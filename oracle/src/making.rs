@@ -11,7 +11,7 @@ pub enum Want {
     Met,
     /// consistent
     Consistent,
-    /// anything
+    /// anything; from request 2 on those that conflict with one before them are turned back
     Any,
 }
 
@@ -28,6 +28,8 @@ pub struct Maker {
     ticks: u64,
     domain: Domain,
     pub blocks: Vec<Block>,
+    /// records among the others that conflict with a block before them, or nearly
+    conflicts: bool,
 }
 
 /// So many different bytes, in any order.
@@ -49,7 +51,7 @@ impl Maker {
         let least = r.pick(&[0, 0, 1, 100, 1 << 32, u64::MAX - span, u64::MAX - span, u64::MAX - span / 2]);
         let ticks = r.pick(&[2, 4, 10, 10, 50, 1000]);
         let first_tick = r.pick(&[0, 0, 1, 1 << 40, u64::MAX - ticks]);
-        Self { level, r, want, alphabet, text, least, span, first_tick, ticks, domain: Domain::default(), blocks: Vec::new() }
+        Self { level, r, want, alphabet, text, least, span, first_tick, ticks, domain: Domain::default(), blocks: Vec::new(), conflicts: false }
     }
 
     fn length(&mut self) -> usize {
@@ -168,6 +170,36 @@ impl Maker {
         }
     }
 
+    /// A label buffer: so many bytes, written anew each round while the former label ends, cut the same way or anew. Its pieces begin
+    /// and end alike again and again.
+    pub fn add_label(&mut self, size: usize, rounds: u64, same_cut: bool) {
+        self.want = Want::Consistent;
+        let first = self.least.min(u64::MAX - size as u64);
+        let mut cuts = self.cuts(size);
+        let mut tick = self.first_tick.min(u64::MAX - 8 * rounds);
+        for _ in 0..rounds {
+            let end = tick + self.r.between(1, 8);
+            for w in cuts.windows(2) {
+                let bytes = self.bytes(w[1] - w[0], first + w[0] as u64);
+                self.add(Block { kind: 1, at: Location::new(first + w[0] as u64, tick, end), bytes });
+            }
+            tick = end;
+            if !same_cut {
+                cuts = self.cuts(size);
+            }
+        }
+    }
+
+    /// Where so many bytes are cut into blocks, from 0 to all of them.
+    fn cuts(&mut self, size: usize) -> Vec<usize> {
+        let longest = self.r.pick(&[1, 3, 8, 20]);
+        let mut cuts = vec![0];
+        while let Some(at) = cuts.last().copied().filter(|at| *at < size) {
+            cuts.push(size.min(at + self.r.between(1, longest) as usize));
+        }
+        cuts
+    }
+
     /// A block of 4,096 bytes.
     pub fn add_longest(&mut self) {
         let address = self.least.min(u64::MAX - 4096);
@@ -182,8 +214,17 @@ impl Maker {
         let address = self.address(None, n);
         let (created, destroyed) = self.life(None);
         let mut b = Block { kind: 1, at: Location::new(address, created, destroyed), bytes: self.bytes(n, address) };
-        // one fault, or several at once: the order of the checks shows
-        for _ in 0..self.r.pick(&[1, 1, 2, 3]) {
+        let faults = self.r.pick(&[1, 1, 2, 3]);
+        self.spoil(&mut b, faults);
+        if b.kind == 1 && b.at.created < b.at.destroyed && b.at.address.checked_add(b.bytes.len() as u64).is_some() && b.bytes.len() <= 4096 {
+            b.kind = 2;
+        }
+        b
+    }
+
+    /// So many faults, one or several at once: the order of the checks shows.
+    fn spoil(&mut self, b: &mut Block, faults: usize) {
+        for _ in 0..faults {
             match self.r.below(6) {
                 0 => b.at.destroyed = b.at.created - self.r.below(2).min(b.at.created),
                 1 => b.at.address = u64::MAX - (b.bytes.len() as u64).saturating_sub(1) / 2,
@@ -192,9 +233,30 @@ impl Maker {
                 _ => b.kind = self.r.pick(&[0, 2, 3, 4]),
             }
         }
-        if b.kind == 1 && b.at.created < b.at.destroyed && b.at.address.checked_add(b.bytes.len() as u64).is_some() && b.bytes.len() <= 4096 {
-            b.kind = 2;
+    }
+
+    /// From..end of so many numbers that has one of old..old_end in it, or just touches it: at its first, at its last, or somewhere.
+    fn near(&mut self, old: u64, old_end: u64, n: u64) -> u64 {
+        let inside = old + self.r.below((old_end - old).max(1));
+        match self.r.below(8) {
+            0 => old.saturating_sub(n),
+            1 => old.saturating_sub(n.saturating_sub(1)),
+            2 => old_end.saturating_sub(1),
+            3 => old_end,
+            _ => inside.saturating_sub(self.r.below(n.max(1))),
         }
+    }
+
+    /// A record that conflicts with a block before it, mostly: some only touch it, some are empty or have other faults besides.
+    fn conflicting_record(&mut self, before: &Block) -> Block {
+        let n = if self.r.once_in(6) { before.bytes.len() } else { self.length() };
+        let address = self.near(before.at.address, before.at.moved(before.bytes.len()).address, n as u64);
+        let ticks = self.r.pick(&[1, 1, 2, 5, before.at.destroyed - before.at.created]);
+        let created = self.near(before.at.created, before.at.destroyed, ticks);
+        let bytes = if n == before.bytes.len() && self.r.once_in(2) { before.bytes.clone() } else { self.bytes(n, address) };
+        let mut b = Block { kind: 1, at: Location::new(address, created, created.saturating_add(ticks)), bytes };
+        let faults = self.r.pick(&[0, 0, 0, 0, 0, 1, 2]);
+        self.spoil(&mut b, faults);
         b
     }
 
@@ -264,11 +326,17 @@ impl Maker {
         let (nodes, entries) = self.capacity();
         let held = Bytes::of(&self.blocks);
         let mut calls = Vec::new();
-        for b in self.blocks.clone() {
+        let blocks = self.blocks.clone();
+        for (i, b) in blocks.iter().enumerate() {
             if self.r.once_in(8) {
                 calls.push(Call::Record(self.other_record()));
             }
-            calls.push(Call::Record(b));
+            calls.push(Call::Record(b.clone()));
+            // near this one, mostly, or near any before it
+            for _ in 0..if self.conflicts { self.r.pick(&[0, 0, 1, 2]) } else { 0 } {
+                let before = if self.r.once_in(2) { i } else { self.r.below(i as u64 + 1) as usize };
+                calls.push(Call::Record(self.conflicting_record(&blocks[before])));
+            }
         }
         if self.r.once_in(4) {
             calls.push(Call::Find(self.query(&held)));
@@ -289,18 +357,20 @@ impl Maker {
     }
 }
 
-/// Small recordings of which every bit is damaged: document 01's first, fifth, eighth and thirteenth, and one with empty
-/// blocks and nodes of kind 2.
+/// Small recordings of which every bit is damaged: document 01's first, fifth, eighth and thirteenth, one with conflicting blocks,
+/// and one with empty blocks and nodes of kind 2.
 pub fn small() -> Vec<Recording> {
     let b = Block::memory;
     let nine: Vec<Block> = (0..9).map(|i| b(i, 1, 2, &[9 - i as u8])).collect();
     let up: Vec<u8> = (0..17).collect();
-    let lists: [(Vec<Block>, &[u8]); 6] = [
+    let lists: [(Vec<Block>, &[u8]); 7] = [
         (Vec::new(), b"a"),
         (vec![b(5, 1, 2, b"a")], b"a"),
         (vec![b(100, 10, 50, b"abc"), b(103, 10, 30, b"de"), b(103, 30, 50, b"de")], b"cd"),
         (vec![b(0, 1, 5, b"ab"), b(2, 5, 9, b"c")], b"abc"),
         (vec![b(200, 1, 2, &up)], &up[15..]),
+        // the third and the fourth conflict with the first, the last with none
+        (vec![b(9, 1, 5, b"ab"), b(3, 2, 9, b"x"), b(10, 4, 6, b"c"), b(9, 1, 5, b"ab"), b(10, 5, 9, b"c")], b"ab"),
         ([vec![b(u64::MAX, 1, 2, b""), b(7, 1, 2, b""), b(7, 2, 3, b"")], nine].concat(), &[9, 8, 7]),
     ];
     lists.into_iter().map(|(blocks, q)| small_recording(blocks, q)).collect()
@@ -318,7 +388,9 @@ fn small_recording(blocks: Vec<Block>, q: &[u8]) -> Recording {
 pub fn make(level: Level, seed: u64, number: u64) -> Recording {
     let mut r = Random::new(seed.wrapping_mul(0x2545f4914f6cdd1d) ^ number.wrapping_mul(0x9e3779b97f4a7c15));
     let want = r.pick(&[Want::Met, Want::Met, Want::Met, Want::Met, Want::Consistent, Want::Consistent, Want::Consistent, Want::Any, Want::Any]);
+    let conflicts = level.has(2) && r.once_in(4);
     let mut m = Maker::new(level, r, want);
+    m.conflicts = conflicts;
     // the largest capacity, all but used up
     if number % 5000 == 2499 {
         m.least = 1 << 20;
@@ -331,8 +403,16 @@ pub fn make(level: Level, seed: u64, number: u64) -> Recording {
         (rec.nodes, rec.entries) = (1 << 20, 1 << 20);
         return rec;
     }
+    // a large label buffer: many lives at each address
+    if number % 1000 == 499 {
+        m.conflicts = level.has(2);
+        let same_cut = m.r.once_in(2);
+        m.add_label(64, 300, same_cut);
+        return m.recording(8);
+    }
     // a few large ones
     if number % 1000 == 999 {
+        m.conflicts = level.has(2) && m.r.once_in(2);
         let count = m.r.between(2000, 4000) as usize;
         m.span = 1 << 20;
         m.least = m.least.min(1 << 32);
@@ -359,6 +439,11 @@ pub fn make(level: Level, seed: u64, number: u64) -> Recording {
             m.add_chain(count, longest);
         }
         35 => m.add_longest(),
+        36..=43 => {
+            let (size, rounds) = m.r.pick(&[(1, 60), (3, 20), (16, 12), (40, 6)]);
+            let same_cut = m.r.once_in(2);
+            m.add_label(size, rounds, same_cut);
+        }
         _ => {}
     }
     let count = m.r.pick(&[0, 0, 1, 2, 3, 4, 6, 10, 20, 40]);

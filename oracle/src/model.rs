@@ -423,14 +423,52 @@ fn meets_rule(root: &Node) -> bool {
 }
 
 /// What an image holds, with its nodes and entries, or the number of its refusal.
-pub fn judge(_level: Level, s: &[u8]) -> Result<(Option<Node>, u64, u64), u64> {
+pub fn judge(level: Level, s: &[u8]) -> Result<(Option<Node>, u64, u64), u64> {
     let mut r = Reader { s, at: 0 };
     let root = r.root()?;
     if r.at != s.len() || !root.as_ref().is_none_or(meets_rule) {
         return Err(15);
     }
+    if level.has(2) && !root.as_ref().is_none_or(|n| are_free(&n.pieces())) {
+        return Err(18);
+    }
     let (nodes, entries) = root.as_ref().map_or((1, 0), |n| (n.nodes(), n.entries()));
     Ok((root, nodes, entries))
+}
+
+// ── conflicts (request 2) ──
+
+/// So many bytes at each of two locations share a byte address and a live tick. The greater of the beginnings is below the lesser
+/// of the ends, so that no bytes share nothing, even where they stand inside others. No end is over 2^64 - 1.
+fn share((l, m): (Location, usize), (k, n): (Location, usize)) -> bool {
+    l.address.max(k.address) < (l.address + m as u64).min(k.address + n as u64) && l.created.max(k.created) < l.destroyed.min(k.destroyed)
+}
+
+/// Bytes at a location conflict with one of these pieces.
+fn conflicts(at: Location, n: usize, pieces: &[Piece]) -> bool {
+    pieces.iter().any(|p| share((at, n), (p.at, p.bytes.len())))
+}
+
+/// No two of these pieces conflict; the same one twice does.
+pub fn are_free(pieces: &[Piece]) -> bool {
+    pieces.iter().enumerate().all(|(i, p)| !conflicts(p.at, p.bytes.len(), &pieces[..i]))
+}
+
+/// What stands in the work area of an open memory: for each piece that has a byte, by location and then by number, its number in the
+/// log and the greatest end so far at its address.
+pub fn certificate(pieces: &[Piece]) -> Vec<u8> {
+    let mut order: Vec<usize> = (0..pieces.len()).filter(|k| !pieces[*k].bytes.is_empty()).collect();
+    order.sort_by_key(|k| (pieces[*k].at, *k));
+    let mut out = Vec::with_capacity(16 * order.len());
+    let mut before: Option<(u64, u64)> = None;
+    for k in order {
+        let at = pieces[k].at;
+        let reach = before.filter(|b| b.0 == at.address).map_or(at.destroyed, |b| b.1.max(at.destroyed));
+        put(&mut out, k as u64);
+        put(&mut out, reach);
+        before = Some((at.address, reach));
+    }
+    out
 }
 
 // ── the lent memory ──
@@ -454,6 +492,11 @@ pub fn needed(nodes: u64, entries: u64) -> usize {
     64 + 64 * nodes as usize + 104 * entries as usize
 }
 
+/// Where the work area begins, behind header and payload.
+pub fn work_at(nodes: u64, entries: u64) -> usize {
+    64 + 64 * nodes as usize + 48 * entries as usize
+}
+
 fn within_limits(n: u64) -> bool {
     (1..=1_048_576).contains(&n)
 }
@@ -466,8 +509,8 @@ fn location(bytes: &[u8], at: usize) -> Location {
     Location::new(number(bytes, at), number(bytes, at + 8), number(bytes, at + 16))
 }
 
-/// The pieces of an open index's log, if they are sound and the tally is right.
-fn log(m: &[u8]) -> Option<Vec<Piece>> {
+/// The pieces of an open index's log, if they are sound and the tally is right, and they are free of conflicts and certified.
+fn log(level: Level, m: &[u8]) -> Option<Vec<Piece>> {
     let (mut pieces, mut nodes, mut entries) = (Vec::new(), 1, 0);
     for k in 0..number(m, 40) as usize {
         let at = 64 + 48 * k;
@@ -480,7 +523,9 @@ fn log(m: &[u8]) -> Option<Vec<Piece>> {
         entries += if n == 0 { 1 } else { 2 * n };
         pieces.push(Piece { at: l, bytes: m[at + 8..at + 8 + n as usize].to_vec() });
     }
-    (number(m, 24) == nodes && number(m, 32) == entries).then_some(pieces)
+    let tallied = number(m, 24) == nodes && number(m, 32) == entries;
+    let certified = || m[work_at(number(m, 0), number(m, 8))..].starts_with(&certificate(&pieces)) && are_free(&pieces);
+    (tallied && (!level.has(2) || certified())).then_some(pieces)
 }
 
 /// What bytes hold: docs/DECISIONS.md has the layout.
@@ -494,7 +539,7 @@ pub fn held(level: Level, m: &[u8]) -> Held {
         return Held::Broken;
     }
     if phase == 0 {
-        return log(m).map_or(Held::Broken, Held::Open);
+        return log(level, m).map_or(Held::Broken, Held::Open);
     }
     match judge(level, &m[64..64 + payload as usize]) {
         Ok((root, n, e)) if n == number(m, 24) && e == number(m, 32) => Held::Finished(root),
@@ -526,6 +571,11 @@ impl Memory {
         0
     }
 
+    /// Whether a block shares a byte address and a live tick with a piece that an open index holds.
+    fn is_struck(&self, b: &Block) -> bool {
+        matches!(&self.held, Held::Open(pieces) if conflicts(b.at, b.bytes.len(), pieces))
+    }
+
     /// The number of the refusal of a Memory block in an open index, 0 where it is taken.
     fn block_refusal(&self, b: &Block) -> u64 {
         if b.bytes.len() > 4096 {
@@ -534,6 +584,8 @@ impl Memory {
             5
         } else if b.at.address.checked_add(b.bytes.len() as u64).is_none() {
             6
+        } else if self.level.has(2) && self.is_struck(b) {
+            18
         } else if number(&self.bytes, 24) + b.nodes_charged() > self.nodes_room() {
             7
         } else if number(&self.bytes, 32) + b.entries_charged() > self.entries_room() {
@@ -555,6 +607,13 @@ impl Memory {
         pieces.push(p);
     }
 
+    /// Writes the certificate of what an open index holds.
+    pub fn certify(&mut self) {
+        let Held::Open(pieces) = &self.held else { return };
+        let (at, certificate) = (work_at(self.nodes_room(), self.entries_room()), certificate(pieces));
+        self.bytes[at..at + certificate.len()].copy_from_slice(&certificate);
+    }
+
     pub fn record(&mut self, b: &Block) -> u64 {
         match self.held {
             Held::Broken => return 1,
@@ -571,6 +630,9 @@ impl Memory {
             put_at(&mut self.bytes, 24, nodes);
             put_at(&mut self.bytes, 32, entries);
             put_at(&mut self.bytes, 40, count);
+            if self.level.has(2) {
+                self.certify();
+            }
         }
         refusal
     }

@@ -134,6 +134,11 @@ impl Domain {
         d
     }
 
+    pub fn of_pieces(pieces: &[Piece]) -> Self {
+        let blocks: Vec<Block> = pieces.iter().map(|p| Block { kind: 1, at: p.at, bytes: p.bytes.clone() }).collect();
+        Self::of(&blocks)
+    }
+
     pub fn keeps_consistent(&self, b: &Block) -> bool {
         (0..b.bytes.len()).all(|i| self.lives.get(&b.at.moved(i).address).is_none_or(|l| l.iter().all(|&(c, d)| !b.at.shares_a_tick(c, d))))
     }

@@ -65,22 +65,23 @@ mod tests {
         Ok(())
     }
 
-    /// The one block ab at 5, from tick 10 to 50.
-    fn stream() -> Vec<u8> {
+    /// The one block ab at an address, from tick 10 to 50.
+    fn stream_at(address: u64) -> Vec<u8> {
         let mut stream = vec![1];
-        [5, 2, 10, 50].iter().for_each(|n: &u64| stream.extend(n.to_le_bytes()));
+        [address, 2, 10, 50].iter().for_each(|n| stream.extend(n.to_le_bytes()));
         stream.extend(b"ab");
         stream
     }
 
     #[test]
     fn taken() -> Result<(), Refusal> {
-        let one = stream();
+        let one = stream_at(5);
         let mut memory = Index::new(10, 10)?.into_memory();
         assert_eq!(record_stream(&mut memory, &[]), (0, 0));
         assert_eq!(record_stream(&mut memory, &one), (0, 1));
-        assert_eq!(record_stream(&mut memory, &[&one[..], &[5]].concat()), (14, 1));
-        assert_eq!(record_stream(&mut memory, &one), (8, 0));
+        assert_eq!(record_stream(&mut memory, &one), (18, 0));
+        assert_eq!(record_stream(&mut memory, &[&stream_at(7)[..], &[5]].concat()), (14, 1));
+        assert_eq!(record_stream(&mut memory, &stream_at(9)), (8, 0));
         let mut index = Index::held_in(memory);
         index.finish()?;
         let mut memory = index.into_memory();
@@ -93,7 +94,7 @@ mod tests {
 
     #[test]
     fn fields() {
-        let mut stream = stream();
+        let mut stream = stream_at(5);
         assert_eq!(read_block(&stream, 0), (0, [1, 1, 5, 2, 10, 50, 35]));
         assert_eq!(read_block(&stream, 35), (0, [0, BEFORE, BEFORE, BEFORE, BEFORE, BEFORE, BEFORE]));
         assert_eq!(read_block(&stream, 36), (13, [BEFORE; 7]));

@@ -1,6 +1,6 @@
 //! Where and when did these bytes stand in a recorded memory?
 //!
-//! A safe wrapper of the calls in libhelmapricot.a, which are proved to meet document 01 for every input.
+//! A safe wrapper of the calls in libhelmapricot.a, which are proved to meet documents 01 and 02 for every input.
 //!
 //! ```text
 //! rt staticlib helmapricot
@@ -53,8 +53,7 @@ impl From<Kind> for u64 {
     }
 }
 
-/// The query stood at the address at every tick from created to destroyed - 1, and not at the tick before or after. That holds
-/// where no byte of the recording has two blocks at one tick; where one has, each block's ticks may come as rows of their own.
+/// The query stood at the address at every tick from created to destroyed - 1, and not at the tick before or after.
 #[derive(Clone, Copy, Debug, Default, PartialEq, Eq, PartialOrd, Ord, Hash)]
 #[repr(C)]
 pub struct Row {
@@ -106,7 +105,9 @@ impl<M: AsRef<[u8]> + AsMut<[u8]>> Index<M> {
         Ok(Self { memory })
     }
 
-    /// Records a block: these bytes, at this address, at the ticks from created_at to destroyed_at - 1.
+    /// Records a block: these bytes, at this address, at the ticks from created_at to destroyed_at - 1. No byte address has two
+    /// Memory blocks at one tick: one that would give it a second is refused with [`Refusal::Conflict`]. Blocks that only touch, in
+    /// addresses or in ticks, are no conflict, and an empty block never is one.
     pub fn record(&mut self, kind: impl Into<u64>, address: u64, created_at: u64, destroyed_at: u64, data: &[u8]) -> Result<(), Refusal> {
         let m = self.memory.as_mut();
         answer(unsafe { calls::helmapricot_record(m.as_mut_ptr(), m.len(), kind.into(), address, created_at, destroyed_at, data.as_ptr(), data.len()) })
@@ -118,7 +119,8 @@ impl<M: AsRef<[u8]> + AsMut<[u8]>> Index<M> {
     }
 
     /// Records the blocks of a stream and says how many they are. It equals recording them one by one, but the memory is tested
-    /// once. It stops at the first refusal and keeps the blocks before it; 1 and 2 come first, even for an empty stream.
+    /// once. It stops at the first refusal and keeps the blocks before it; 1 and 2 come first, even for an empty stream. A block
+    /// conflicts with those before it in the stream as with any that are held.
     pub fn record_stream(&mut self, stream: &[u8]) -> Result<u64, Stopped> {
         let m = self.memory.as_mut();
         let mut taken = 0;
@@ -133,7 +135,8 @@ impl<M: AsRef<[u8]> + AsMut<[u8]>> Index<M> {
         answer(unsafe { calls::helmapricot_finish(m.as_mut_ptr(), m.len()) })
     }
 
-    /// Replaces what is held by an image, within the capacity; the index is finished then.
+    /// Replaces what is held by an image, within the capacity; the index is finished then. An image is refused with
+    /// [`Refusal::Conflict`], whatever the capacity, where all is right but that two of its pieces share a byte address and a live tick.
     pub fn load(&mut self, image: &[u8]) -> Result<(), Refusal> {
         let m = self.memory.as_mut();
         answer(unsafe { calls::helmapricot_load(m.as_mut_ptr(), m.len(), image.as_ptr(), image.len()) })

@@ -3,7 +3,7 @@ use std::fmt;
 
 macro_rules! refusals {
     ($($name:ident = $number:literal, $cause:literal;)*) => {
-        /// The causes of a refusal, with document 01's numbers.
+        /// The causes of a refusal, with the numbers of documents 01 and 02.
         #[derive(Clone, Copy, Debug, PartialEq, Eq, PartialOrd, Ord, Hash)]
         #[repr(u64)]
         pub enum Refusal {
@@ -46,6 +46,7 @@ refusals! {
     ImageBroken = 15, "image layout or index rule broken, bytes left over";
     CapacityRefused = 16, "opening with 0 or over 1,048,576 nodes or entries, or with more than the lent memory holds";
     NoForm = 17, "program line is no form";
+    Conflict = 18, "a block shares a byte address and a live tick with a piece held (load: two pieces do)";
 }
 
 impl Refusal {
@@ -81,6 +82,6 @@ impl std::error::Error for Stopped {}
 pub(crate) fn answer(number: u64) -> Result<(), Refusal> {
     match number {
         0 => Ok(()),
-        n => Err(Refusal::of(n).expect("a number of document 01")),
+        n => Err(Refusal::of(n).expect("a number of document 01 or 02")),
     }
 }

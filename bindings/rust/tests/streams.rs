@@ -116,6 +116,9 @@ fn every_refusal_in_the_middle() -> Done {
     stops_behind_two(4, 40_000, 10_000, &memory_block(0, 1, 2, &long))?;
     stops_behind_two(5, 100, 100, &memory_block(0, 2, 2, b"x"))?;
     stops_behind_two(6, 100, 100, &memory_block(u64::MAX, 1, 2, b"x"))?;
+    // a byte of the first block at its last tick, and one of the second
+    stops_behind_two(18, 100, 100, &memory_block(99, 49, 60, b"xy"))?;
+    stops_behind_two(18, 100, 100, &memory_block(104, 1, 11, b"x"))?;
     // the four blocks charge 6 + 3 + 6 + 3 nodes and 6 + 4 + 6 + 4 entries, the root one node
     stops_behind_two(7, 15, 100, &memory_block(0, 1, 2, b"xyz"))?;
     stops_behind_two(8, 100, 15, &memory_block(0, 1, 2, b"xyz"))
@@ -135,6 +138,8 @@ fn the_first_of_several_faults_decides() -> Done {
         (4, memory_block(u64::MAX, 2, 2, &long)),
         (5, memory_block(u64::MAX, 2, 2, b"xyz")),
         (6, memory_block(u64::MAX - 2, 1, 2, b"xyz")),
+        (18, memory_block(5, 8, 20, b"xyz")),
+        (7, memory_block(5, 9, 20, b"xyz")),
         (7, memory_block(0, 1, 2, b"xyz")),
     ];
     for (number, block) in faulty {
@@ -197,7 +202,7 @@ fn some_blocks(r: &mut Random) -> Vec<u8> {
         let data = r.bytes(n, 3);
         let created_at = r.below(5);
         let destroyed_at = if r.below(15) == 0 { r.below(5) } else { 5 + r.below(5) };
-        let address = if r.below(15) == 0 { number(r) } else { r.below(1000) };
+        let address = if r.below(15) == 0 { number(r) } else { r.below(300) };
         stream.extend(block_bytes(kind, [address, n as u64, created_at, destroyed_at], &data));
     }
     stream
@@ -209,7 +214,8 @@ fn noise(r: &mut Random) -> Vec<u8> {
     for _ in 0..r.below(4) {
         let n = r.below(12);
         let length = if r.below(3) > 0 { n } else { number(r) };
-        stream.extend(block_bytes(r.below(6) as u8, [number(r), length, number(r), number(r)], &r.bytes(n as usize, 256)));
+        let kind = r.pick(&[0, 1, 1, 1, 2, 3, 4, 5]);
+        stream.extend(block_bytes(kind, [number(r), length, number(r), number(r)], &r.bytes(n as usize, 256)));
     }
     let n = r.below(20) as usize;
     stream.extend(r.bytes(n, 6));
@@ -221,7 +227,7 @@ fn some_memory(r: &mut Random) -> Vec<u8> {
     let mut index = Index::new(1 + r.below(150), 1 + r.below(100)).unwrap();
     for _ in 0..r.below(4) {
         // a refused one is left out
-        let _ = index.record(Kind::Memory, r.below(1000), 1, 2 + r.below(9), &r.bytes(2, 3));
+        let _ = index.record(Kind::Memory, r.below(300), 1, 2 + r.below(9), &r.bytes(2, 3));
     }
     let state = r.below(12);
     if state == 0 {
@@ -252,12 +258,12 @@ fn many(seed: u64, numbers: &[u64], mut make: impl FnMut(&mut Random) -> Vec<u8>
 
 #[test]
 fn sound_streams() {
-    many(21, &[0, 1, 2, 4, 5, 6, 7, 8], some_blocks);
+    many(21, &[0, 1, 2, 4, 5, 6, 7, 8, 18], some_blocks);
 }
 
 #[test]
 fn damaged_streams() {
-    many(22, &[0, 1, 2, 4, 5, 6, 7, 8, 13, 14], |r| {
+    many(22, &[0, 1, 2, 4, 5, 6, 7, 8, 13, 14, 18], |r| {
         let mut stream = some_blocks(r);
         for _ in 0..1 + r.below(3) {
             // the first block's kind and fields
@@ -269,5 +275,5 @@ fn damaged_streams() {
 
 #[test]
 fn hostile_streams() {
-    many(23, &[0, 1, 2, 5, 6, 7, 8, 13, 14], noise);
+    many(23, &[0, 1, 2, 5, 6, 7, 8, 13, 14, 18], noise);
 }

@@ -154,6 +154,8 @@ fn main() {
     show(b"whole");
     show(b"no_life");
     show(b"too_high");
+    show(b"conflict");
+    show(b"conflict_with_the_one_before");
     show(b"too_long");
     show(b"cut_in_data");
     show(b"cut_in_head");
@@ -161,5 +163,6 @@ fn main() {
     show(b"length_past_the_end");
     show(b"too_many_nodes");
     show(b"too_many_entries");
+    show(b"conflict_and_too_many");
     show(b"empty");
 }

@@ -2,6 +2,9 @@
 //!
 //!     rt staticlib helmapricot && rt staticlib bench_parts
 //!     cd oracle && cargo run --release --offline --features parts --bin bench
+//!
+//! Of request 2 it times the test of images with and without its part that looks for conflicts, on blocks, on label buffers and on
+//! images made to be slow; a call on an open index; and streams, in the order of addresses and in others.
 use dataflow::prelude::SpaceKind;
 use oracle::index::string_index::StringIndex;
 use oracle::index::{Index, Serializable, SpacetimeBlock};
@@ -21,9 +24,17 @@ impl Random {
         self.0
     }
 
+    fn between(&mut self, least: usize, most: usize) -> usize {
+        least + self.next() as usize % (most - least + 1)
+    }
+
     fn text(&mut self, n: usize) -> Vec<u8> {
         (0..n).map(|_| b"0123456789ABCDEFGHIJKLMNOPQRSTUVWXYZ"[self.next() as usize % 36]).collect()
     }
+}
+
+fn block(address: u64, created_at: u64, destroyed_at: u64, data: Vec<u8>) -> SpacetimeBlock {
+    SpacetimeBlock { space: SpaceKind::Memory, address, len: data.len(), created_at, destroyed_at, data }
 }
 
 fn blocks(n: usize, least: u64, most: u64) -> Vec<SpacetimeBlock> {
@@ -33,7 +44,7 @@ fn blocks(n: usize, least: u64, most: u64) -> Vec<SpacetimeBlock> {
     for _ in 0..n {
         let len = (least + r.next() % (most - least + 1)) as usize;
         let data = r.text(len);
-        made.push(SpacetimeBlock { space: SpaceKind::Memory, address, len, created_at: r.next() % 1000, destroyed_at: 1000 + r.next() % 1000, data });
+        made.push(block(address, r.next() % 1000, 1000 + r.next() % 1000, data));
         // now and then blocks stand side by side, so that a query runs over several
         address += len as u64 + if r.next() % 4 == 0 { 16 } else { 0 };
     }
@@ -41,7 +52,7 @@ fn blocks(n: usize, least: u64, most: u64) -> Vec<SpacetimeBlock> {
 }
 
 fn copy(b: &SpacetimeBlock) -> SpacetimeBlock {
-    SpacetimeBlock { space: SpaceKind::Memory, address: b.address, len: b.len, created_at: b.created_at, destroyed_at: b.destroyed_at, data: b.data.clone() }
+    block(b.address, b.created_at, b.destroyed_at, b.data.clone())
 }
 
 /// The middle of some timings, in microseconds.
@@ -119,12 +130,42 @@ fn best<F: FnMut() -> (f64, f64)>(mut f: F) -> (f64, f64) {
 
 /// Streams of more and more blocks, the best of five: the time of the call is to grow as they do.
 fn longer_streams(mem: &mut [u8]) {
-    println!("{:24} {:>12} {:>12}", "a stream, microseconds", "the call", "a block");
+    println!("{:44} {:>12} {:>12}", "a stream, microseconds", "the call", "a block");
     for n in [1000, 4000, 16_000] {
-        let made = blocks(n, 8, 8);
-        let call = (0..5).map(|_| stream_call(mem, &made)).min_by(f64::total_cmp).unwrap();
-        println!("{:24} {call:12.0} {:12.3}", format!("{n} blocks of 8 bytes"), call / n as f64);
+        time_stream(mem, &format!("{n} blocks of 8 bytes"), &blocks(n, 8, 8));
     }
+    // 32,000 pieces of 7 bytes are near the most that a capacity can hold
+    for n in [1000, 7500, 32_000] {
+        let mut made = blocks(n, 7, 7);
+        time_stream(mem, &format!("{n} blocks of 7 bytes, by address"), &made);
+        made.reverse();
+        time_stream(mem, &format!("{n} blocks of 7 bytes, backwards"), &made);
+        let mut r = Random(5);
+        (1..n).rev().for_each(|i| made.swap(i, r.between(0, i)));
+        time_stream(mem, &format!("{n} blocks of 7 bytes, in any order"), &made);
+    }
+    time_stream(mem, "label buffer of 64 bytes, cut anew, by tick", &label(64, false));
+}
+
+fn time_stream(mem: &mut [u8], name: &str, made: &[SpacetimeBlock]) {
+    let call = (0..5).map(|_| stream_call(mem, made)).min_by(f64::total_cmp).unwrap();
+    println!("{name:44} {call:12.0} {:12.3}", call / made.len() as f64);
+}
+
+fn open_calls(mem: &mut [u8]) {
+    println!("{:44} {:>12}", "a call on an open index, microseconds", "the call");
+    for n in [1000, 7500, 32_000] {
+        time_open(mem, "blocks of 7 bytes", &blocks(n, 7, 7));
+    }
+    time_open(mem, "label buffer of 64 bytes, cut anew", &label(64, false));
+    time_open(mem, "blocks of one byte", &single_bytes(|i| i));
+}
+
+/// The call is refused behind the test of the memory: a record of kind 5.
+fn time_open(mem: &mut [u8], name: &str, made: &[SpacetimeBlock]) {
+    stream_call(mem, made);
+    let call = middle(101, || assert_eq!(linked::record(mem, 5, 0, 1, 2, b"x"), 14));
+    println!("{:44} {call:12.1}", format!("{name}, {} pieces", made.len()));
 }
 
 fn image_of(mem: &[u8]) -> &[u8] {
@@ -134,11 +175,88 @@ fn image_of(mem: &[u8]) -> &[u8] {
 
 fn test_of_image(name: &str, image: &[u8]) {
     let mut other = vec![1u8; 256 << 20];
-    assert_eq!(bench_parts::check(image), 0);
+    assert_eq!((bench_parts::check(image), bench_parts::judge(image)), (0, 0));
     let read = cold(&mut other, || image.chunks_exact(8).fold(0u64, |s, c| s ^ u64::from_le_bytes(c.try_into().unwrap())));
     let layout = cold(&mut other, || bench_parts::layout(image));
     let check = cold(&mut other, || bench_parts::check(image));
-    println!("{name}: image of {} bytes: read once {read:.2} ms, layout {layout:.2} ms ({:.1} times), layout and rule {check:.2} ms ({:.1} times)", image.len(), layout / read, check / read);
+    let judge = cold(&mut other, || bench_parts::judge(image));
+    println!("{name}: image of {} bytes: read once {read:.2} ms, layout {layout:.2} ms ({:.1} times), layout and rule {check:.2} ms ({:.1} times), with conflicts {judge:.2} ms ({:.1} times)", image.len(), layout / read, check / read, judge / read);
+}
+
+/// A label buffer: so many bytes, written anew every ten ticks in blocks of up to 16 bytes, as often as a capacity holds; cut the same
+/// way each time, or anew.
+fn label(size: usize, same_cut: bool) -> Vec<SpacetimeBlock> {
+    let mut r = Random(size as u64 + 12345);
+    let mut made = Vec::new();
+    let mut lengths = Vec::new();
+    let mut nodes = 1;
+    for tick in (0u64..).step_by(10) {
+        if lengths.is_empty() || !same_cut {
+            lengths.clear();
+            while lengths.iter().sum::<usize>() < size {
+                lengths.push(r.between(1, 16).min(size - lengths.iter().sum::<usize>()));
+            }
+        }
+        nodes += lengths.iter().map(|m| m * (m + 1) / 2).sum::<usize>();
+        if nodes > 1 << 20 {
+            break;
+        }
+        let mut address = 1000;
+        for n in &lengths {
+            made.push(block(address, tick, tick + 10, r.text(*n)));
+            address += *n as u64;
+        }
+    }
+    made
+}
+
+/// Many lives of one string of so many bytes at one address, and between them so many of one byte at each address inside it.
+fn inside(bytes: usize, lives: u64, neighbours: u64) -> Vec<SpacetimeBlock> {
+    let mut r = Random(99);
+    let whole = r.text(bytes);
+    let mut made: Vec<SpacetimeBlock> = (0..lives).map(|i| block(100, 3 * i, 3 * i + 2, whole.clone())).collect();
+    for k in 1..bytes as u64 {
+        let one = r.text(1);
+        made.extend((0..neighbours).map(|i| block(100 + k, 3 * i + 2, 3 * i + 3, one.clone())));
+    }
+    made
+}
+
+/// As many pieces of one byte as a capacity holds, at addresses by their number; each has ten ticks of 8,192 times ten.
+fn single_bytes(address: fn(u64) -> u64) -> Vec<SpacetimeBlock> {
+    let mut r = Random(7);
+    (0..524_288).map(|i| block(address(i), 10 * (i % 8192), 10 * (i % 8192) + 10, vec![r.next() as u8])).collect()
+}
+
+/// The image that the published index makes: it has no charges, so that a string can have more lives than can be recorded here.
+fn image_by_published(blocks: &[SpacetimeBlock]) -> Vec<u8> {
+    let sink = Sink::default();
+    let mut index = StringIndex::new(sink.clone());
+    blocks.iter().for_each(|b| index.record(copy(b)));
+    index.finalize();
+    index.save().unwrap();
+    sink.take()
+}
+
+/// Label buffers, and images made so that looking for conflicts takes long. All can be loaded.
+fn tests_of_odd_images(mem: &mut [u8]) {
+    let cases = [
+        ("label buffer of 16 bytes, cut the same way", label(16, true)),
+        ("label buffer of 16 bytes, cut anew", label(16, false)),
+        ("label buffer of 64 bytes, cut the same way", label(64, true)),
+        ("label buffer of 64 bytes, cut anew", label(64, false)),
+        ("pieces of one byte, as many addresses", single_bytes(|i| i)),
+        ("pieces of one byte, 64 addresses", single_bytes(|i| i / 8192)),
+        ("32,000 lives of 16 bytes at one address", inside(16, 32_000, 0)),
+        ("24,000 lives of 16 bytes, 8,000 at each of 15 addresses inside", inside(16, 24_000, 8_000)),
+        ("32,000 lives of 8 bytes, 32,000 at each of 7 addresses inside", inside(8, 32_000, 32_000)),
+    ];
+    for (name, blocks) in cases {
+        let image = image_by_published(&blocks);
+        assert_eq!(linked::open(mem, 1 << 20, 1 << 20), 0);
+        assert_eq!(linked::load(mem, &image), 0, "{name}");
+        test_of_image(&format!("{name}: {} pieces", blocks.len()), &image);
+    }
 }
 
 fn main() {
@@ -203,4 +321,6 @@ fn main() {
         println!("{:24} {:12.1} {:12.2} {:12.2}   {ours} {theirs}", format!("{len} bytes"), whole, proper, rust);
     }
     longer_streams(&mut mem);
+    open_calls(&mut mem);
+    tests_of_odd_images(&mut mem);
 }

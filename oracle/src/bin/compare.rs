@@ -1,5 +1,7 @@
-//! Compares the port's calls with the published index, with document 01 done slowly (src/model.rs), and with longest runs
-//! counted tick by tick, on recordings made from a seed. Half of them are recorded block by block, half by streams.
+//! Compares the port's calls with the published index, with documents 01 and 02 done slowly (src/model.rs), and with longest runs
+//! counted tick by tick, on recordings made from a seed. Half of them are recorded block by block, half by streams. A good third
+//! have blocks that conflict with one before them: the published index is given what was taken, and apart from that all of
+//! them, so that its images have conflicts.
 //!
 //!     rt staticlib helmapricot && cd oracle && cargo run --release --offline --features calls --bin compare -- SEED COUNT
 //!
@@ -10,12 +12,13 @@ use oracle::fenced::Fenced;
 use oracle::level::Level;
 use oracle::linked;
 use oracle::making::{make, small};
-use oracle::model::{self, Bytes, Foretold, Held, Memory};
+use oracle::model::{self, Bytes, Foretold, Held, Memory, Node};
 use oracle::published::{self, Published};
 use oracle::random::Random;
-use oracle::recording::{hex, Block, Call, Domain, Location, Recording};
+use oracle::recording::{hex, Block, Call, Domain, Location, Piece, Recording};
 use std::collections::BTreeMap;
 use std::fmt::Debug;
+use std::ops::Range;
 use std::panic::{catch_unwind, AssertUnwindSafe};
 
 /// How much was compared.
@@ -171,6 +174,10 @@ struct Run<'a> {
     /// the memory as it was before the first finish
     open: Option<Memory>,
     taken: Vec<Block>,
+    /// the Memory blocks that were taken, byte by byte
+    domain: Domain,
+    /// and with them those that were turned back for a conflict
+    offered: Vec<Block>,
     finished: Option<Finished>,
     calls: usize,
 }
@@ -179,7 +186,7 @@ struct Run<'a> {
 struct Finished {
     domain: Domain,
     bytes: Bytes,
-    pieces: Vec<oracle::recording::Piece>,
+    pieces: Vec<Piece>,
     published: Published,
     queries: Vec<(Vec<u8>, Vec<Location>)>,
 }
@@ -218,19 +225,26 @@ impl Run<'_> {
         let number = self.model.record(b);
         same("record", number, self.port.record(b)?)?;
         self.counts.one(&format!("records answered {number}"));
-        if number == 0 {
-            self.note_taken(b);
-        }
+        self.note_answer(b, number)?;
         self.same_memory_now_and_then("memory after record")
     }
 
-    fn note_taken(&mut self, b: &Block) {
-        if b.kind == 1 {
-            self.taken.push(b.clone());
-            if b.bytes.len() == 4096 {
-                self.counts.one("blocks of 4,096 bytes taken");
-            }
+    /// What was answered to a block, which is judged once more where it comes to conflicts, address by address.
+    fn note_answer(&mut self, b: &Block, number: u64) -> Compared {
+        if b.kind != 1 || ![0, 7, 8, 18].contains(&number) {
+            return Ok(());
         }
+        let what = "whether a block shares a byte address and a tick with one that was taken";
+        same(what, !self.domain.keeps_consistent(b), number == 18)?;
+        if number == 0 {
+            self.domain.add(b);
+            self.taken.push(b.clone());
+            self.counts.add("blocks of 4,096 bytes taken", (b.bytes.len() == 4096) as u64);
+        }
+        if number == 0 || number == 18 {
+            self.offered.push(b.clone());
+        }
+        Ok(())
     }
 
     fn same_memory_now_and_then(&mut self, what: &str) -> Compared {
@@ -245,7 +259,7 @@ impl Run<'_> {
         self.counts.one("finishes");
         self.same_memory("memory after finish")?;
         if self.finished.is_none() {
-            self.finished = Some(Finished { domain: Domain::of(&self.taken), bytes: Bytes::of(&self.taken), pieces: self.taken.iter().flat_map(Block::pieces).collect(), published: Published::of(&self.taken), queries: Vec::new() });
+            self.finished = Some(Finished { domain: self.domain.clone(), bytes: Bytes::of(&self.taken), pieces: self.taken.iter().flat_map(Block::pieces).collect(), published: Published::of(&self.taken), queries: Vec::new() });
             self.count_nodes();
         }
         Ok(())
@@ -446,6 +460,97 @@ impl Run<'_> {
         Ok(())
     }
 
+    // ── conflicts ──
+
+    /// Where blocks were turned back for a conflict: the images and the logs that there would be with them. The Rust makes such
+    /// images, the model too, by the layout alone.
+    fn conflicting(&mut self, times: usize) -> Compared {
+        if self.finished.is_none() || self.offered.len() == self.taken.len() {
+            return Ok(());
+        }
+        let mut pieces: Vec<Piece> = self.offered.iter().flat_map(Block::pieces).collect();
+        let root = model::trie(&pieces).unwrap();
+        let image = model::image(Some(&root));
+        let theirs = Published::of(&self.offered).image();
+        self.counts.one(if theirs == image { "conflicting blocks, the Rust's image is the model's" } else { "conflicting blocks, the Rust's image is another" });
+        self.conflicting_logs(&pieces, &image)?;
+        // a piece that stands twice in the log stands once in the image
+        pieces.sort_unstable_by(|p, r| (p.at, &p.bytes).cmp(&(r.at, &r.bytes)));
+        pieces.dedup();
+        let free = model::are_free(&pieces);
+        same("whether the blocks of an image are free of conflicts", Domain::of_pieces(&pieces).consistent, free)?;
+        self.conflicting_images(&root, &image, &theirs, free)?;
+        for _ in 0..times {
+            let bad = damaged(if self.r.once_in(3) { &theirs } else { &image }, &mut self.r);
+            let number = self.load_into(self.open.clone().unwrap(), &bad)?;
+            self.counts.one(&format!("damaged images of conflicting blocks, answered {number}"));
+        }
+        Ok(())
+    }
+
+    /// Both images, each into four capacities, two of which are too small; a byte more; and a memory that holds the image.
+    fn conflicting_images(&mut self, root: &Node, image: &[u8], theirs: &[u8], free: bool) -> Compared {
+        let (nodes, entries) = (root.nodes(), root.entries());
+        for (n, e) in [(nodes, entries), (nodes, entries - 1), (nodes - 1, entries), (nodes - 1, entries - 1)] {
+            if n == 0 || e == 0 || n > 1 << 20 || e > 1 << 20 {
+                continue;
+            }
+            let mut other = Memory { level: Level::LANDED, bytes: self.r.bytes(model::needed(n, e) + 5), held: Held::Broken };
+            same("opening", 0, other.open(n, e))?;
+            let fits = if n < nodes { 7 } else if e < entries { 8 } else { 0 };
+            let number = self.load_into(other.clone(), image)?;
+            same("loading the image of conflicting blocks", if free { fits } else { 18 }, number)?;
+            self.counts.one(&format!("images of conflicting blocks, answered {number}"));
+            let number = self.load_into(other.clone(), theirs)?;
+            self.counts.one(&format!("images of conflicting blocks made by the Rust, answered {number}"));
+            same("the same and one byte", 15, self.load_into(other.clone(), &[image, &[0]].concat())?)?;
+            other.bytes[64..64 + image.len()].copy_from_slice(image);
+            for (i, x) in [1, nodes, entries, image.len() as u64].iter().enumerate() {
+                other.bytes[16 + 8 * i..24 + 8 * i].copy_from_slice(&x.to_le_bytes());
+            }
+            self.broken_by_conflicts("images", &other.bytes, free && fits == 0, image)?;
+        }
+        Ok(())
+    }
+
+    /// Images of few pieces, into a memory that is large enough or not: 18 or anything but that.
+    fn conflicts_by_hand(&mut self) -> Compared {
+        for (pieces, conflict) in pieces_by_hand() {
+            let image = model::image(model::trie(&pieces).as_ref());
+            let mut roomy = Memory { level: Level::LANDED, bytes: self.r.bytes(model::needed(400, 200)), held: Held::Broken };
+            same("opening", 0, roomy.open(400, 200))?;
+            for into in [self.model.clone(), roomy] {
+                let number = self.load_into(into, &image)?;
+                same(&format!("whether 18 is answered to the image of {pieces:?}"), conflict, number == 18)?;
+                self.counts.one(&format!("images of pieces by hand: answered {number}"));
+            }
+        }
+        Ok(())
+    }
+
+    /// A memory whose log has the conflicting pieces, with the tally and the certificate that they have.
+    fn conflicting_logs(&mut self, pieces: &[Piece], image: &[u8]) -> Compared {
+        let charged = |f: fn(&Block) -> u64| self.offered.iter().map(f).sum::<u64>();
+        let (nodes, entries) = (1 + charged(Block::nodes_charged), charged(Block::entries_charged));
+        if nodes > 1 << 20 || entries > 1 << 20 {
+            return Ok(());
+        }
+        let mut m = Memory { level: Level(1), bytes: self.r.bytes(model::needed(nodes, entries) + 5), held: Held::Broken };
+        same("opening", 0, m.open(nodes, entries))?;
+        self.offered.iter().try_for_each(|b| same("a record before request 2", 0, m.record(b)))?;
+        m.certify();
+        self.broken_by_conflicts("logs", &m.bytes, model::are_free(pieces), image)
+    }
+
+    /// Every call on a memory that holds conflicting pieces; sound ones are those in which a piece stood twice.
+    fn broken_by_conflicts(&mut self, what: &str, bytes: &[u8], sound: bool, image: &[u8]) -> Compared {
+        let m = Memory::of(Level::LANDED, bytes);
+        same("whether a memory with these pieces is sound", sound, m.held != Held::Broken)?;
+        self.counts.one(&format!("memories with {what} of conflicting blocks"));
+        let q = self.offered[0].bytes.iter().copied().take(3).collect::<Vec<_>>();
+        self.calls_on(&m, &q, image)
+    }
+
     // ── damaged memories ──
 
     fn damaged_memories(&mut self, times: usize) -> Compared {
@@ -454,7 +559,7 @@ impl Run<'_> {
         let queries: Vec<Vec<u8>> = f.queries.iter().map(|x| x.0.clone()).collect();
         for k in 0..times {
             let whole = if k % 2 == 0 { open.clone() } else { self.model.clone() };
-            let bytes = damaged_memory(&whole.bytes, &mut self.r);
+            let bytes = damaged_memory(&whole, &mut self.r);
             let bad = Memory::of(Level::LANDED, &bytes);
             self.counts.one("damaged memories");
             self.counts.one(&format!("damaged memories that {}", if bytes == whole.bytes { "have the same bytes" } else { becomes(&whole, &bad) }));
@@ -469,12 +574,13 @@ impl Run<'_> {
         let image = self.model.save(usize::MAX).unwrap();
         let q = self.finished.as_ref().unwrap().queries[0].0.clone();
         for whole in [self.open.clone().unwrap(), self.model.clone()] {
-            let end = held_end(&whole.bytes);
-            for bit in (0..8 * end).chain((8 * end..8 * whole.bytes.len()).step_by(37)) {
+            let (end, order) = (held_end(&whole.bytes), certified(&whole));
+            let behind = (8 * end..8 * whole.bytes.len()).step_by(37).filter(|bit| !order.contains(&(bit / 8)));
+            for bit in (0..8 * end).chain(8 * order.start..8 * order.end).chain(behind) {
                 let mut bytes = whole.bytes.clone();
                 bytes[bit / 8] ^= 1 << (bit % 8);
                 let bad = Memory::of(Level::LANDED, &bytes);
-                let place = if bit / 8 < 64 { "in the header" } else if bit / 8 < end { "in the log or image" } else { "behind the log or image" };
+                let place = if bit / 8 < 64 { "in the header" } else if bit / 8 < end { "in the log or image" } else if order.contains(&(bit / 8)) { "in the certificate" } else { "behind the log or image" };
                 self.counts.one(&format!("bit flips of small memories, {place}: {}", becomes(&whole, &bad)));
                 self.calls_on(&bad, &q, &image)?;
             }
@@ -484,11 +590,10 @@ impl Run<'_> {
 
     /// Every bit of a small image flipped, every cut, and for the smallest every cut of every changed byte, where two faults
     /// stand side by side and the first in layout order decides.
-    fn every_image(&mut self) -> Compared {
-        let image = self.model.save(usize::MAX).unwrap();
+    fn every_image(&mut self, image: &[u8]) -> Compared {
         let step = if image.len() > 2500 { 11 } else { 1 };
         for bit in (0..8 * image.len()).step_by(step) {
-            let mut bad = image.clone();
+            let mut bad = image.to_vec();
             bad[bit / 8] ^= 1 << (bit % 8);
             self.load_small("bit flips of small images", &bad)?;
         }
@@ -529,7 +634,10 @@ impl Run<'_> {
 
         self.port.mem.set(&bad.bytes);
         let mut m = bad.clone();
-        let mut stream = encoded(&[&block, &block]);
+        // the same again conflicts with the first
+        let mut second = block.clone();
+        second.at.address += self.r.pick(&[0, 0, 20, 100]);
+        let mut stream = encoded(&[&block, &second]);
         stream.truncate(self.r.pick(&[stream.len(), stream.len(), stream.len() - 1, 0]));
         same("a stream on a damaged memory", m.record_stream(&stream), self.port.record_stream(&stream)?)?;
         same_bytes("a damaged memory after a stream", &m.bytes, self.port.mem.bytes())?;
@@ -577,8 +685,11 @@ impl Run<'_> {
                 stream.extend(faulty(rest[n - 1], &mut self.r));
             }
             let (number, taken) = self.record_stream(&stream)?;
-            rest[..taken].iter().for_each(|b| self.note_taken(b));
-            rest = &rest[n.min(taken + (number != 0) as usize)..];
+            rest[..taken].iter().try_for_each(|b| self.note_answer(b, 0))?;
+            // behind all n of them it is the faulty one that was refused
+            let judged = n.min(taken + (number != 0) as usize);
+            rest[taken..judged].iter().try_for_each(|b| self.note_answer(b, number))?;
+            rest = &rest[judged..];
         }
         if self.r.once_in(4) {
             self.counts.one("streams recorded that are empty");
@@ -611,8 +722,10 @@ impl Run<'_> {
         let count = self.taken.len() as u64;
         let number = |at: usize| u64::from_le_bytes(open.bytes[at..at + 8].try_into().unwrap());
         let mem = self.port.mem.set(&open.bytes);
-        // the log is spoilt, so that what the stream does not write is seen
-        mem[64..64 + 48 * number(40) as usize].iter_mut().for_each(|b| *b = !*b);
+        // log and certificate are spoilt, so that what the stream does not write is seen
+        for part in [64..held_end(&open.bytes), certified(&open)] {
+            mem[part].iter_mut().for_each(|b| *b = !*b);
+        }
         same("opening anew", 0, linked::open(mem, number(0), number(8)))?;
         same("all blocks as one stream", (0, count), self.port.record_stream(&stream)?)?;
         same_bytes("memory after all blocks as one stream", &open.bytes, self.port.mem.bytes())?;
@@ -657,8 +770,8 @@ impl Run<'_> {
         match self.r.below(12) {
             0 => self.model.clone(),
             1 => open.clone(),
-            2 => Memory::of(Level::LANDED, &damaged_memory(&self.model.bytes, &mut self.r)),
-            3 => Memory::of(Level::LANDED, &damaged_memory(&open.bytes, &mut self.r)),
+            2 => Memory::of(Level::LANDED, &damaged_memory(&self.model, &mut self.r)),
+            3 => Memory::of(Level::LANDED, &damaged_memory(open, &mut self.r)),
             _ => opened_for(blocks, &mut self.r),
         }
     }
@@ -833,6 +946,14 @@ fn held_end(m: &[u8]) -> usize {
     64 + u64::from_le_bytes(m[40..48].try_into().unwrap()) as usize * if m[16] == 0 { 48 } else { 1 }
 }
 
+/// Where the certificate of an open memory stands, nothing in a finished one.
+fn certified(m: &Memory) -> Range<usize> {
+    let number = |at: usize| u64::from_le_bytes(m.bytes[at..at + 8].try_into().unwrap());
+    let size = if let Held::Open(pieces) = &m.held { model::certificate(pieces).len() } else { 0 };
+    let at = model::work_at(number(0), number(8));
+    at..at + size
+}
+
 /// A node of a kind without entries, and the count of its children.
 fn bare(kind: u8, children: Option<u64>) -> Vec<u8> {
     let mut s = vec![kind];
@@ -879,13 +1000,45 @@ fn odd_images() -> Vec<Vec<u8>> {
     all
 }
 
-/// Damage to the header, to what is held, or anywhere.
-fn damaged_memory(m: &[u8], r: &mut Random) -> Vec<u8> {
-    let held = held_end(m);
+/// Few pieces, and whether two of them conflict.
+fn pieces_by_hand() -> Vec<(Vec<Piece>, bool)> {
+    let p = |bytes: &[u8], address: u64, created: u64, destroyed: u64| Piece { at: Location::new(address, created, destroyed), bytes: bytes.to_vec() };
+    let up: Vec<u8> = (0..16).collect();
+    let conflicting = [
+        // at one location, with one string in the other, at one address, and a string in its own life
+        vec![p(b"a", 0, 1, 3), p(b"b", 0, 1, 3)],
+        vec![p(b"ab", 0, 1, 3), p(b"a", 0, 1, 3)],
+        vec![p(b"a", 0, 1, 3), p(b"b", 0, 2, 4)],
+        vec![p(b"a", 0, 1, 3), p(b"a", 0, 2, 4)],
+        vec![p(b"a", 0, 1, 9), p(b"a", 0, 2, 4)],
+        vec![p(b"a", 0, 1, 3), p(b"a", 0, 1, 4)],
+        // inside another, over its end, at its last byte, and a long life behind short ones
+        vec![p(b"abc", 0, 1, 3), p(b"b", 1, 1, 3)],
+        vec![p(b"ab", 0, 1, 3), p(b"ab", 1, 2, 4)],
+        vec![p(&up, 0, 1, 3), p(b"x", 15, 2, 3)],
+        vec![p(&up, u64::MAX - 16, 1, 3), p(b"x", u64::MAX - 1, 0, 2)],
+        vec![p(b"a", 1, 1, 2), p(b"a", 1, 2, 3), p(b"a", 1, 3, 4), p(b"xy", 0, 3, 9)],
+        vec![p(b"a", 1, 1, 9), p(b"a", 1, 9, 10), p(b"a", 1, 11, 12), p(b"xy", 0, 8, 9)],
+    ];
+    let free = [
+        vec![p(b"a", 0, 1, 3), p(b"a", 0, 3, 4), p(b"b", 0, 4, 5)],
+        vec![p(b"ab", 0, 1, 3), p(b"b", 1, 3, 4), p(b"b", 2, 1, 3)],
+        vec![p(b"abc", 0, 1, 3), p(b"", 1, 1, 3), p(b"", 1, 2, 9), p(b"", 1, 1, 3)],
+        vec![p(&up, 0, 1, 3), p(b"x", 16, 1, 3), p(b"x", 15, 0, 1), p(b"x", 15, 3, 4)],
+        vec![p(b"a", 1, 1, 2), p(b"a", 1, 3, 4), p(b"xy", 0, 2, 3), p(b"xy", 0, 4, 9)],
+    ];
+    conflicting.map(|ps| (ps, true)).into_iter().chain(free.map(|ps| (ps, false))).collect()
+}
+
+/// Damage to the header, to what is held, to its certificate, or anywhere.
+fn damaged_memory(whole: &Memory, r: &mut Random) -> Vec<u8> {
+    let m = &whole.bytes;
+    let (held, order) = (held_end(m), certified(whole));
     let mut s = m.to_vec();
-    match r.below(10) {
+    match r.below(13) {
         0 => s.truncate(r.below(66) as usize),
         1 => s = damaged(m, r),
+        9..=11 if !order.is_empty() => damage_certificate(&mut s[order], r),
         2..=4 => {
             let at = 8 * r.below(8) as usize;
             let n = u64::from_le_bytes(m[at..at + 8].try_into().unwrap());
@@ -904,6 +1057,23 @@ fn damaged_memory(m: &[u8], r: &mut Random) -> Vec<u8> {
     s
 }
 
+/// An entry's number or end changed, two entries exchanged, one put in another's place, or a bit flipped.
+fn damage_certificate(order: &mut [u8], r: &mut Random) {
+    let n = order.len() as u64 / 16;
+    let [at, other] = [0, 1].map(|_| 16 * r.below(n) as usize);
+    match r.below(5) {
+        0 | 1 => {
+            let field = at + 8 * r.below(2) as usize;
+            let old = u64::from_le_bytes(order[field..field + 8].try_into().unwrap());
+            let new = r.pick(&[0, n - 1, n, old ^ 1, old.wrapping_add(1), old.wrapping_sub(1), old ^ (1 << 32), u64::MAX]);
+            order[field..field + 8].copy_from_slice(&new.to_le_bytes());
+        }
+        2 => (0..16).for_each(|i| order.swap(at + i, other + i)),
+        3 => order.copy_within(at..at + 16, other),
+        _ => order[at + r.below(16) as usize] ^= 1 << r.below(8),
+    }
+}
+
 // ── all recordings ──
 
 /// Whether the recording with this seed is made by streams: every second one is.
@@ -917,7 +1087,7 @@ fn compare(rec: &Recording, seed: u64, port: &mut Port, counts: &mut Counts, eve
     let lent = r.bytes(model::needed(rec.nodes, rec.entries) + garbage);
     port.mem.set(&lent);
     let model = Memory { level: Level::LANDED, bytes: lent, held: Held::Broken };
-    let mut run = Run { port, counts, r, model, open: None, taken: Vec::new(), finished: None, calls: 0 };
+    let mut run = Run { port, counts, r, model, open: None, taken: Vec::new(), domain: Domain::default(), offered: Vec::new(), finished: None, calls: 0 };
     run.open(rec.nodes, rec.entries)?;
     let by_streams = by_streams(seed);
     run.all_calls(&rec.calls, by_streams)?;
@@ -928,6 +1098,7 @@ fn compare(rec: &Recording, seed: u64, port: &mut Port, counts: &mut Counts, eve
     run.as_one_stream()?;
     run.images()?;
     let times = if run.is_large() { 2 } else { 8 };
+    run.conflicting(times)?;
     run.damaged_images(times)?;
     run.damaged_memories(times)?;
     run.streams(&rec.calls)?;
@@ -937,13 +1108,18 @@ fn compare(rec: &Recording, seed: u64, port: &mut Port, counts: &mut Counts, eve
     }
     if every_bit {
         run.every_stream(&rec.calls, rec.nodes, rec.entries)?;
-        run.every_image()?;
+        run.every_image(&run.model.save(usize::MAX).unwrap())?;
+        if run.offered.len() > run.taken.len() {
+            run.every_image(&Published::of(&run.offered).image())?;
+        }
         run.odd_images()?;
+        run.conflicts_by_hand()?;
         run.every_bit()?;
     }
     if let Some(f) = &run.finished {
-        let d = &f.domain;
-        run.counts.one(if !d.consistent { "recordings that are not consistent" } else if d.ends_differ { "recordings, consistent, every row list met" } else { "recordings, consistent, one-byte rows met" });
+        same("whether what was taken is consistent", true, f.domain.consistent)?;
+        run.counts.one(if f.domain.ends_differ { "recordings, every row list met" } else { "recordings, one-byte rows met" });
+        run.counts.add("recordings with blocks turned back for a conflict", (run.offered.len() > run.taken.len()) as u64);
     }
     if run.is_large() {
         run.counts.one("recordings with over 1 MB of memory");
