@@ -5,12 +5,13 @@ use mathlib.Core.Bool.{_||_, cond}
 use mathlib.Core.List.{List}
 use lib.ListN.{length, drop, set}
 use lib.Dec.{ltb, eqb}
-use Rattle.definitions.specs.Causes.{number, query-too-long, ScratchAfter}
+use Rattle.definitions.specs.Causes.{number, query-too-long, image-broken, ScratchAfter}
 use Rattle.definitions.specs.Calls.{query-limit}
 use Rattle.trie.specs.Trie.{Trie}
+use Rattle.trie.specs.Test.{index-rule}
 use Rattle.image_format.specs.Held.{trie-in}
-use Rattle.image_format.specs.Reading.{Layout, right, refused}
-use Rattle.image_format.specs.Check.{check-image}
+use Rattle.image_format.specs.Reading.{Layout, right, refused, read-image}
+use Rattle.image_format.specs.Check.{and-if, check-image}
 use Rattle.row_buffer.specs.Answer as S
 use Rattle.searching.specs.Search.{search-answer}
 
@@ -18,6 +19,10 @@ use Rattle.searching.specs.Search.{search-answer}
 abbrev pub refusal-of : Layout → ℕ
 refusal-of (right nodes entries) = 0
 refusal-of (refused n) = n
+
+-- what is said of an image before conflicts are looked for
+abbrev pub but-conflicts : List ℕ → Layout
+but-conflicts s = and-if (index-rule (trie-in s)) image-broken (read-image s)
 
 -- how many bytes each query has; all are one query where they can't have so many
 abbrev pub query-size : List ℕ → ℕ → ℕ

@@ -1,4 +1,5 @@
-// Parts of the calls that the benchmark times by themselves: the layout, the test of an image, the search behind one test.
+// Parts of the calls that the benchmark times by themselves: the layout, the test of an image with conflicts and without, the search
+// behind one test.
 use fields::Layout;
 use row_buffer::Finding;
 ghost use mathlib.Core.Path.{_≡_};
@@ -12,7 +13,7 @@ ghost use Rattle.image_format.specs.Check.{check-image};
 ghost use Rattle.definitions.specs.Causes.{ScratchAfter};
 ghost use Rattle.row_buffer.specs.Answer.{finding-of};
 ghost use Rattle.searching.specs.Search.{search-answer};
-ghost use Rattle.bench_parts.specs.Parts.{refusal-of, query-size, last-query, last-of, query-search, counted, image-search, image-counted, ScratchIn};
+ghost use Rattle.bench_parts.specs.Parts.{refusal-of, but-conflicts, query-size, last-query, last-of, query-search, counted, image-search, image-counted, ScratchIn};
 
 fn number(l: Layout) -> u64
     ensures { λ r. ⌜ r ≡ refusal-of (layout-of l) ⌝ }
@@ -23,12 +24,28 @@ fn number(l: Layout) -> u64
     }
 }
 
-// Layout, bytes left over, index rule.
+// The whole test: layout, bytes left over, index rule, conflicts.
 #[no_mangle]
-pub extern "C" fn helmapricot_check(img: &[u8]) -> u64
+pub extern "C" fn helmapricot_judge(img: &[u8]) -> u64
     ensures { λ r. ⌜ r ≡ refusal-of (check-image (now (img .entry))) ⌝ }
 {
     number(index_rule::check(img))
+}
+
+// All of it but conflicts.
+#[no_mangle]
+pub extern "C" fn helmapricot_check(img: &[u8]) -> u64
+    ensures { λ r. ⌜ r ≡ refusal-of (but-conflicts (now (img .entry))) ⌝ }
+{
+    match image::read_image(img) {
+        Layout::Refused(n) => n,
+        Layout::Right(_) => {
+            if index_rule::index_rule(img) {
+                return 0;
+            }
+            definitions::IMAGE_BROKEN
+        }
+    }
 }
 
 // Layout and bytes left over alone.

@@ -29,7 +29,7 @@ module _ (c : Capacity) where
       s m
 
   pub followed-start : (m : List ℕ) → open-memory m c .refusal ≡ 0 → Followed fresh (open-memory m c .memory)
-  followed-start m e = record { right = record { sound = λ b h. absurd (not-nil h); nodes = λ h. h; entries = omega arith }; fit = λ b h. absurd (not-nil h); holds-it = opened-fresh m c e }
+  followed-start m e = record { right = record { sound = λ b h. absurd (not-nil h); consistent = tt; nodes = λ h. h; entries = omega arith }; fit = λ b h. absurd (not-nil h); holds-it = opened-fresh m c e }
 
   pub followed-on : (s : Recorded) (m : List ℕ) (k : Call) → CallFits k → Followed s m → Followed (after c s k) (memory-after m k)
   followed-on s m k f w =
