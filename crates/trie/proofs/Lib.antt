@@ -14,6 +14,7 @@ pub mod BuildLists
 pub mod BuildEntered
 pub mod BuildRule
 pub mod BuildPieces
+pub mod BuildFree
 pub mod BuildCounts
 pub mod BuildOrder
 pub mod Along
