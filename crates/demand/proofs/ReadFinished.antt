@@ -36,7 +36,7 @@ module _ (m : List ℕ) (c : Capacity) (ps : List Piece) (o : OpenIs m c ps) whe
       finished-holds m c (trie-of ps) r log-within
       (savable (trie-of ps) (trie-of-shaped ps f) (omega (arith, log-within .nodes, log-within .entries, r .few-nodes, r .few-entries)))
       (rule-passes ps (λ p k. f p k .sound))
-      (trie-of-free ps (λ p k. f p k .sound) (o .apart))
+      (trie-of-free ps (o .apart))
 
 pub read-finished : (m : List ℕ) (c : Capacity) (ps : List Piece) → read-index m ≡ opened c ps → ((p : Piece) → Mem p ps → PieceFits p) → read-index (finished-memory m c (trie-of ps)) ≡ finished c (trie-of ps)
 read-finished m c ps e f = log-finished m c ps (open-is m c ps e) f

@@ -40,10 +40,10 @@ pub fn inspect(mem: &[u8]) -> Held
         if !index_memory::log_right(mem, h) {
             return Held::Broken;
         }
-        if certificate::order_right(mem, h) {
-            return Held::Open(h);
+        if !certificate::order_right(mem, h) {
+            return Held::Broken;
         }
-        return Held::Broken;
+        return Held::Open(h);
     }
     if image_right(mem, h) {
         return Held::Finished(h);

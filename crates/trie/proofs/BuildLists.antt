@@ -13,7 +13,8 @@ use Rattle.definitions.proofs.Views.{lt-or-le}
 use Rattle.trie.specs.Trie.{Lists, lists-or-none, lists-at}
 use Rattle.trie.specs.Rule.{ListsSorted}
 use Rattle.trie.specs.Build.{Entry, in-prefixes, in-chunks, in-suffixes, gather, lists-of, build}
-use Rattle.trie.proofs.BuildPaths.{entry-of, entry-path, put, down, down-mem, mem-down, node-at-deep, lists-at-build}
+use Rattle.trie.proofs.Walk.{in-chunks-node}
+use Rattle.trie.proofs.BuildPaths.{entry-of, entry-path, put, down, down-mem, mem-down, node-at-deep, node-short, lists-at-build}
 
 -- ── from what is entered at a node or below it ──
 
@@ -58,6 +59,13 @@ chunks-gathered {l} es = (λ h. to (gather-mem in-chunks es h), λ h. mem-gather
 
     to : Source in-chunks es l → Mem (entry-of [] l true) es
     to s = cast (one (s .entry .path) (s .entry .whole) (s .entry .at) (s .gives)) (s .listed)
+
+-- a chunk at a path is entered whole there, however deep the trie is
+pub chunk-entered : (d : ℕ) (es : List Entry) (u : List ℕ) (l : Location) → Mem l (lists-at (build d es) u .chunks) → Mem (entry-of u l true) es
+chunk-entered d es u l h =
+    let short : length u ≤ d = node-short d u es (in-chunks-node (build d es) u h) in
+    let k : Mem l (lists-of (down u es) .chunks) = subst (λ (x : Lists). Mem l (x .chunks)) (lists-at-build d u es short) h in
+    cast (entry-path (sym (append-nil u)) refl refl) (down-mem u es (chunks-gathered (down u es) .0 (normal-mem (gather in-chunks (down u es)) k)))
 
 -- a whole piece at l goes on below u
 pub record Below (es : List Entry) (u : List ℕ) (l : Location) : Type 0 where
@@ -117,7 +125,7 @@ module _ (d : ℕ) (es : List Entry) (within : Within d es) where
 
   pub chunks-at : (u : List ℕ) (l : Location) → Mem l (lists-at (build d es) u .chunks) ↔ Mem (entry-of u l true) es
   chunks-at u l = (
-    λ h. ends-here u l true .0 (chunks-gathered (down u es) .0 (normal-mem (gather in-chunks (down u es)) (subst (λ (x : Lists). Mem l (x .chunks)) (lists-at-all u) h))),
+    chunk-entered d es u l,
     λ h. subst (λ (x : Lists). Mem l (x .chunks)) (sym (lists-at-all u)) (mem-normal (gather in-chunks (down u es)) (chunks-gathered (down u es) .1 (ends-here u l true .1 h))),
   )
 

@@ -4,7 +4,7 @@ use Rattle.trie.proofs.Local as local
 use Rattle.trie.proofs.Test as test
 use Rattle.trie.proofs.BuildRule as built
 use Rattle.trie.proofs.BuildPieces as pieces
-use Rattle.trie.proofs.BuildFree as unmet
+use Rattle.trie.proofs.BuildFree as apart
 use Rattle.trie.proofs.BuildCounts as counts
 use Rattle.trie.proofs.Find as found
 
@@ -21,7 +21,7 @@ pub trie-of-pieces : TrieOfPieces
 trie-of-pieces = pieces.trie-of-pieces
 
 pub trie-of-free : TrieOfFree
-trie-of-free = unmet.trie-of-free
+trie-of-free = apart.trie-of-free
 
 pub trie-of-nodes : TrieOfNodes
 trie-of-nodes = counts.trie-of-nodes

@@ -26,7 +26,7 @@ stands-map f g s = record { byte = s .byte; rest = s .rest; node = s .node; ther
 pub stands-none : {P : List ℕ → Lists → Type 0} → Stands leaf P → ⊥
 stands-none s = lost (s .rest) (s .node) (s .there)
 
-absent-child : (b : ℕ) (f : Forest) → Absent b f → child f b ≡ none
+pub absent-child : (b : ℕ) (f : Forest) → Absent b f → child f b ≡ none
 absent-child b leaf a = refl
 absent-child b (more c h below later) a = go (eqb c b) (eq c b) (absent-child b later (a .1))
   where

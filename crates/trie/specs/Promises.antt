@@ -6,9 +6,9 @@ use mathlib.Core.Logic.{_↔_}
 use mathlib.Core.List.{List, List·Memᴰ}
 use lib.ListN.{length}
 use Rattle.definitions.specs.Blocks.{Piece, nodes-tallied, entries-tallied}
+use Rattle.definitions.specs.Conflicts.{free}
 use Rattle.definitions.specs.Places.{table}
 use Rattle.definitions.specs.Promises.{SamePieces}
-use Rattle.definitions.specs.Conflicts.{free}
 use Rattle.trie.specs.Trie.{Node, Trie, IsNode, nodes, entries, trie-pieces}
 use Rattle.trie.specs.Rule.{Apart, Passes, NodeRule, Rule}
 use Rattle.trie.specs.Local.{LocalRule}
@@ -39,9 +39,9 @@ TrieOfRule = (ps : List Piece) → AllSound ps → Rule (trie-of ps)
 abbrev pub TrieOfPieces : Type 0
 TrieOfPieces = (ps : List Piece) → AllSound ps → SamePieces (trie-pieces (trie-of ps)) ps
 
--- it is free of conflicts if they are
+-- and is free of conflicts if they are
 abbrev pub TrieOfFree : Type 0
-TrieOfFree = (ps : List Piece) → AllSound ps → free ps ≡ true → free (trie-pieces (trie-of ps)) ≡ true
+TrieOfFree = (ps : List Piece) → free ps ≡ true → free (trie-pieces (trie-of ps)) ≡ true
 
 -- it has no more nodes and entries than were charged
 abbrev pub TrieOfNodes : Type 0

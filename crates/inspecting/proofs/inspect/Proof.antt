@@ -39,8 +39,8 @@ returns-3 c =
     let c₉ = c₇ .before .before in
     let l = c₂ .before .log-right in
     let r = c .before .order-right in
-    held-open (now (c₉ .before .before .args .mem)) (c₇ .h .given .0 .0) (ap heading-of (sym (c₇ .h .given .1)) ∙ c₉ .header-in .ensures) (c₄ .if1 .taken)
-    (sym (l .ensures) ∙ not-false (l .result) (c₂ .if2 .left)) (r .result) (r .ensures) (c .if3 .taken)
+    held-order-broken (now (c₉ .before .before .args .mem)) (c₇ .h .given .0 .0) (ap heading-of (sym (c₇ .h .given .1)) ∙ c₉ .header-in .ensures) (c₄ .if1 .taken)
+    (sym (l .ensures) ∙ not-false (l .result) (c₂ .if2 .left)) (r .result) (r .ensures) (not-true (r .result) (c .if3 .taken))
 
 returns-4 : tie.Need-returns-4
 returns-4 c =
@@ -50,8 +50,8 @@ returns-4 c =
     let c₉ = c₇ .before .before in
     let l = c₂ .before .log-right in
     let r = c .before .order-right in
-    held-order-broken (now (c₉ .before .before .args .mem)) (c₇ .h .given .0 .0) (ap heading-of (sym (c₇ .h .given .1)) ∙ c₉ .header-in .ensures) (c₄ .if1 .taken)
-    (sym (l .ensures) ∙ not-false (l .result) (c₂ .if2 .left)) (r .result) (r .ensures) (c .if3 .left)
+    held-open (now (c₉ .before .before .args .mem)) (c₇ .h .given .0 .0) (ap heading-of (sym (c₇ .h .given .1)) ∙ c₉ .header-in .ensures) (c₄ .if1 .taken)
+    (sym (l .ensures) ∙ not-false (l .result) (c₂ .if2 .left)) (r .result) (r .ensures) (not-false (r .result) (c .if3 .left))
 
 image-right-requires : tie.Need-image-right-requires
 image-right-requires c κs =
