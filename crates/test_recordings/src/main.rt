@@ -1,4 +1,5 @@
-// Document 01's recordings 1 and 6, whose rows are lent, and 11, 12 and 13, which no form can hold or whose images are to be seen.
+// Document 01's recordings 1 and 6, whose rows are lent, and 11, 12 and 13, which no form can hold or whose images are to be seen;
+// then blocks and images that conflict.
 // Prints a line for each answer.
 use libc::STDOUT_FILENO;
 use location::SpacetimeLocation;
@@ -304,12 +305,40 @@ fn thirteen(mem: &mut [u8]) {
     reload(mem, 58, b"a");
 }
 
+// Opens an index and loads an image there.
+fn load_into(mem: &mut [u8], nodes: u64, entries: u64, img: &[u8]) {
+    open(mem, nodes, entries);
+    load(mem, img, img.len());
+}
+
+// Blocks that touch and one that conflicts; then their image in capacities that are too small, with the creation of the second
+// piece moved into the life of the first in the root's list alone, which breaks the rule, and in both lists, which is a conflict.
+fn conflicts(mem: &mut [u8]) {
+    let mut out = [0u8; 172];
+    io::write_all(STDOUT_FILENO, b"conflicts\n");
+    open(mem, 10, 10);
+    record_at(mem, SpacetimeLocation::new(0, 1, 2), b"a");
+    record_at(mem, SpacetimeLocation::new(0, 3, 4), b"a");
+    record_at(mem, SpacetimeLocation::new(0, 1, 4), b"b");
+    finish(mem);
+    string_index::save(mem, &mut out);
+    load_into(mem, 1, 10, &out);
+    load_into(mem, 10, 1, &out);
+    out[57] = 1;
+    load_into(mem, 10, 10, &out);
+    out[140] = 1;
+    load_into(mem, 10, 10, &out);
+    load_into(mem, 1, 10, &out);
+    load_into(mem, 10, 1, &out);
+}
+
 fn run(mem: &mut [u8]) {
     one(mem);
     six(mem);
     eleven(mem);
     twelve(mem);
     thirteen(mem);
+    conflicts(mem);
 }
 
 // The memory is what 34,817 nodes and 8,192 entries need: a block of 4,096 bytes charges as many.

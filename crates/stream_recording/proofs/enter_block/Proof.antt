@@ -76,7 +76,7 @@ returns-2 c =
       (
         e .enter .ensures .1 .0 ∙ ap (λ (x : Location). entered (now (a .mem)) h (a .b .kind) (record { bytes = bytes; at = x })) (l .new .ensures),
         c .halted .ensures .1 ∙ still-filled (now (a .mem)) _ h (a .b .kind) (record { bytes = bytes; at = plain (l .new .result) }) (g .0 .0) (a .p .filled) w (e .enter .ensures .1 .0) (start .pre .1)
-        ∙ ap (λ (x : Progress). filled (pieces-in (e .enter .last .0) (x .header))) (sym (c .halted .ensures .0)),
+            ∙ ap (λ (x : Progress). filled (pieces-in (e .enter .last .0) (x .header))) (sym (c .halted .ensures .0)),
       ),
     )
 
