@@ -95,13 +95,13 @@ pub fn filled_after(count: usize, kind: u64, n: usize) -> usize
     requires { ⌜ (kind ≡ 1 → n ≤ 4096) × (count ≤ 1048576) ⌝ }
     ensures { λ r. ⌜ r ≡ filled-after count kind n ⌝ }
 {
-    if kind != definitions::MEMORY_KIND as u64 {
-        return count;
+    if kind == definitions::MEMORY_KIND as u64 {
+        if n == 0 {
+            return count;
+        }
+        return count + judging::piece_count(n);
     }
-    if n == 0 {
-        return count;
-    }
-    count + judging::piece_count(n)
+    count
 }
 
 // Enters a block into an open index whose header is h, where so many pieces have a byte, and answers the header that counts it

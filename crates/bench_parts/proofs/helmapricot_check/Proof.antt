@@ -1,13 +1,13 @@
 -- `helmapricot_check` meets its contract: the layout, and then the rule. Assumes nothing.
 use Prim.Native.Nat.{ℕ}
-use mathlib.Core.Path.{_≡_, sym, ap, _∙_}
+use mathlib.Core.Path.{_≡_, refl, sym, ap, _∙_}
 use mathlib.Core.Bool.{Bool, true, false}
 use mathlib.Core.List.{List}
 use borrow.Author.Needs.{needs}
 use denote.Ref.{now}
 use Rattle.trie.specs.Test.{index-rule}
 use Rattle.image_format.specs.Held.{trie-in}
-use Rattle.image_format.specs.Reading.{Layout, right, refused, read-image}
+use Rattle.image_format.specs.Reading.{right, refused, read-image}
 use Rattle.fields.specs.Answers.{layout-of}
 use Rattle.bench_parts.specs.Parts.{refusal-of, but-conflicts}
 use Rattle.bench_parts.proofs.helmapricot_check.Statement.{statement}
