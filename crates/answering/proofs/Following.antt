@@ -12,7 +12,7 @@ use Rattle.definitions.specs.Location.{Location}
 use Rattle.definitions.specs.Blocks.{Block, Piece, pieces, pieces-of, memory-kind}
 use Rattle.definitions.specs.Places.{places-counted}
 use Rattle.definitions.specs.Rows.{rows}
-use Rattle.definitions.specs.Causes.{Cause, number, capacity-refused, index-rule-broken, record-after-finish, before-finish, data-too-long, no-life, address-too-high, too-many-nodes, too-many-entries, query-too-long, scratch-too-small, too-many-rows, save-buffer-too-short, cut-short, unknown-kind, image-broken, no-form, first-cause}
+use Rattle.definitions.specs.Causes.{Cause, number, capacity-refused, index-rule-broken, record-after-finish, before-finish, data-too-long, no-life, address-too-high, too-many-nodes, too-many-entries, query-too-long, scratch-too-small, too-many-rows, save-buffer-too-short, cut-short, unknown-kind, image-broken, no-form, conflict, first-cause}
 use Rattle.definitions.specs.Calls.{Recorded, fresh, Standing, record-checks, search-checks, needed}
 use Rattle.definitions.specs.Recording.{record-block}
 use Rattle.definitions.specs.Recording as C
@@ -62,6 +62,7 @@ number-tells cut-short rs = refl
 number-tells unknown-kind rs = refl
 number-tells image-broken rs = refl
 number-tells no-form rs = refl
+number-tells conflict rs = refl
 
 recorded-tells : (o : Option Cause) (m n : List ℕ) (rs : List Reply) → unless-number (unless-refused o m n .refusal) rs ≡ or-refused o rs
 recorded-tells none m n rs = refl

@@ -311,25 +311,34 @@ fn load_into(mem: &mut [u8], nodes: u64, entries: u64, img: &[u8]) {
     load(mem, img, img.len());
 }
 
-// Blocks that touch and one that conflicts; then their image in capacities that are too small, with the creation of the second
-// piece moved into the life of the first in the root's list alone, which breaks the rule, and in both lists, which is a conflict.
-fn conflicts(mem: &mut [u8]) {
-    let mut out = [0u8; 172];
-    io::write_all(STDOUT_FILENO, b"conflicts\n");
+// Loads an image where there is room for it, where there are too few nodes, and where there are too few entries.
+fn load_each(mem: &mut [u8], img: &[u8]) {
+    load_into(mem, 10, 10, img);
+    load_into(mem, 1, 10, img);
+    load_into(mem, 10, 1, img);
+}
+
+// Two blocks at one address, and one that conflicts with both.
+fn record_conflicting(mem: &mut [u8]) {
     open(mem, 10, 10);
     record_at(mem, SpacetimeLocation::new(0, 1, 2), b"a");
     record_at(mem, SpacetimeLocation::new(0, 3, 4), b"a");
     record_at(mem, SpacetimeLocation::new(0, 1, 4), b"b");
     finish(mem);
+}
+
+// The image of what was taken; then with the second piece created in the life of the first: in the root's list alone, which
+// breaks the index rule, and in both lists, which is a conflict.
+fn conflicts(mem: &mut [u8]) {
+    let mut out = [0u8; 172];
+    io::write_all(STDOUT_FILENO, b"conflicts\n");
+    record_conflicting(mem);
     string_index::save(mem, &mut out);
-    load_into(mem, 1, 10, &out);
-    load_into(mem, 10, 1, &out);
+    load_each(mem, &out);
     out[57] = 1;
-    load_into(mem, 10, 10, &out);
+    load_each(mem, &out);
     out[140] = 1;
-    load_into(mem, 10, 10, &out);
-    load_into(mem, 1, 10, &out);
-    load_into(mem, 10, 1, &out);
+    load_each(mem, &out);
 }
 
 fn run(mem: &mut [u8]) {
