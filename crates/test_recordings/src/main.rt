@@ -320,25 +320,30 @@ fn load_each(mem: &mut [u8], img: &[u8]) {
 
 // Two blocks at one address, and one that conflicts with both.
 fn record_conflicting(mem: &mut [u8]) {
-    open(mem, 10, 10);
     record_at(mem, SpacetimeLocation::new(0, 1, 2), b"a");
     record_at(mem, SpacetimeLocation::new(0, 3, 4), b"a");
     record_at(mem, SpacetimeLocation::new(0, 1, 4), b"b");
-    finish(mem);
 }
 
-// The image of what was taken; then with the second piece created in the life of the first: in the root's list alone, which
+// The image of what is held; then with the second piece created in the life of the first: in the root's list alone, which
 // breaks the index rule, and in both lists, which is a conflict.
-fn conflicts(mem: &mut [u8]) {
+fn load_moved(mem: &mut [u8]) {
     let mut out = [0u8; 172];
-    io::write_all(STDOUT_FILENO, b"conflicts\n");
-    record_conflicting(mem);
     string_index::save(mem, &mut out);
     load_each(mem, &out);
     out[57] = 1;
     load_each(mem, &out);
     out[140] = 1;
     load_each(mem, &out);
+}
+
+// Blocks and images that conflict.
+fn conflicts(mem: &mut [u8]) {
+    io::write_all(STDOUT_FILENO, b"conflicts\n");
+    open(mem, 10, 10);
+    record_conflicting(mem);
+    finish(mem);
+    load_moved(mem);
 }
 
 fn run(mem: &mut [u8]) {
