@@ -63,12 +63,13 @@ fn enter_block(mem: &mut [u8], stream: &[u8], b: Block, p: Progress) -> Progress
     let data = &stream[start..next];
     let h = p.header;
     let kind = b.kind as u64;
+    let taken = p.taken + 1;
     match recording::enter(mem, h, p.filled, kind, l, data) {
         Judged::Counted(header) => Progress {
             header,
             filled: recording::filled_after(p.filled, kind, data.len()),
             at: next,
-            taken: p.taken + 1,
+            taken,
             number: 0,
             going: true,
         },

@@ -32,23 +32,22 @@ filled-after-requires : tie.Need-filled-after-requires
 filled-after-requires c κs =
     let g = c .before .header .given in
     let e = c .before .before .before .before .before in
-    let start = e .before .before .before .before .before .before .before .before in
+    let l = e .before .before .before .before .before .before in
+    let start = l .before .before .before in
     let a = start .args in
-    let l = e .before .before .before .before .before in
     let b : Block = record { bytes = take (a .b .next - a .b .start) (drop (a .b .start) (now (a .stream))); at = plain (l .new .result) } in
     ((λ k. counted-short (now (a .mem)) (header-of (a .p .header)) (header-of (g .0 .0)) (a .b .kind) b (sym (e .enter .ensures .0) ∙ ap verdict-of (g .1)) k), count-few _ _ (start .pre .0) (a .p .filled) (start .pre .1))
 
-add-t22 : tie.Need-add-t22
-add-t22 c =
-    let start = c .before .before .before .before .before .before .before .before .before .before .before .before .before .before .before in
+add-taken : tie.Need-add-taken
+add-taken c =
+    let start = c .before .before .before .before .before .before .before in
     omega (arith, start .pre .4, start .pre .3)
 
 returns : tie.Need-returns
 returns c =
-    let f = c .before in
-    let g = f .before .before .header .given in
-    let e = f .before .before .before .before .before .before in
-    let l = e .before .before .before .before .before in
+    let g = c .before .before .header .given in
+    let e = c .before .before .before .before .before .before in
+    let l = e .before .before .before .before .before .before in
     let a = l .before .before .before .args in
     let h = header-of (a .p .header) in
     let bytes = take (a .b .next - a .b .start) (drop (a .b .start) (now (a .stream))) in
@@ -57,7 +56,7 @@ returns c =
       ap (on-or-halted (progress-of (a .p)) (a .b .next)) v,
       (
         e .enter .ensures .1 .0 ∙ ap (λ (x : Location). entered (now (a .mem)) h (a .b .kind) (record { bytes = bytes; at = x })) (l .new .ensures),
-        f .filled-after .ensures ∙ sym (e .enter .ensures .1 .1 (header-of (g .0 .0)) (ap verdict-of (g .1))),
+        c .filled-after .ensures ∙ sym (e .enter .ensures .1 .1 (header-of (g .0 .0)) (ap verdict-of (g .1))),
       ),
     )
 
@@ -65,7 +64,7 @@ returns-2 : tie.Need-returns-2
 returns-2 c =
     let g = c .before .before .n .given in
     let e = c .before .before .before .before .before .before in
-    let l = e .before .before .before .before .before in
+    let l = e .before .before .before .before .before .before in
     let start = l .before .before .before in
     let a = start .args in
     let h = header-of (a .p .header) in
@@ -89,10 +88,10 @@ enter-block-spec =
     (λ c. search needs)
     (λ c. search needs)
     (λ c. search needs)
+    add-taken
     (λ c κs. search needs)
     (λ c. search needs)
     filled-after-requires
-    add-t22
     (λ c. search needs)
     (λ c κs. search needs)
     (λ c. search needs)
