@@ -26,9 +26,13 @@ abbrev pub entry-right : List ℕ → (base pieces i : ℕ) → Bool
 entry-right m base pieces i =
     ltb (number-at m base i) pieces && (not (eqb (le64 m (piece-at m base i)) 0) && eqb (le64 m (base + 16 * i + 8)) (le64 m (piece-at m base i + 40)))
 
+-- where the piece of entry i ends
+abbrev pub piece-end : List ℕ → Line → ℕ → ℕ
+piece-end m v i = location-of m v i .address + le64 m (piece-at m (v .base) i)
+
 -- one of the entries behind entry i lives together with its piece at an address inside it
 abbrev pub lives-inside : List ℕ → Line → ℕ → Bool
-lives-inside m v i = lives-among (location-of m v) (v .count - (i + 1)) (i + 1) (location-of m v i) (location-of m v i .address + le64 m (piece-at m (v .base) i))
+lives-inside m v i = lives-among (location-of m v) (v .count - (i + 1)) (i + 1) (location-of m v i) (piece-end m v i)
 
 -- ── what the code asks for ──
 
@@ -41,4 +45,4 @@ pub record Inside (m : List ℕ) (v : Line) : Type 0 where
   pub logged : v .logged ≡ true
   pub within : Within m v
   pub lined : Lined (v .count) (location-of m v)
-  pub below : (i : ℕ) → i < v .count → location-of m v i .address + le64 m (piece-at m (v .base) i) ≤ last-number
+  pub below : (i : ℕ) → i < v .count → piece-end m v i ≤ last-number

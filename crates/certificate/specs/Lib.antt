@@ -1,3 +1,5 @@
--- `Entries` has the entries of a certificate one by one, `Stored` the whole of it beside the log. Assumes nothing.
+-- `Entries` has the entries of a certificate one by one, `Groups` those at one address, `Stored` the whole of it beside the log.
+-- Assumes nothing.
 pub mod Entries
+pub mod Groups
 pub mod Stored

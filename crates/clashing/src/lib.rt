@@ -1,27 +1,15 @@
 // Whether a block conflicts with a piece of an open index, read off the certificate.
 use definitions::PIECE_SIZE;
-use lined_locations::CERTIFIED_SIZE;
 use lined_locations::Line;
 use location::SpacetimeLocation;
-use memory_header::HEADER_SIZE;
 use memory_header::Header;
-use memory_header::LOGGED_SIZE;
 ghost use mathlib.Core.Path.{_≡_};
 ghost use Prim.Native.Nat.{_+_, _-_, _^_, _≤_, _<_};
 ghost use Rattle.location.specs.Plain.{plain};
 ghost use Rattle.memory_header.specs.Answers.{header-of};
 ghost use Rattle.certificate.specs.Entries.{Inside};
 ghost use Rattle.certificate.specs.Stored.{Stored};
-ghost use Rattle.clashing.specs.Strikes.{length-of, strikes, OneAddress, Below, SaysConflict};
-
-// The bytes of the piece of entry i.
-fn size(mem: &[u8], v: Line, i: usize) -> u64
-    requires { ⌜ Inside (now mem) v × (i < v .count) ⌝ }
-    ensures { λ r. ⌜ r ≡ length-of (now (mem .entry)) v i ⌝ }
-{
-    let number = words::get64(mem, v.base + CERTIFIED_SIZE * i) as usize;
-    words::get64(mem, HEADER_SIZE + LOGGED_SIZE * number)
-}
+ghost use Rattle.clashing.specs.Strikes.{strikes, OneAddress, Below, SaysConflict};
 
 // Whether one of the entries from g on and below q, all at one address and created before x ends, lives together with x and has
 // a byte at its address. They end one before the other, so the way is back from q.
@@ -35,7 +23,7 @@ fn reaches(mem: &[u8], v: Line, g: usize, q: usize, x: SpacetimeLocation) -> boo
         if y.destroyed_at.0 <= x.created_at.0 {
             return false;
         }
-        if x.address.0 < y.address.0 + size(mem, v, k - 1) {
+        if x.address.0 < y.address.0 + certificate::piece_size(mem, v, k - 1) {
             return true;
         }
         k -= 1;

@@ -1,12 +1,15 @@
 -- `certificate::none_inside` meets its contract: inside the pieces of the entries before i none lives. Assumes nothing.
 use Prim.Native.Nat.{ℕ, _-_, _≤_}
 use native.Mathlib.Omega.{arith}
-use mathlib.Core.Path.{_≡_, sym, ap, _∙_}
-use mathlib.Core.Bool.{Bool, true, not}
+use mathlib.Core.Path.{_≡_, subst}
+use mathlib.Core.Bool.{Bool, true, false, not}
+use borrow.Author.Tests.{not-true, not-false}
 use denote.Ref.{now}
-use Rattle.certificate.specs.Entries.{all, lives-inside}
-use Rattle.certificate.proofs.All.{all-start, all-next, all-fails, all-done}
-use Rattle.certificate.proofs.Stored.{inside-number}
+use Rattle.lined_locations.specs.Line.{location-of}
+use Rattle.certificate.specs.Entries.{all, piece-end, lives-inside}
+use Rattle.certificate.specs.Groups.{Apart}
+use Rattle.certificate.proofs.All.{all-start, all-done}
+use Rattle.certificate.proofs.Groups.{none-on, none-met}
 use Rattle.certificate.proofs.none_inside.Statement.{statement}
 use Rattle.certificate.proofs.none_inside.Tie as tie
 
@@ -19,29 +22,38 @@ abbrev μ-loop : tie.MeasureT-loop
 loop-holds : tie.Need-loop-holds Inv-loop μ-loop
 loop-holds c = let a = c .before .args in (omega arith, all-start (λ k. not (lives-inside (now (a .mem)) (a .v) k)))
 
-lives-inside-requires : tie.Need-lives-inside-requires Inv-loop μ-loop
-lives-inside-requires c κs = (c .before .before .before .before .pre, c .if1 .taken)
+group-end-requires : tie.Need-group-end-requires Inv-loop μ-loop
+group-end-requires c κs = (c .before .before .before .before .pre, c .if1 .taken)
+
+group-apart-requires : tie.Need-group-apart-requires Inv-loop μ-loop
+group-apart-requires c κs = (c .before .before .before .before .before .pre, c .group-end .ensures)
 
 returns : tie.Need-returns Inv-loop μ-loop
 returns c =
-    let turn = c .before .before .before .before in
-    let a = turn .before .before .args in
-    sym (all-fails (λ k. not (lives-inside (now (a .mem)) (a .v) k)) (a .v .count) (turn .loop .i) (c .before .before .if1 .taken) (ap (λ (o : Bool). not o) (sym (c .before .lives-inside .ensures) ∙ c .if2 .taken)))
-
-add-i : tie.Need-add-i Inv-loop μ-loop
-add-i c =
-    let turn = c .before .before .before .before in
-    let s = turn .before .before in
-    omega (arith, inside-number (now (s .args .mem)) (s .args .v) (s .pre) (turn .loop .i) (c .before .before .if1 .taken))
+    let found = c .before .before in
+    let at = found .before .before .before in
+    let s = at .before .before in
+    let m = now (s .args .mem) in
+    let v = s .args .v in
+    let e = found .group-end .result in
+    none-met m v (s .pre) (at .loop .i) e (found .group-end .ensures)
+    (subst (λ (o : Bool). Apart o (location-of m v) (piece-end m v) (at .loop .i) e e (v .count)) (not-true (c .before .group-apart .result) (c .if2 .taken)) (c .before .group-apart .ensures))
 
 loop-less : tie.Need-loop-less Inv-loop μ-loop
-loop-less c = omega (arith, c .before .before .if1 .taken)
+loop-less c = omega (arith, c .before .before .group-end .ensures .low, c .before .before .before .if1 .taken)
 
 loop-again : tie.Need-loop-again Inv-loop μ-loop
 loop-again c =
-    let turn = c .before .before .before .before in
-    let a = turn .before .before .args in
-    (omega (arith, c .before .before .if1 .taken), all-next (λ k. not (lives-inside (now (a .mem)) (a .v) k)) (turn .loop .i) (turn .loop .inv .1) (ap (λ (o : Bool). not o) (sym (c .before .lives-inside .ensures) ∙ c .if2 .left)))
+    let found = c .before .before in
+    let at = found .before .before .before in
+    let s = at .before .before in
+    let m = now (s .args .mem) in
+    let v = s .args .v in
+    let e = found .group-end .result in (
+      found .group-end .ensures .high,
+      none-on m v (s .pre) (at .loop .i) e (found .group-end .ensures) (at .loop .inv .1)
+          (subst (λ (o : Bool). Apart o (location-of m v) (piece-end m v) (at .loop .i) e e (v .count)) (not-false (c .before .group-apart .result) (c .if2 .left)) (c .before .group-apart .ensures)),
+    )
 
 returns-2 : tie.Need-returns-2 Inv-loop μ-loop
 returns-2 c =
@@ -56,9 +68,9 @@ none-inside-spec =
     Inv-loop
     μ-loop
     loop-holds
-    lives-inside-requires
+    group-end-requires
+    group-apart-requires
     returns
-    add-i
     loop-less
     loop-again
     returns-2)

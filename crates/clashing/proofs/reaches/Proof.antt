@@ -41,11 +41,11 @@ returns c =
     let a = start .args in
     reach-ended (a .mem .now) (a .v) (plain (a .x)) (a .g) (a .q) (turn .loop .k) (start .pre .1) (start .pre .0 .lined) (omega (arith, ltb-true)) (turn .loop .inv .1) (omega (arith, leb-true, ap ending-of (read .location .ensures))) ∙ turn .loop .inv .2
 
-sub-size : tie.Need-sub-size Inv-loop μ-loop
-sub-size c = omega (arith, ltb-true)
+sub-piece-size : tie.Need-sub-piece-size Inv-loop μ-loop
+sub-piece-size c = omega (arith, ltb-true)
 
-size-requires : tie.Need-size-requires Inv-loop μ-loop
-size-requires c κs =
+piece-size-requires : tie.Need-piece-size-requires Inv-loop μ-loop
+piece-size-requires c κs =
     let start = c .before .before .before .before .before .before .before in
     (start .pre .0, omega (arith, ltb-true, start .pre .1 .high))
 
@@ -54,7 +54,7 @@ add-if2 c =
     let read = c .before .before .before .before .before in
     let turn = read .before .before in
     let start = turn .before .before in
-    omega (arith, c .before .size .ensures, ap address-of (read .location .ensures), start .pre .0 .below (turn .loop .k - 1) (omega (arith, ltb-true, start .pre .1 .high)))
+    omega (arith, c .before .piece-size .ensures, ap address-of (read .location .ensures), start .pre .0 .below (turn .loop .k - 1) (omega (arith, ltb-true, start .pre .1 .high)))
 
 returns-2 : tie.Need-returns-2 Inv-loop μ-loop
 returns-2 c =
@@ -63,7 +63,7 @@ returns-2 c =
     let turn = read .before .before in
     let start = turn .before .before in
     let a = start .args in
-    reach-found (a .mem .now) (a .v) (plain (a .x)) (a .g) (a .q) (turn .loop .k) (start .pre .1) (start .pre .0 .lined) (omega (arith, ltb-true)) (turn .loop .inv .1) (omega (arith, leb-false, ap ending-of (read .location .ensures))) (omega (arith, ltb-true, sized .size .ensures, ap address-of (read .location .ensures))) ∙ turn .loop .inv .2
+    reach-found (a .mem .now) (a .v) (plain (a .x)) (a .g) (a .q) (turn .loop .k) (start .pre .1) (start .pre .0 .lined) (omega (arith, ltb-true)) (turn .loop .inv .1) (omega (arith, leb-false, ap ending-of (read .location .ensures))) (omega (arith, ltb-true, sized .piece-size .ensures, ap address-of (read .location .ensures))) ∙ turn .loop .inv .2
 
 sub-k : tie.Need-sub-k Inv-loop μ-loop
 sub-k c = omega (arith, ltb-true)
@@ -79,7 +79,7 @@ loop-again c =
     let a = turn .before .before .args in (
       omega (arith, ltb-true),
       omega arith,
-      reach-on (a .mem .now) (a .v) (plain (a .x)) (a .g) (turn .loop .k) (omega (arith, ltb-true)) (omega (arith, ltb-false, sized .size .ensures, ap address-of (read .location .ensures))) ∙ turn .loop .inv .2,
+      reach-on (a .mem .now) (a .v) (plain (a .x)) (a .g) (turn .loop .k) (omega (arith, ltb-true)) (omega (arith, ltb-false, sized .piece-size .ensures, ap address-of (read .location .ensures))) ∙ turn .loop .inv .2,
     )
 
 returns-3 : tie.Need-returns-3 Inv-loop μ-loop
@@ -98,8 +98,8 @@ reaches-spec =
     sub-location
     location-requires
     returns
-    sub-size
-    size-requires
+    sub-piece-size
+    piece-size-requires
     add-if2
     returns-2
     sub-k

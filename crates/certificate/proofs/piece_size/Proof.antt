@@ -1,12 +1,12 @@
--- `clashing::size` meets its contract: an entry's number and its piece lie within the memory. Assumes nothing.
+-- `certificate::piece_size` meets its contract: an entry's number and its piece lie within the memory. Assumes nothing.
 use native.Mathlib.Omega.{arith}
 use mathlib.Core.Path.{_≡_, ap, _∙_}
 use Prim.Native.Nat.{_+_, _*_}
 use Rattle.words.specs.Words.{le64}
 use Rattle.lined_locations.proofs.Places.{logged-within}
 use Rattle.certificate.specs.Entries.{piece-at}
-use Rattle.clashing.proofs.size.Statement.{statement}
-use Rattle.clashing.proofs.size.Tie as tie
+use Rattle.certificate.proofs.piece_size.Statement.{statement}
+use Rattle.certificate.proofs.piece_size.Tie as tie
 
 mul-get64 : tie.Need-mul-get64
 mul-get64 c = omega (arith, c .before .pre .0 .within .numbers (c .before .pre .0 .logged))
@@ -42,7 +42,7 @@ returns c =
     let e : 64 + 48 * number .result ≡ piece-at (a .mem .now) (a .v .base) (a .i) = omega (arith, number .ensures) in
     c .get642 .ensures ∙ ap (le64 (a .mem .now)) e
 
-pub size-spec : {M : Type 1} → statement M
-size-spec =
+pub piece-size-spec : {M : Type 1} → statement M
+piece-size-spec =
     tie.close
     (tie.spec mul-get64 add-get64 get64-requires mul-get64-2 add-get64-2 get64-requires-2 returns)
