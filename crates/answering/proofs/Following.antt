@@ -1,7 +1,7 @@
 -- The memory that the program opens answers each line as document 01 does: it follows what was recorded. Assumes nothing.
-use Prim.Native.Nat.{ℕ, _≤_, _/_}
+use Prim.Native.Nat.{ℕ, _≤_}
 use native.Mathlib.Omega.{arith}
-use mathlib.Core.Path.{_≡_, refl, sym, ap, _∙_, subst}
+use mathlib.Core.Path.{_≡_, refl, sym, ap, _∙_}
 use mathlib.Core.Bool.{Bool, true, false, cond}
 use mathlib.Core.List.{List, [], _∷_, _++_}
 use mathlib.Core.Option.{Option, none, some}
@@ -16,7 +16,7 @@ use Rattle.definitions.specs.Causes.{Cause, number, capacity-refused, index-rul
 use Rattle.definitions.specs.Calls.{Recorded, fresh, Standing, record-checks, search-checks, needed}
 use Rattle.definitions.specs.Recording.{record-block}
 use Rattle.definitions.specs.Recording as C
-use Rattle.definitions.specs.Program.{Form, block, finish, find, IsForm, Reply, taken, finished, refused, found, or-refused, form-replies, replies, next, program-capacity}
+use Rattle.definitions.specs.Program.{Form, block, finish, find, Reply, taken, finished, refused, found, or-refused, form-replies, replies, program-capacity}
 use Rattle.definitions.proofs.Chains.{SamePieces, rows-by-set}
 use Rattle.trie.specs.Trie.{trie-pieces}
 use Rattle.trie.specs.Build.{trie-of}
@@ -24,19 +24,17 @@ use Rattle.index_memory.specs.Index.{Index, opened, standing-of, read-index}
 use Rattle.index_memory.specs.Index as I
 use Rattle.memory_header.specs.Opening.{open-memory, unless-refused}
 use Rattle.recording.specs.Record.{appended, record-by, record-memory}
-use Rattle.finding.specs.Find.{Rows-found, rows-or-refused, find-by, find-memory}
+use Rattle.finding.specs.Find.{rows-or-refused, find-by, find-memory}
 use Rattle.string_index.specs.Finish.{finish-by, finish-memory}
-use Rattle.demand.specs.Demand.{Fits}
 use Rattle.demand.proofs.Following.{Followed, followed-start, followed-on, followed-pieces}
 use Rattle.forms.specs.ReadLine.{read-line}
 use Rattle.forms.specs.Answers.{Is}
 use Rattle.forms.proofs.Lines.{read-line-is}
 use Rattle.lines.specs.Cut.{lines-of}
-use Rattle.lines.specs.Kept.{part}
-use Rattle.answering.specs.Program.{after-form, line-replies, program}
+use Rattle.answering.specs.Program.{after-form, line-replies}
 use Rattle.replies.specs.Replies.{replies-bytes}
 use Rattle.form_answers.specs.Memory.{unless-number, found-replies, form-answer, memory-after-form, line-answer, memory-after-line, lines-answer}
-use Rattle.answering.specs.Parts.{output, all-of}
+use Rattle.answering.specs.Parts.{all-of}
 use Rattle.answering.specs.Promises.{MemoryAnswers, PartsProgram}
 use Rattle.row_replies.proofs.PlaceReplies.{replies-append}
 use Rattle.definitions.proofs.Counted.{counted-by-set}

@@ -1,5 +1,5 @@
 -- Pieces of a log that have a byte, counted one after the other. Assumes nothing.
-use Prim.Native.Nat.{ℕ, zero, suc, _+_, _*_, _≤_, _<_}
+use Prim.Native.Nat.{ℕ, suc, _+_, _*_, _≤_, _<_}
 use native.Mathlib.Omega.{arith}
 use mathlib.Core.Path.{_≡_, refl, sym, ap, _∙_}
 use mathlib.Core.Bool.{Bool, true, false, cond}
@@ -12,7 +12,7 @@ use Rattle.conflicts.specs.Order.{nothing, nth}
 use Rattle.conflicts.specs.Promises.{filled}
 use Rattle.conflicts.proofs.Numbers.{at-member}
 use Rattle.index_memory.specs.Log.{piece-in, log-in, log-sound}
-use Rattle.index_memory.proofs.LogBytes.{AllSound, log-sound-is, length-log-in, log-append, piece-length, piece-small}
+use Rattle.index_memory.proofs.LogBytes.{log-sound-is, length-log-in, log-append, piece-length, piece-small}
 use Rattle.certificate.specs.Entries.{LogWithin}
 use Rattle.certificate.proofs.Bytes.{log-nth}
 

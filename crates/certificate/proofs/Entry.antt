@@ -1,6 +1,6 @@
 -- The ways out of testing an entry. Assumes nothing.
 use Prim.Native.Nat.{ℕ, _+_, _*_, _≤_, _<_}
-use mathlib.Core.Path.{_≡_, refl, sym, ap, _∙_}
+use mathlib.Core.Path.{_≡_, sym, ap, _∙_}
 use mathlib.Core.Bool.{false, not, _&&_}
 use mathlib.Core.List.{List}
 use lib.Dec.{ltb, eqb}

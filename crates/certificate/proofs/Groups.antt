@@ -7,13 +7,13 @@ use mathlib.Core.List.{List}
 use mathlib.Core.Logic.{_⊎_, inl, inr}
 use lib.Dec.{ltb}
 use borrow.Author.Tests.{ltb-true, lt-ltb}
-use Rattle.definitions.specs.Location.{Location, meets}
+use Rattle.definitions.specs.Location.{Location}
 use Rattle.definitions.proofs.Tests.{both, and-true, is-false, not-both, negated}
 use Rattle.definitions.proofs.Views.{lt-or-le}
-use Rattle.conflicts.specs.Lined.{lives-among, Lined}
+use Rattle.conflicts.specs.Lined.{Lined}
 use Rattle.conflicts.specs.Promises.{LivesAmong}
 use Rattle.conflicts.proofs.Together.{Together, meets-is}
-use Rattle.conflicts.proofs.Line.{Upto, upto, lives-among-is}
+use Rattle.conflicts.proofs.Line.{upto, lives-among-is}
 use Rattle.lined_locations.specs.declared.Line.{Line}
 use Rattle.lined_locations.specs.Line.{location-of}
 use Rattle.certificate.specs.Entries.{all, piece-end, lives-inside, Inside}

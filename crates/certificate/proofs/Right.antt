@@ -1,30 +1,27 @@
 -- The entries of a certificate pass the tests exactly if the pieces are free of conflicts and the certificate is theirs. Assumes nothing.
-use Prim.Native.Nat.{ℕ, suc, _+_, _-_, _*_, _^_, _≤_, _<_}
+use Prim.Native.Nat.{ℕ, _+_, _-_, _*_, _≤_, _<_}
 use native.Mathlib.Omega.{arith}
 use mathlib.Core.Path.{_≡_, refl, sym, ap, _∙_, subst}
-use mathlib.Core.Bool.{Bool, true, false, not, _&&_, cond}
+use mathlib.Core.Bool.{true, false, not, _&&_}
 use mathlib.Core.Logic.{_⊎_, inl, inr, _↔_}
-use mathlib.Core.List.{List, [], _∷_, List·Memᴰ as Mem}
+use mathlib.Core.List.{List}
 use lib.ListN.{length, getD}
 use lib.Dec.{ltb, eqb}
 use borrow.Author.Tests.{ltb-true, lt-ltb, eqb-true, eqb-false, eq-eqb, ne-eqb, not-true}
 use Rattle.words.specs.Words.{le64, bytes64}
-use Rattle.words.specs.Holding.{Holds, stands}
-use Rattle.words.proofs.Holding.{holds-le, le-holds, stands-holds, holds-stands}
-use Rattle.words.proofs.Laws.{le64-lt}
+use Rattle.words.specs.Holding.{Holds}
+use Rattle.words.proofs.Holding.{le-holds, stands-holds, holds-stands}
 use Rattle.definitions.specs.Location.{Location, location-at, meets}
 use Rattle.definitions.specs.Blocks.{Piece}
-use Rattle.definitions.specs.Runs.{Alive}
 use Rattle.definitions.specs.Conflicts.{end, free}
 use Rattle.definitions.specs.Calls.{last-number}
-use Rattle.definitions.proofs.Tests.{both, and-true, is-false, not-both, negated, same-test}
+use Rattle.definitions.proofs.Tests.{both, and-true, is-false, not-both, negated}
 use Rattle.definitions.proofs.Views.{lt-or-le}
 use Rattle.memory_header.specs.Layout.{Header, work-at}
-use Rattle.memory_header.specs.Answers.{heading-at}
-use Rattle.memory_header.proofs.HeaderFacts.{HeaderFacts, heading-is, open-payload}
-use Rattle.conflicts.specs.Lined.{in-line, lives-among, Lined, Ahead}
-use Rattle.conflicts.specs.Order.{Entry, ordered, certificate, nothing, nth, entry}
-use Rattle.conflicts.specs.Promises.{LivesAmong, NoneInside, Entered, filled, own-bytes}
+use Rattle.memory_header.proofs.HeaderFacts.{HeaderFacts, open-payload}
+use Rattle.conflicts.specs.Lined.{in-line, Lined, Ahead}
+use Rattle.conflicts.specs.Order.{ordered, certificate, nothing, nth, entry}
+use Rattle.conflicts.specs.Promises.{LivesAmong, NoneInside, filled}
 use Rattle.conflicts.proofs.Together.{meets-is}
 use Rattle.conflicts.proofs.Numbers.{at-member}
 use Rattle.conflicts.proofs.Line.{in-line-is, lives-among-is}
@@ -33,9 +30,9 @@ use Rattle.conflicts.proofs.OrderFree.{ordered-free}
 use Rattle.conflicts.proofs.OrderOne.{ordered-one}
 use Rattle.conflicts.proofs.OwnEnds.{own-ends}
 use Rattle.lined_locations.specs.declared.Line.{Line}
-use Rattle.lined_locations.specs.Line.{number-at, place-of, location-of, Within}
-use Rattle.index_memory.specs.Log.{piece-in, log-in, log-sound}
-use Rattle.index_memory.specs.Index.{log-right, certified, order-right}
+use Rattle.lined_locations.specs.Line.{number-at, location-of, Within}
+use Rattle.index_memory.specs.Log.{piece-in, log-sound}
+use Rattle.index_memory.specs.Index.{certified, order-right}
 use Rattle.index_memory.proofs.LogBytes.{AllSound, PieceSound, log-sound-is, length-log-in, piece-length, piece-small}
 use Rattle.certificate.specs.Entries.{all, piece-at, entry-right, lives-inside, Inside}
 use Rattle.certificate.specs.Stored.{pieces-in, line-of, Stored}

@@ -1,9 +1,9 @@
 -- The entries of a stored certificate are the order of the pieces, in line. Assumes nothing.
-use Prim.Native.Nat.{ℕ, suc, _+_, _*_, _^_, _≤_, _<_}
+use Prim.Native.Nat.{ℕ, _+_, _*_, _≤_, _<_}
 use native.Mathlib.Omega.{arith}
 use mathlib.Core.Path.{_≡_, refl, sym, ap, _∙_, subst}
 use mathlib.Core.Bool.{Bool, true}
-use mathlib.Core.List.{List, List·Memᴰ as Mem}
+use mathlib.Core.List.{List}
 use lib.ListN.{length, getD}
 use Rattle.words.specs.Words.{le64}
 use Rattle.words.specs.Holding.{Holds}
@@ -15,7 +15,7 @@ use Rattle.definitions.specs.Runs.{Alive}
 use Rattle.definitions.specs.Calls.{last-number}
 use Rattle.memory_header.specs.Layout.{Header, work-at}
 use Rattle.conflicts.specs.Lined.{Lined, Ahead}
-use Rattle.conflicts.specs.Order.{Entry, ordered, certificate, nothing, nth, entry}
+use Rattle.conflicts.specs.Order.{Entry, ordered, nothing, nth, entry}
 use Rattle.conflicts.specs.Promises.{Entered, own-bytes}
 use Rattle.conflicts.proofs.Numbers.{at-member}
 use Rattle.conflicts.proofs.Order.{ordered-count, ordered-entered}

@@ -4,7 +4,7 @@ use lined_locations::Line;
 use location::SpacetimeLocation;
 use memory_header::Header;
 ghost use mathlib.Core.Path.{_≡_};
-ghost use Prim.Native.Nat.{_+_, _-_, _^_, _≤_, _<_};
+ghost use Prim.Native.Nat.{_+_, _-_, _^_, _<_};
 ghost use Rattle.location.specs.Plain.{plain};
 ghost use Rattle.memory_header.specs.Answers.{header-of};
 ghost use Rattle.certificate.specs.Entries.{Inside};

@@ -1,6 +1,6 @@
 -- The order of pieces and its certificate: number and greatest end so far, for each piece that has a byte. Assumes nothing.
 use Prim.Native.Nat.{ℕ, suc, max}
-use mathlib.Core.Bool.{Bool, cond}
+use mathlib.Core.Bool.{cond}
 use mathlib.Core.List.{List, [], _∷_, _++_}
 use lib.ListN.{length, getD}
 use lib.Dec.{eqb}

@@ -6,7 +6,7 @@ use mathlib.Core.Path.{_≡_, refl, sym, subst}
 use mathlib.Core.Bool.{Bool, true, false}
 use mathlib.Core.Logic.{_↔_}
 use mathlib.Core.List.{List, [], _∷_, _++_, append-nil, List·Memᴰ as Mem, List·Memᴰ·head as here, List·Memᴰ·tail as later, List·Memᴰ·not-nil as not-nil, Memᴰ·append-left as append-left, Memᴰ·append-right as append-right}
-use lib.ListN.{length, getD}
+use lib.ListN.{getD}
 use Rattle.definitions.specs.Location.{Lives}
 use Rattle.definitions.specs.Blocks.{Block, Piece, pieces, pieces-of}
 use Rattle.definitions.specs.Runs.{Holds, Covers, Consistent}
@@ -16,7 +16,7 @@ use Rattle.definitions.proofs.Held.{holds-covers}
 use Rattle.definitions.proofs.Cutting.{PieceOf, piece-of, pieces-added, held-by-pieces, consistent-pieces}
 use Rattle.definitions.proofs.Tests.{is-false, not-both, same-test}
 use Rattle.definitions.proofs.Sharing as sharing
-use Rattle.definitions.proofs.Sharing.{Sharing, shares-facts, apart-is, shares-sym}
+use Rattle.definitions.proofs.Sharing.{shares-facts, apart-is, shares-sym}
 use Rattle.definitions.proofs.Free.{Free, with-none, clash-none, free-is, Both, free-append, append-free}
 
 pub shares-is : SharesIs

@@ -1,11 +1,9 @@
 -- The sample of document 01: what the theorem says of its row. Assumes nothing.
-use Prim.Native.Nat.{ℕ, _<_}
 use native.Mathlib.Omega.{arith}
 use mathlib.Core.Path.{_≡_, refl}
 use mathlib.Core.List.{List, [], _∷_, List·Memᴰ·head as here}
 use Rattle.definitions.specs.Blocks.{Block}
 use Rattle.definitions.specs.Runs.{LongestRun}
-use Rattle.definitions.specs.Calls.{Capacity}
 use Rattle.definitions.specs.Recording.{Call, record-block, finish, taken}
 use Rattle.definitions.specs.Program.{program-capacity}
 use Rattle.definitions.specs.Starred.{bytes-at, location}

@@ -1,9 +1,8 @@
 -- Small conflicts by computation. Assumes nothing.
 use mathlib.Core.Path.{_≡_, refl}
 use mathlib.Core.Bool.{true, false}
-use mathlib.Core.List.{List, [], _∷_}
+use mathlib.Core.List.{[], _∷_}
 use mathlib.Core.Option.{some}
-use Rattle.definitions.specs.Blocks.{Block}
 use Rattle.definitions.specs.Conflicts.{shares, free}
 use Rattle.definitions.specs.Causes.{conflict, too-many-nodes}
 use Rattle.definitions.specs.Calls.{Capacity, Recorded, record-answer}

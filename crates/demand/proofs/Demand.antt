@@ -1,10 +1,10 @@
 -- Demand 3 holds. Assumes nothing.
-use Prim.Native.Nat.{ℕ, suc, _+_, _*_, _/_, _≤_, _<_}
+use Prim.Native.Nat.{ℕ, _+_, _*_, _/_, _≤_}
 use native.Mathlib.Omega.{arith}
 use mathlib.Core.Path.{_≡_, refl, sym, ap, _∙_, subst}
 use mathlib.Core.Bool.{Bool, true, false, cond}
 use mathlib.Core.Logic.{_⊎_, inl, inr, _↔_}
-use mathlib.Core.List.{List, [], _∷_, _++_, List·Memᴰ as Mem, List·Memᴰ·head as here, List·Memᴰ·tail as later, List·Memᴰ·not-nil as not-nil}
+use mathlib.Core.List.{List, [], _++_, List·Memᴰ as Mem, List·Memᴰ·not-nil as not-nil}
 use mathlib.Core.Option.{Option, none, some}
 use lib.ListN.{length, take, replicate, length-replicate}
 use lib.Dec.{ltb}
@@ -13,14 +13,14 @@ use Rattle.definitions.specs.Location.{Location}
 use Rattle.definitions.specs.Blocks.{Block, Piece, pieces, pieces-of}
 use Rattle.definitions.specs.Places.{places-counted}
 use Rattle.definitions.specs.Rows.{rows}
-use Rattle.definitions.specs.Runs.{RowsAreRuns, Query, SameRows, SameHeld}
+use Rattle.definitions.specs.Runs.{RowsAreRuns, SameRows, SameHeld}
 use Rattle.definitions.specs.Causes.{Cause, number, scratch-too-small, too-many-rows, first-cause}
 use Rattle.definitions.specs.Calls.{Capacity, Recorded, fresh, query-limit, block-checks, search-checks}
-use Rattle.definitions.specs.Recording.{Sound, after-all, taken}
+use Rattle.definitions.specs.Recording.{Sound, after-all}
 use Rattle.definitions.proofs.Chains.{SamePieces, rows-by-set}
 use Rattle.definitions.proofs.Checks.{none-refused}
 use Rattle.definitions.proofs.Cutting.{FromBlock, pieces-mem}
-use Rattle.definitions.proofs.Taken.{Right, right-recording, finished-recording, taken-sound, taken-consistent, recording-rows, recordings-same}
+use Rattle.definitions.proofs.Taken.{Right, finished-recording, taken-sound, taken-consistent, recording-rows, recordings-same}
 use Rattle.trie.specs.Trie.{Trie, trie-pieces}
 use Rattle.trie.specs.Build.{trie-of}
 use Rattle.trie.proofs.BuildRule.{SoundPiece}
@@ -33,8 +33,8 @@ use Rattle.rows.specs.Rows.{rows-of, rows-over}
 use Rattle.rows.proofs.Rows.{rows-fix, first-over}
 use Rattle.finished_memory.specs.Finished.{finished-memory}
 use Rattle.handing_over.specs.Search.{Found, found-or-refused, search-by, search-memory}
-use Rattle.demand.specs.Demand.{Fits, Recording, final, taken-in, searched, HandsOver, Exactly, RowsExact, EmptyQuery, OnlyBuffers, Answers, SameAnswers, Demand3}
-use Rattle.demand.proofs.Follow.{AllFit, holds, Follows, follow-all}
+use Rattle.demand.specs.Demand.{Fits, Recording, final, taken-in, searched, HandsOver, RowsExact, EmptyQuery, OnlyBuffers, Answers, SameAnswers, Demand3}
+use Rattle.demand.proofs.Follow.{AllFit, Follows, follow-all}
 
 -- ── pieces of what was taken ──
 

@@ -3,7 +3,7 @@ use Prim.Native.Nat.{ℕ}
 use native.Mathlib.Omega.{arith}
 use mathlib.Core.Path.{_≡_, sym, subst}
 use mathlib.Core.List.{List, [], _∷_, List·Memᴰ·not-nil as not-nil, List·Memᴰ·eq-of-singleton as only-one}
-use Rattle.definitions.specs.Blocks.{pieces, pieces-of}
+use Rattle.definitions.specs.Blocks.{pieces-of}
 use Rattle.definitions.specs.Calls.{Capacity, Recorded, fresh}
 use Rattle.definitions.specs.Recording.{Call, after}
 use Rattle.trie.specs.Build.{trie-of}
@@ -14,7 +14,7 @@ use Rattle.memory_header.specs.Opening.{open-memory}
 use Rattle.index_memory.proofs.Holding.{opened-fresh}
 use Rattle.recording.proofs.Taken.{read-appended}
 use Rattle.demand.specs.Demand.{CallFits, memory-after}
-use Rattle.demand.proofs.Follow.{holds, Follows, follow-all}
+use Rattle.demand.proofs.Follow.{Follows, follow-all}
 use Rattle.demand.proofs.ReadFinished.{read-finished}
 use Rattle.demand.proofs.Demand.{piece-sound}
 use Rattle.demand.proofs.Theorem.{location-fits, pieces-fit}

@@ -25,7 +25,7 @@ use Rattle.stream_recording.proofs.Single.{stream-is-single}
 use Rattle.string_index.specs.Finish.{finish-memory}
 use Rattle.handing_over.specs.Search.{search-memory}
 use Rattle.demand.specs.Demand.{memory-after, memory-after-all, Fits, CallFits, Recording, HandsOver, Exactly}
-use Rattle.demand.specs.Shift.{ShiftCall, single, stream, memory-after-shift, memory-after-shifts, records, singles, flattened, ShiftFits, Shift, Flattens, ShiftRowsExact, StreamImage}
+use Rattle.demand.specs.Shift.{ShiftCall, single, stream, memory-after-shift, memory-after-shifts, records, singles, flattened, ShiftFits, Flattens, ShiftRowsExact, StreamImage}
 use Rattle.demand.proofs.Theorem.{demand}
 
 -- ---- the memory

@@ -14,7 +14,7 @@ use Rattle.saving.specs.Saving.{save-memory}
 use Rattle.stream_recording.specs.Stream.{record-stream}
 use Rattle.stream_recording.specs.Promises.{Sent, first-blocks}
 use Rattle.string_index.specs.Finish.{finish-memory}
-use Rattle.demand.specs.Demand.{memory-after, memory-after-all, CallFits, Recording, final, taken-in, HandsOver, Exactly}
+use Rattle.demand.specs.Demand.{memory-after, memory-after-all, CallFits, Recording, final, HandsOver, Exactly}
 
 -- ── calls ──
 

@@ -17,7 +17,7 @@ use Rattle.image_format.specs.Reading.{right, refused, read-image}
 use Rattle.image_format.specs.Savable.{AllBytes}
 use Rattle.image_format.specs.Check.{check-image}
 use Rattle.index_rule.specs.Promises.{IndexRuleIs, CheckImageIs, CheckImageConflict}
-use Rattle.image_format.proofs.Verdict.{Accepted, check-accepts, accepts-check}
+use Rattle.image_format.proofs.Verdict.{check-accepts, accepts-check}
 
 -- ── the test is the rule ──
 

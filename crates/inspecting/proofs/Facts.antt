@@ -8,14 +8,12 @@ use mathlib.Core.Option.{none, some}
 use lib.ListN.{length, take, drop}
 use lib.Dec.{eqb}
 use borrow.Author.Tests.{eq-eqb, ne-eqb}
-use Rattle.definitions.specs.Calls.{needed}
 use Rattle.image_format.specs.Held.{trie-in}
 use Rattle.image_format.specs.Reading.{Layout, right, refused}
 use Rattle.image_format.specs.Check.{check-image}
-use Rattle.memory_header.specs.Layout.{Header, header-at, payload-size}
+use Rattle.memory_header.specs.Layout.{Header, payload-size}
 use Rattle.memory_header.specs.Answers.{header-of, heading-at}
-use Rattle.index_memory.specs.Log.{log-in}
-use Rattle.index_memory.specs.Index.{Index, broken, finished, image-part, if-right, finished-index, log-right, order-right, read-index}
+use Rattle.index_memory.specs.Index.{broken, finished, image-part, if-right, finished-index, log-right, order-right}
 use Rattle.memory_header.specs.declared.Header as C
 use Rattle.memory_header.proofs.HeaderFacts.{HeaderFacts, heading-is}
 use Rattle.index_memory.proofs.Holding.{index-broken, open-by-log, broken-by-log, broken-by-order, index-by-image}

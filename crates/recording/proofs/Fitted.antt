@@ -1,11 +1,10 @@
 -- A block that fits, once its pieces stand behind the log: they can be entered into the certificate. Assumes nothing.
 use Prim.Native.Nat.{ℕ, zero, suc, _+_, _-_, _*_, _≤_, _<_}
 use native.Mathlib.Omega.{arith}
-use mathlib.Core.Path.{_≡_, refl, sym, ap, _∙_, subst}
-use mathlib.Core.Bool.{true}
+use mathlib.Core.Path.{_≡_, sym, ap, _∙_, subst}
 use mathlib.Core.Logic.{_⊎_, inl, inr}
 use mathlib.Core.List.{List, [], _∷_, _++_, List·Memᴰ as Mem, List·Memᴰ·append-cases as append-cases}
-use lib.ListN.{length, getD, take, drop, length-append, length-take, length-drop}
+use lib.ListN.{length, getD, drop, length-take, length-drop}
 use lib.Seq.{sets, length-sets, getD-append-add}
 use borrow.Author.Tests.{eq-eqb}
 use Rattle.words.specs.Holding.{Holds}
@@ -16,9 +15,9 @@ use Rattle.definitions.specs.Conflicts.{free}
 use Rattle.definitions.proofs.Conflicts.{free-added}
 use Rattle.location.specs.Fits.{Fits}
 use Rattle.memory_header.specs.Layout.{Header, work-at}
-use Rattle.index_memory.specs.Log.{log-in, log-bytes, log-sound}
-use Rattle.index_memory.proofs.LogBytes.{AllFit, AllSound, PieceSound, length-log, log-written, log-append, log-elsewhere, length-log-in, log-sound-is, is-log-sound}
-use Rattle.conflicts.specs.Order.{enter-piece, enter-all, ordered, certificate, entries-bytes, nothing, nth}
+use Rattle.index_memory.specs.Log.{log-in, log-bytes}
+use Rattle.index_memory.proofs.LogBytes.{AllSound, PieceSound, length-log, log-written, log-append, log-elsewhere, length-log-in, log-sound-is, is-log-sound}
+use Rattle.conflicts.specs.Order.{enter-all, ordered, certificate, entries-bytes, nothing, nth}
 use Rattle.conflicts.specs.Promises.{filled}
 use Rattle.conflicts.proofs.Order.{ordered-append}
 use Rattle.certificate.specs.Stored.{pieces-in, Stored}

@@ -22,7 +22,7 @@ use Rattle.index_memory.proofs.Holding.{OpenIs, open-is, open-room, open-counte
 use Rattle.certificate.specs.Entries.{LogWithin}
 use Rattle.judging.specs.Judged.{Verdict, counted, refused}
 use Rattle.recording.specs.Record.{appended, record-by, record-memory}
-use Rattle.recording.specs.Enter.{Pending, entered, settled}
+use Rattle.recording.specs.Enter.{Pending, settled}
 use Rattle.recording.specs.Recorded.{recorded-as}
 use Rattle.recording.specs.declared.Recorded.{Recorded}
 use Rattle.recording.specs.declared.Recorded.the-variants.{Taken, Refused}

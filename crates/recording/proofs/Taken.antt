@@ -15,7 +15,6 @@ use Rattle.definitions.proofs.Tallied.{nodes-with, entries-with}
 use Rattle.definitions.proofs.Checks.{none-applies}
 use Rattle.definitions.proofs.Conflicts.{free-added}
 use Rattle.definitions.proofs.Taken.{passed}
-use Rattle.location.specs.Fits.{Fits}
 use Rattle.memory_header.specs.Layout.{Room}
 use Rattle.index_memory.specs.Index.{open-header}
 use Rattle.certificate.specs.Stored.{pieces-in, Stored}

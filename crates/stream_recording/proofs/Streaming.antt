@@ -19,7 +19,7 @@ use Rattle.block_stream.proofs.Bounds.{BlockRead, block-read}
 use Rattle.judging.specs.Judged.{Verdict, counted}
 use Rattle.judging.specs.Judged as J
 use Rattle.recording.specs.Record.{logged, record-memory}
-use Rattle.recording.specs.Enter.{Pending, judged-by-kind, unless-turned-back, entered, settled}
+use Rattle.recording.specs.Enter.{Pending, judged-by-kind, unless-turned-back, settled}
 use Rattle.recording.proofs.Entering.{some-number, entered-records, entered-pending}
 use Rattle.stream_recording.specs.Stream.{StreamDone, stopped, behind, on-or-stopped, record-read, record-from, stream-by, record-stream}
 use Rattle.stream_recording.specs.Progress.{Progress, halted, on-or-halted, next-progress, entered-next}

@@ -1,8 +1,8 @@
 -- `certificate::group_apart` meets its contract: none of the entries before g is met. Assumes nothing.
-use Prim.Native.Nat.{ℕ, _-_, _≤_, _<_}
+use Prim.Native.Nat.{ℕ, _-_, _≤_}
 use native.Mathlib.Omega.{arith}
 use mathlib.Core.Path.{_≡_, ap, subst}
-use mathlib.Core.Bool.{Bool, true, false}
+use mathlib.Core.Bool.{Bool}
 use borrow.Author.Tests.{leb-true, not-true, not-false}
 use denote.Ref.{now}
 use Rattle.definitions.specs.Location.{Location}

@@ -1,11 +1,10 @@
 -- `certificate::group_end` meets its contract: those from g to e - 1 are at one address. Assumes nothing.
-use Prim.Native.Nat.{ℕ, _+_, _-_, _≤_, _<_}
+use Prim.Native.Nat.{ℕ, _-_, _≤_, _<_}
 use native.Mathlib.Omega.{arith}
 use mathlib.Core.Path.{_≡_, ap}
 use borrow.Author.Tests.{ltb-true, ltb-false}
 use denote.Ref.{now}
 use Rattle.definitions.specs.Location.{Location}
-use Rattle.location.specs.Plain.{plain}
 use Rattle.lined_locations.specs.Line.{location-of}
 use Rattle.certificate.proofs.Groups.{one-more}
 use Rattle.certificate.proofs.Stored.{inside-number}

@@ -1,5 +1,5 @@
 -- `certificate::reach` meets its contract: the pieces before entry j don't go beyond the end so far. Assumes nothing.
-use Prim.Native.Nat.{ℕ, _-_, _≤_, _<_}
+use Prim.Native.Nat.{ℕ, _-_, _≤_}
 use native.Mathlib.Omega.{arith}
 use borrow.Author.Tests.{ltb-true, ltb-false}
 use denote.Ref.{now}
