@@ -144,6 +144,16 @@ module _ (n : ℕ) (at : ℕ → Location) (s : Lined n at) (end : ℕ → ℕ) 
 
 -- ── all addresses ──
 
+-- where the next is not inside a piece, none behind it is
+pub none-alone : (m : List ℕ) (v : Line) → Inside m v → (i : ℕ) → i < v .count → (ltb (i + 1) (v .count) && ltb (location-of m v (i + 1) .address) (piece-end m v i)) ≡ false → lives-inside m v i ≡ false
+none-alone m v d i l t = is-false (lives-inside m v i) (λ u. go (lives-among-is (v .count) (location-of m v) (i + 1) (location-of m v i) (piece-end m v i) (omega arith) .0 u))
+  where
+    go : LivesAmong (v .count) (location-of m v) (i + 1) (location-of m v i) (piece-end m v i) → ⊥
+    go w =
+        let c : i + 1 < v .count = omega (arith, w .low, w .high) in
+        let b : location-of m v (i + 1) .address < piece-end m v i = omega (arith, upto (v .count) (location-of m v) (d .lined) (i + 1) (w .index) (w .low) (w .high) .by-address, w .below) in
+        not-both t (and-true (lt-ltb (i + 1) (v .count) c) (lt-ltb (location-of m v (i + 1) .address) (piece-end m v i) b))
+
 module _ (m : List ℕ) (v : Line) (d : Inside m v) (i e : ℕ) (a : Group (v .count) (location-of m v) i e) where
   abbrev at : ℕ → Location
   at = location-of m v

@@ -214,6 +214,19 @@ fn group_apart(mem: &[u8], v: Line, i: usize, e: usize) -> bool
     true
 }
 
+// Whether the next entry is at an address inside the piece of entry i. Where it isn't, none behind it is.
+fn next_inside(mem: &[u8], v: Line, i: usize) -> bool
+    requires { ⌜ Inside (now mem) v × (i < v .count) ⌝ }
+    ensures { λ r. ⌜ r ≡ (ltb (i + 1) (v .count) && ltb (location-of (now (mem .entry)) v (i + 1) .address) (piece-end (now (mem .entry)) v i)) ⌝ }
+{
+    if v.count <= i + 1 {
+        return false;
+    }
+    let end = piece_end(mem, v, i);
+    let next = lined_locations::location(mem, v, i + 1);
+    next.address.0 < end
+}
+
 // Whether no piece behind another in line lives together with it at an address inside it.
 fn none_inside(mem: &[u8], v: Line) -> bool
     requires { ⌜ Inside (now mem) v ⌝ }
@@ -221,11 +234,15 @@ fn none_inside(mem: &[u8], v: Line) -> bool
 {
     let mut i = 0;
     while i < v.count {
-        let e = group_end(mem, v, i);
-        if !group_apart(mem, v, i, e) {
-            return false;
+        if next_inside(mem, v, i) {
+            let e = group_end(mem, v, i);
+            if !group_apart(mem, v, i, e) {
+                return false;
+            }
+            i = e;
+        } else {
+            i += 1;
         }
-        i = e;
     }
     true
 }
