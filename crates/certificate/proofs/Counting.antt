@@ -49,13 +49,15 @@ module _ (m : List ℕ) (pieces : ℕ) (w : LogWithin m pieces) (s : log-sound m
   unfolding log-in
   log-next k = log-append m k 1 64
 
-  -- the length that stands before a piece of the log is its own
-  long : (k : ℕ) → k < pieces → length (piece-in m (64 + 48 * k) .bytes) ≡ le64 m (64 + 48 * k)
-  long k l =
-      let r : 64 + 48 * k + 48 ≤ length m = omega (arith, w .0) in
+  -- the length that stands before a piece of the log is at most 16, and its own
+  pub size-small : (k : ℕ) → k < pieces → le64 m (64 + 48 * k) ≤ 16
+  size-small k l =
       let e : length (nth (log-in m pieces 64) k .bytes) ≡ length (piece-in m (64 + 48 * k) .bytes) = ap (λ (p : Piece). length (p .bytes)) (log-nth m pieces 64 k l) in
       let t = log-sound-is m pieces 64 (w .0) s (nth (log-in m pieces 64) k) (at-member (log-in m pieces 64) nothing k (omega (arith, length-log-in m pieces 64))) in
-      piece-length m (64 + 48 * k) r (piece-small m (64 + 48 * k) r (omega (arith, e, t .small)))
+      piece-small m (64 + 48 * k) (omega (arith, w .0)) (omega (arith, e, t .small))
+
+  long : (k : ℕ) → k < pieces → length (piece-in m (64 + 48 * k) .bytes) ≡ le64 m (64 + 48 * k)
+  long k l = piece-length m (64 + 48 * k) (omega (arith, w .0)) (size-small k l)
 
   pub filled-next : (k count x : ℕ) → k < pieces → count ≡ filled (log-in m k 64) → x ≡ cond (eqb (le64 m (64 + 48 * k)) 0) 0 1 → count + x ≡ filled (log-in m (k + 1) 64)
   filled-next k count x l c e =

@@ -1,4 +1,5 @@
 // The certificate of an open index: its entries in the order of the pieces, tested against the log.
+use definitions::PIECE_SIZE;
 use lined_locations::CERTIFIED_SIZE;
 use lined_locations::Line;
 use memory_header::HEADER_SIZE;
@@ -32,15 +33,14 @@ pub fn certificate_at(h: Header) -> usize
     HEADER_SIZE + NODE_SIZE * h.node_room + LOGGED_SIZE * h.entry_room
 }
 
-// One for a piece of the log that has a byte, none for one that has not.
+// One for a piece of the log that has a byte, none for one that has not. A length that is only compared with zero would be
+// loaded byte by byte.
 fn counted(mem: &[u8], k: usize) -> usize
-    requires { ⌜ (64 + 48 * k + 48 ≤ length (now mem)) × (k ≤ 1048576) ⌝ }
+    requires { ⌜ (64 + 48 * k + 48 ≤ length (now mem)) × (le64 (now mem) (64 + 48 * k) ≤ 16) ⌝ }
     ensures { λ r. ⌜ r ≡ cond (eqb (le64 (now (mem .entry)) (64 + 48 * k)) 0) 0 1 ⌝ }
 {
-    if words::get64(mem, HEADER_SIZE + LOGGED_SIZE * k) == 0 {
-        return 0;
-    }
-    1
+    let size = words::get64(mem, HEADER_SIZE + LOGGED_SIZE * k) as usize;
+    (size + PIECE_SIZE - 1) / PIECE_SIZE
 }
 
 // How many of the pieces in the log have a byte.
@@ -59,7 +59,7 @@ pub fn filled(mem: &[u8], pieces: usize) -> usize
 
 // Whether entry i of the certificate has the number of a piece with a byte, and its end.
 fn entry_right(mem: &[u8], base: usize, pieces: usize, i: usize) -> bool
-    requires { ⌜ LogWithin (now mem) pieces × (base + 16 * i + 16 ≤ length (now mem)) ⌝ }
+    requires { ⌜ LogWithin (now mem) pieces × (log-sound (now mem) pieces 64 ≡ true) × (base + 16 * i + 16 ≤ length (now mem)) ⌝ }
     ensures { λ r. ⌜ r ≡ entry-right (now (mem .entry)) base pieces i ⌝ }
 {
     let at = base + CERTIFIED_SIZE * i;
@@ -67,16 +67,16 @@ fn entry_right(mem: &[u8], base: usize, pieces: usize, i: usize) -> bool
     if pieces <= number {
         return false;
     }
-    let piece = HEADER_SIZE + LOGGED_SIZE * number;
-    if words::get64(mem, piece) == 0 {
+    if counted(mem, number) == 0 {
         return false;
     }
+    let piece = HEADER_SIZE + LOGGED_SIZE * number;
     words::get64(mem, at + 8) == words::get64(mem, piece + PIECE_END)
 }
 
 // Whether the first n entries do.
 fn entries_right(mem: &[u8], base: usize, pieces: usize, n: usize) -> bool
-    requires { ⌜ LogWithin (now mem) pieces × (base + 16 * n ≤ length (now mem)) ⌝ }
+    requires { ⌜ LogWithin (now mem) pieces × (log-sound (now mem) pieces 64 ≡ true) × (base + 16 * n ≤ length (now mem)) ⌝ }
     ensures { λ r. ⌜ r ≡ all (entry-right (now (mem .entry)) base pieces) n ⌝ }
 {
     let mut i = 0;

@@ -20,7 +20,7 @@ loop-holds : tie.Need-loop-holds Inv-loop μ-loop
 loop-holds c = let a = c .before .args in (omega arith, all-start (entry-right (now (a .mem)) (a .base) (a .pieces)))
 
 entry-right-requires : tie.Need-entry-right-requires Inv-loop μ-loop
-entry-right-requires c κs = (c .before .before .before .pre .0, omega (arith, c .before .before .before .pre .1))
+entry-right-requires c κs = let s = c .before .before .before in (s .pre .0, s .pre .1, omega (arith, s .pre .2))
 
 returns : tie.Need-returns Inv-loop μ-loop
 returns c =

@@ -5,7 +5,7 @@ use mathlib.Core.Path.{_≡_, ap, _∙_}
 use denote.Ref.{now}
 use Rattle.conflicts.specs.Promises.{filled}
 use Rattle.index_memory.specs.Log.{log-in}
-use Rattle.certificate.proofs.Counting.{filled-start, filled-next, filled-few}
+use Rattle.certificate.proofs.Counting.{size-small, filled-start, filled-next, filled-few}
 use Rattle.certificate.proofs.filled.Statement.{statement}
 use Rattle.certificate.proofs.filled.Tie as tie
 
@@ -21,7 +21,9 @@ loop-holds c =
     (omega arith, omega arith, filled-start (now (s .args .mem)) (s .args .pieces) (s .pre .0) (s .pre .1))
 
 counted-requires : tie.Need-counted-requires Inv-loop μ-loop
-counted-requires c κs = let p = c .before .before .before .pre .0 in (omega (arith, p .0), omega (arith, p .1))
+counted-requires c κs =
+    let s = c .before .before .before in
+    (omega (arith, s .pre .0 .0), size-small (now (s .args .mem)) (s .args .pieces) (s .pre .0) (s .pre .1) (c .before .loop .k) (omega arith))
 
 add-count : tie.Need-add-count Inv-loop μ-loop
 add-count c =

@@ -29,7 +29,7 @@ entries-right-requires c κs =
     let m = now (s .args .mem) in
     let b : (j : ℕ) → getD m j 0 < 256 = λ j. omega (arith, k .shared-slice-known .given j) in
     let h = header-of (s .args .h) in
-    (log-within m b h (s .pre .0) (s .pre .1) (s .pre .2), entries-room m b h (s .pre .0) (s .pre .1) (s .pre .2) (c .before .certificate-at .result) (c .filled .result) (c .before .certificate-at .ensures) (c .filled .ensures))
+    (log-within m b h (s .pre .0) (s .pre .1) (s .pre .2), sound m b h (s .pre .0) (s .pre .1) (s .pre .2), entries-room m b h (s .pre .0) (s .pre .1) (s .pre .2) (c .before .certificate-at .result) (c .filled .result) (c .before .certificate-at .ensures) (c .filled .ensures))
 
 returns : tie.Need-returns
 returns c =
