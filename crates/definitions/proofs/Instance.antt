@@ -2,11 +2,11 @@
 use native.Mathlib.Omega.{arith}
 use mathlib.Core.Path.{_≡_, refl}
 use mathlib.Core.List.{List, [], _∷_, List·Memᴰ·head as here}
-use Rattle.definitions.specs.Blocks.{Block}
+use Rattle.definitions.specs.Location.{location}
+use Rattle.definitions.specs.Blocks.{Block, bytes-at}
 use Rattle.definitions.specs.Runs.{LongestRun}
 use Rattle.definitions.specs.Recording.{Call, record-block, finish, taken}
 use Rattle.definitions.specs.Program.{program-capacity}
-use Rattle.definitions.specs.Starred.{bytes-at, location}
 use Rattle.definitions.proofs.Taken.{recording-rows}
 
 abbrev first : Block

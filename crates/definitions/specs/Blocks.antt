@@ -4,12 +4,16 @@ use mathlib.Core.Bool.{cond}
 use mathlib.Core.List.{List, [], _∷_, _++_}
 use lib.ListN.{length, take, drop}
 use lib.Dec.{leb}
-use Rattle.definitions.specs.Location.{Location, moved}
+use Rattle.definitions.specs.Location.{Location, location, moved}
 
 -- these bytes, at this address, from this tick to that
 pub record Block : Type 0 where
   pub bytes : List ℕ
   pub at : Location
+
+-- by its bytes and numbers
+abbrev pub bytes-at : List ℕ → (address created destroyed : ℕ) → Block
+bytes-at bs a c d = record { bytes = bs; at = location a c d }
 
 -- a piece is a block of at most 16 bytes
 abbrev pub Piece : Type 0

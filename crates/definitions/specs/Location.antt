@@ -13,6 +13,10 @@ pub record Location : Type 0 where
   pub created : ℕ
   pub destroyed : ℕ
 
+-- by its numbers
+abbrev pub location : (address created destroyed : ℕ) → Location
+location a c d = record { address = a; created = c; destroyed = d }
+
 -- it lives at ticks t with created <= t < destroyed
 pub record Lives (l : Location) (t : ℕ) : Type 0 where
   pub from : l .created ≤ t

@@ -2,16 +2,10 @@
 use Prim.Native.Nat.{ℕ}
 use mathlib.Core.Path.{_≡_, refl}
 use mathlib.Core.List.{List, [], _∷_, _++_}
-use Rattle.definitions.specs.Location.{Location, normal}
-use Rattle.definitions.specs.Blocks.{Block, pieces}
+use Rattle.definitions.specs.Location.{location, normal}
+use Rattle.definitions.specs.Blocks.{bytes-at, pieces}
 use Rattle.definitions.specs.Calls.{fresh}
 use Rattle.definitions.specs.Program.{Form, block, finish, find, Reply, taken, finished, place, end, refused, run, text, line, reply-line}
-
-abbrev pub location : ℕ → ℕ → ℕ → Location
-location a c d = record { address = a; created = c; destroyed = d }
-
-abbrev pub bytes-at : List ℕ → ℕ → ℕ → ℕ → Block
-bytes-at bs a c d = record { bytes = bs; at = location a c d }
 
 abbrev memory : List ℕ → ℕ → ℕ → ℕ → Form
 memory bs a c d = block 1 (bytes-at bs a c d)

@@ -5,7 +5,7 @@ use mathlib.Core.Path.{_≡_, refl}
 use lib.ListN.{length, replicate, set, take}
 use Rattle.definitions.specs.Location.{locations-bytes}
 use Rattle.words.specs.Words.{bytes64, le64}
-use Rattle.definitions.specs.Starred.{bytes-at}
+use Rattle.definitions.specs.Blocks.{bytes-at}
 use Rattle.trie.specs.Build.{trie-of}
 use Rattle.trie.specs.Trie.{Forest, leaf, more, no-lists, root}
 use Rattle.image_format.specs.Image.{as-child, children-bytes, children-of, children-size, image, list-bytes, lists-bytes, lists-size, node-bytes, node-size, table-by-arrival, table-bytes, table-size}

@@ -2,8 +2,8 @@
 use mathlib.Core.Path.{_≡_, refl}
 use mathlib.Core.Bool.{true, false}
 use mathlib.Core.List.{List, [], _∷_}
-use Rattle.definitions.specs.Location.{Location}
-use Rattle.definitions.specs.Starred.{location, bytes-at}
+use Rattle.definitions.specs.Location.{Location, location}
+use Rattle.definitions.specs.Blocks.{bytes-at}
 use Rattle.trie.specs.Trie.{Lists, Forest, leaf, more, Node, Trie, root, collect}
 use Rattle.trie.specs.Build.{trie-of}
 use Rattle.trie.specs.Test.{index-rule}
