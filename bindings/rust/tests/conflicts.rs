@@ -47,6 +47,57 @@ fn every_place_and_life_around_a_block() -> Done {
     Ok(())
 }
 
+/// Where and when a block of so many bytes stands.
+#[derive(Clone, Copy)]
+struct Place {
+    address: u64,
+    size: u64,
+    created_at: u64,
+    destroyed_at: u64,
+}
+
+impl Place {
+    fn shares_with(self, other: Place) -> bool {
+        let bytes = |p: Place| p.address..p.address + p.size;
+        let ticks = |p: Place| p.created_at..p.destroyed_at;
+        bytes(self).any(|a| bytes(other).contains(&a)) && ticks(self).any(|t| ticks(other).contains(&t))
+    }
+
+    /// The index with a block there, and all that is held then.
+    fn taken(self, index: &Index, held: &[Place]) -> Option<(Index, Vec<Place>)> {
+        let mut copy = index.clone();
+        let answer = copy.record(Kind::Memory, self.address, self.created_at, self.destroyed_at, &b"abc"[..self.size as usize]);
+        if held.iter().any(|p| self.shares_with(*p)) {
+            assert_eq!(answer, Err(Refusal::Conflict));
+            assert!(copy.memory() == index.memory());
+            return None;
+        }
+        assert_eq!(answer, Ok(()));
+        Some((copy, held.iter().copied().chain([self]).collect()))
+    }
+}
+
+/// Each index with a block at each of these places, where it is taken.
+fn all_taken<'a>(indexes: &'a [(Index, Vec<Place>)], places: &'a [Place]) -> impl Iterator<Item = (Index, Vec<Place>)> + 'a {
+    indexes.iter().flat_map(move |(index, held)| places.iter().filter_map(move |p| p.taken(index, held)))
+}
+
+/// All lists of three blocks of up to three bytes at addresses 0 to 3, within ticks 0 to 3, into an index that three of them can fill.
+#[test]
+fn every_list_of_three_blocks() -> Done {
+    let lives = [(0, 1), (0, 2), (0, 3), (1, 2), (1, 3), (2, 3)];
+    let places: Vec<Place> = (0..4)
+        .flat_map(|address| (0..4).map(move |size| (address, size)))
+        .flat_map(|(address, size)| lives.map(|(created_at, destroyed_at)| Place { address, size, created_at, destroyed_at }))
+        .collect();
+    let none = [(Index::new(19, 18)?, vec![])];
+    let one: Vec<_> = all_taken(&none, &places).collect();
+    let two: Vec<_> = all_taken(&one, &places).collect();
+    let three = all_taken(&two, &places).count();
+    assert_eq!((places.len(), two.len(), three), (96, 7032, 433_620));
+    Ok(())
+}
+
 #[test]
 fn each_byte_of_a_long_block() -> Done {
     let data: Vec<u8> = (0..40).collect();

@@ -4,7 +4,8 @@
 //!     cd oracle && cargo run --release --offline --features parts --bin bench
 //!
 //! Of request 2 it times the test of images with and without its part that looks for conflicts, on blocks, on label buffers and on
-//! images made to be slow; a call on an open index; and streams, in the order of addresses and in others.
+//! images made to be slow; a call on an open index; and streams, in the order of addresses and in others. With the word `long` behind
+//! `--` it times the longest streams alone.
 use dataflow::prelude::SpaceKind;
 use oracle::index::string_index::StringIndex;
 use oracle::index::{Index, Serializable, SpacetimeBlock};
@@ -55,31 +56,35 @@ fn copy(b: &SpacetimeBlock) -> SpacetimeBlock {
     block(b.address, b.created_at, b.destroyed_at, b.data.clone())
 }
 
-/// The middle of some timings, in microseconds.
-fn middle<F: FnMut()>(times: usize, mut f: F) -> f64 {
-    let mut taken: Vec<f64> = (0..times)
-        .map(|_| {
-            let t = Instant::now();
-            f();
-            t.elapsed().as_secs_f64() * 1e6
-        })
-        .collect();
-    taken.sort_by(f64::total_cmp);
-    taken[times / 2]
+fn middle_of(mut figures: Vec<f64>) -> f64 {
+    figures.sort_by(f64::total_cmp);
+    figures[figures.len() / 2]
 }
 
-/// The middle of nine timings in milliseconds, the caches filled with other bytes before each.
-fn cold<F: FnMut() -> u64>(other: &mut [u8], mut f: F) -> f64 {
-    let mut taken = Vec::new();
-    for round in 0..9u8 {
-        other.iter_mut().for_each(|b| *b = b.wrapping_add(round));
-        black_box(&other);
+/// The middle of some timings, in microseconds.
+fn middle<F: FnMut()>(times: usize, mut f: F) -> f64 {
+    let timed = |_| {
         let t = Instant::now();
-        black_box(f());
-        taken.push(t.elapsed().as_secs_f64() * 1e3);
+        f();
+        t.elapsed().as_secs_f64() * 1e6
+    };
+    middle_of((0..times).map(timed).collect())
+}
+
+/// 21 timings of each in milliseconds. They are made in turn, so that other work on the machine meets all of them, and the caches are
+/// filled with other bytes before each.
+fn cold<const N: usize>(other: &mut [u8], parts: [&dyn Fn() -> u64; N]) -> [Vec<f64>; N] {
+    let mut taken = [(); N].map(|()| Vec::new());
+    for round in 0..21u8 {
+        for (part, times) in parts.iter().zip(&mut taken) {
+            other.iter_mut().for_each(|b| *b = b.wrapping_add(round));
+            black_box(&other);
+            let t = Instant::now();
+            black_box(part());
+            times.push(t.elapsed().as_secs_f64() * 1e3);
+        }
     }
-    taken.sort_by(f64::total_cmp);
-    taken[4]
+    taken
 }
 
 /// The nodes and entries that blocks charge, one of them the root.
@@ -140,11 +145,30 @@ fn longer_streams(mem: &mut [u8]) {
         time_stream(mem, &format!("{n} blocks of 7 bytes, by address"), &made);
         made.reverse();
         time_stream(mem, &format!("{n} blocks of 7 bytes, backwards"), &made);
-        let mut r = Random(5);
-        (1..n).rev().for_each(|i| made.swap(i, r.between(0, i)));
+        in_any_order(&mut made);
         time_stream(mem, &format!("{n} blocks of 7 bytes, in any order"), &made);
     }
     time_stream(mem, "label buffer of 64 bytes, cut anew, by tick", &label(64, false));
+}
+
+/// Streams of up to as many blocks as a capacity holds, once each: these take minutes.
+fn longest_streams(mem: &mut [u8]) {
+    println!("{:44} {:>12}", "a stream, seconds", "the call");
+    for n in [65_536, 131_072, 262_144, 524_288] {
+        let mut made = single_bytes(|i| i);
+        made.truncate(n);
+        let mut time = |order: &str, made: &[SpacetimeBlock]| println!("{:44} {:12.3}", format!("{n} blocks of one byte, {order}"), stream_call(mem, made) / 1e6);
+        time("by address", &made);
+        made.reverse();
+        time("backwards", &made);
+        in_any_order(&mut made);
+        time("in any order", &made);
+    }
+}
+
+fn in_any_order(made: &mut [SpacetimeBlock]) {
+    let mut r = Random(5);
+    (1..made.len()).rev().for_each(|i| made.swap(i, r.between(0, i)));
 }
 
 fn time_stream(mem: &mut [u8], name: &str, made: &[SpacetimeBlock]) {
@@ -161,10 +185,16 @@ fn open_calls(mem: &mut [u8]) {
     time_open(mem, "blocks of one byte", &single_bytes(|i| i));
 }
 
-/// The call is refused behind the test of the memory: a record of kind 5.
+/// The call is refused behind the test of the memory: a record of kind 5. The best of many, a tenth of a second in all or longer.
 fn time_open(mem: &mut [u8], name: &str, made: &[SpacetimeBlock]) {
     stream_call(mem, made);
-    let call = middle(101, || assert_eq!(linked::record(mem, 5, 0, 1, 2, b"x"), 14));
+    let mut record = || {
+        let t = Instant::now();
+        assert_eq!(linked::record(mem, 5, 0, 1, 2, b"x"), 14);
+        t.elapsed().as_secs_f64() * 1e6
+    };
+    let times = (1e5 / record()) as usize + 9;
+    let call = (0..times).map(|_| record()).min_by(f64::total_cmp).unwrap();
     println!("{:44} {call:12.1}", format!("{name}, {} pieces", made.len()));
 }
 
@@ -176,11 +206,11 @@ fn image_of(mem: &[u8]) -> &[u8] {
 fn test_of_image(name: &str, image: &[u8]) {
     let mut other = vec![1u8; 256 << 20];
     assert_eq!((bench_parts::check(image), bench_parts::judge(image)), (0, 0));
-    let read = cold(&mut other, || image.chunks_exact(8).fold(0u64, |s, c| s ^ u64::from_le_bytes(c.try_into().unwrap())));
-    let layout = cold(&mut other, || bench_parts::layout(image));
-    let check = cold(&mut other, || bench_parts::check(image));
-    let judge = cold(&mut other, || bench_parts::judge(image));
-    println!("{name}: image of {} bytes: read once {read:.2} ms, layout {layout:.2} ms ({:.1} times), layout and rule {check:.2} ms ({:.1} times), with conflicts {judge:.2} ms ({:.1} times)", image.len(), layout / read, check / read, judge / read);
+    let words = || image.chunks_exact(8).fold(0u64, |s, c| s ^ u64::from_le_bytes(c.try_into().unwrap()));
+    let [read, layout, check, judge] = cold(&mut other, [&words, &|| bench_parts::layout(image), &|| bench_parts::check(image), &|| bench_parts::judge(image)]);
+    let share = middle_of(judge.iter().zip(&check).map(|(with, without)| with / without).collect());
+    let [read, layout, check, judge] = [read, layout, check, judge].map(middle_of);
+    println!("{name}: image of {} bytes: read once {read:.2} ms, layout {layout:.2} ms ({:.1} times), layout and rule {check:.2} ms ({:.1} times), with conflicts {judge:.2} ms ({:.1} times); with against without, round by round: {share:.2} times", image.len(), layout / read, check / read, judge / read);
 }
 
 /// A label buffer: so many bytes, written anew every ten ticks in blocks of up to 16 bytes, as often as a capacity holds; cut the same
@@ -261,6 +291,9 @@ fn tests_of_odd_images(mem: &mut [u8]) {
 
 fn main() {
     let mut mem = vec![1u8; 64 + (64 + 104) * 1_048_576];
+    if std::env::args().any(|word| word == "long") {
+        return longest_streams(&mut mem);
+    }
     finished(&mut mem, &blocks(7500, 16, 16));
     test_of_image("7,500 blocks of 16 bytes", image_of(&mem));
 
