@@ -9,8 +9,9 @@
 use dataflow::prelude::SpaceKind;
 use oracle::index::string_index::StringIndex;
 use oracle::index::{Index, Serializable, SpacetimeBlock};
-use oracle::linked;
 use oracle::bench_parts;
+use oracle::linked;
+use oracle::random;
 use oracle::sink::Sink;
 use std::hint::black_box;
 use std::time::Instant;
@@ -61,14 +62,16 @@ fn middle_of(mut figures: Vec<f64>) -> f64 {
     figures[figures.len() / 2]
 }
 
-/// The middle of some timings, in microseconds.
+/// How long it takes, in microseconds.
+fn timed<F: FnMut()>(mut f: F) -> f64 {
+    let t = Instant::now();
+    f();
+    t.elapsed().as_secs_f64() * 1e6
+}
+
+/// The middle of some timings.
 fn middle<F: FnMut()>(times: usize, mut f: F) -> f64 {
-    let timed = |_| {
-        let t = Instant::now();
-        f();
-        t.elapsed().as_secs_f64() * 1e6
-    };
-    middle_of((0..times).map(timed).collect())
+    middle_of((0..times).map(|_| timed(&mut f)).collect())
 }
 
 /// 21 timings of each in milliseconds. They are made in turn, so that other work on the machine meets all of them, and the caches are
@@ -79,9 +82,7 @@ fn cold<const N: usize>(other: &mut [u8], parts: [&dyn Fn() -> u64; N]) -> [Vec<
         for (part, times) in parts.iter().zip(&mut taken) {
             other.iter_mut().for_each(|b| *b = b.wrapping_add(round));
             black_box(&other);
-            let t = Instant::now();
-            black_box(part());
-            times.push(t.elapsed().as_secs_f64() * 1e3);
+            times.push(timed(|| { black_box(part()); }) / 1e3);
         }
     }
     taken
@@ -102,9 +103,7 @@ fn finished(mem: &mut [u8], blocks: &[SpacetimeBlock]) -> (f64, f64) {
         assert_eq!(linked::record(mem, 1, b.address, b.created_at, b.destroyed_at, &b.data), 0);
     }
     let record = t.elapsed().as_secs_f64() * 1e6;
-    let t = Instant::now();
-    assert_eq!(linked::finish(mem), 0);
-    (record, t.elapsed().as_secs_f64() * 1e6)
+    (record, timed(|| assert_eq!(linked::finish(mem), 0)))
 }
 
 /// Records all blocks as one stream in a lent memory: the time of the call, in microseconds.
@@ -123,9 +122,7 @@ fn stream_call(mem: &mut [u8], blocks: &[SpacetimeBlock]) -> f64 {
 /// The same, and finishes.
 fn streamed(mem: &mut [u8], blocks: &[SpacetimeBlock]) -> (f64, f64) {
     let record = stream_call(mem, blocks);
-    let t = Instant::now();
-    assert_eq!(linked::finish(mem), 0);
-    (record, t.elapsed().as_secs_f64() * 1e6)
+    (record, timed(|| assert_eq!(linked::finish(mem), 0)))
 }
 
 /// The shortest of five, both times together.
@@ -145,7 +142,7 @@ fn longer_streams(mem: &mut [u8]) {
         time_stream(mem, &format!("{n} blocks of 7 bytes, by address"), &made);
         made.reverse();
         time_stream(mem, &format!("{n} blocks of 7 bytes, backwards"), &made);
-        in_any_order(&mut made);
+        random::Random::new(5).shuffle(&mut made);
         time_stream(mem, &format!("{n} blocks of 7 bytes, in any order"), &made);
     }
     time_stream(mem, "label buffer of 64 bytes, cut anew, by tick", &label(64, false));
@@ -161,14 +158,9 @@ fn longest_streams(mem: &mut [u8]) {
         time("by address", &made);
         made.reverse();
         time("backwards", &made);
-        in_any_order(&mut made);
+        random::Random::new(5).shuffle(&mut made);
         time("in any order", &made);
     }
-}
-
-fn in_any_order(made: &mut [SpacetimeBlock]) {
-    let mut r = Random(5);
-    (1..made.len()).rev().for_each(|i| made.swap(i, r.between(0, i)));
 }
 
 fn time_stream(mem: &mut [u8], name: &str, made: &[SpacetimeBlock]) {
@@ -188,11 +180,7 @@ fn open_calls(mem: &mut [u8]) {
 /// The call is refused behind the test of the memory: a record of kind 5. The best of many, a tenth of a second in all or longer.
 fn time_open(mem: &mut [u8], name: &str, made: &[SpacetimeBlock]) {
     stream_call(mem, made);
-    let mut record = || {
-        let t = Instant::now();
-        assert_eq!(linked::record(mem, 5, 0, 1, 2, b"x"), 14);
-        t.elapsed().as_secs_f64() * 1e6
-    };
+    let mut record = || timed(|| assert_eq!(linked::record(mem, 5, 0, 1, 2, b"x"), 14));
     let times = (1e5 / record()) as usize + 9;
     let call = (0..times).map(|_| record()).min_by(f64::total_cmp).unwrap();
     println!("{:44} {call:12.1}", format!("{name}, {} pieces", made.len()));
