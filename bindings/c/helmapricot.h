@@ -43,7 +43,8 @@ enum helmapricot_answer {
     HELMAPRICOT_IMAGE_BROKEN = 15,          /* image layout or index rule broken, bytes left over */
     HELMAPRICOT_CAPACITY_REFUSED = 16,      /* opening with 0 or over 1,048,576 nodes or entries, or in too little memory */
     HELMAPRICOT_NO_FORM = 17,               /* a program's line is no form */
-    HELMAPRICOT_CONFLICT = 18               /* shares a byte address and a live tick with a piece held (load: two pieces do) */
+    HELMAPRICOT_CONFLICT = 18,              /* shares a byte address and a live tick with a piece held (load: two pieces do) */
+    HELMAPRICOT_WRONG_NUMBER = 19           /* typed number: its length, a character or the check is wrong */
 };
 
 /* The kinds of a block. Memory blocks are recorded; the others are taken and change nothing. */
@@ -67,6 +68,8 @@ enum helmapricot_node_kind {
 #define HELMAPRICOT_DATA_LIMIT 4096        /* bytes of a block */
 #define HELMAPRICOT_QUERY_LIMIT 256        /* bytes of a query */
 #define HELMAPRICOT_CAPACITY_LIMIT 1048576 /* nodes, and entries */
+#define HELMAPRICOT_NUMBER_SIZE 13         /* characters of a donation number */
+#define HELMAPRICOT_TYPED_SIZE 14          /* the same with its check character */
 #define HELMAPRICOT_PIECE_SIZE 16          /* a block is cut from its front into pieces of so many bytes */
 
 /* Sizes, in bytes. */
@@ -136,6 +139,14 @@ uint64_t helmapricot_finish(uint8_t *mem, size_t mem_len);
  * Answers 0, or 1, 3, 9, 10, 11. *count stays as it was where it is refused. */
 uint64_t helmapricot_search(const uint8_t *mem, size_t mem_len, const uint8_t *query, size_t query_len, uint8_t *scratch,
                             size_t scratch_len, struct helmapricot_row *rows, size_t rows_len, uint64_t *count);
+
+/* Searches for a donation number as the desk types it: 13 characters of 0-9 and A-Z, and the check character that ISO/IEC 7064
+ * MOD 37-2 gives them, 0-9, A-Z or *. The 13 are the query of helmapricot_search, and all that it hands over is the same. The
+ * length, a character or the check may be wrong (a small letter is): that is 19, and leaves scratch, too. A number with one
+ * place mistyped, or with two neighbours exchanged, never fits its check.
+ * Answers 0, or 1, 3, 19, 10, 11. *count stays as it was where it is refused. */
+uint64_t helmapricot_search_number(const uint8_t *mem, size_t mem_len, const uint8_t *typed, size_t typed_len, uint8_t *scratch,
+                                   size_t scratch_len, struct helmapricot_row *rows, size_t rows_len, uint64_t *count);
 
 /* Writes the image of a finished index to the front of out, and its size to *size; bytes behind the image stay. An image has
  * at most 64 * nodes + 48 * entries bytes, by the index's capacity.

@@ -17,7 +17,7 @@ enum { NODES = 20, ENTRIES = 40, ROOM = HELMAPRICOT_NEEDED(NODES, ENTRIES), UNTO
 
 static uint8_t memory[ROOM];
 static uint8_t before[ROOM];
-static uint8_t scratch[24 * HELMAPRICOT_PLACE_SIZE];
+static uint8_t scratch[100 * HELMAPRICOT_PLACE_SIZE];
 static uint8_t out[1024];
 static uint8_t long_data[HELMAPRICOT_DATA_LIMIT + 1];
 static struct helmapricot_row rows[8];
@@ -31,6 +31,15 @@ static void expect(const char *what, uint64_t expected, uint64_t got)
     }
     wrong++;
     printf("%s: %" PRIu64 " expected, %" PRIu64 " answered\n", what, expected, got);
+}
+
+/* 1 for a buffer that is as it was filled before a call. */
+static uint64_t left(const void *buffer, size_t size)
+{
+    for (size_t i = 0; i < size; i++)
+        if (((const uint8_t *)buffer)[i] != 0xee)
+            return 0;
+    return 1;
 }
 
 static void note(void)
@@ -57,14 +66,33 @@ static uint64_t record(uint64_t kind, uint64_t address, uint64_t created_at, uin
                               strlen(text));
 }
 
-static uint64_t search(const uint8_t *query, size_t query_len, size_t places, size_t room)
+typedef uint64_t search_call(const uint8_t *, size_t, const uint8_t *, size_t, uint8_t *, size_t, struct helmapricot_row *, size_t,
+                             uint64_t *);
+
+/* What a refusal leaves is looked at: the count, the rows and, but for 10 and 11, scratch. */
+static uint64_t searched(search_call *call, const uint8_t *query, size_t query_len, size_t places, size_t room)
 {
     uint64_t count = UNTOUCHED;
-    uint64_t answer = helmapricot_search(memory, sizeof memory, query, query_len, scratch, places * HELMAPRICOT_PLACE_SIZE,
-                                         rows, room, &count);
-    if (answer != HELMAPRICOT_DONE)
-        expect("a count after a refusal", UNTOUCHED, count);
+    memset(scratch, 0xee, sizeof scratch);
+    memset(rows, 0xee, sizeof rows);
+    uint64_t answer = call(memory, sizeof memory, query, query_len, scratch, places * HELMAPRICOT_PLACE_SIZE, rows, room, &count);
+    if (answer == HELMAPRICOT_DONE)
+        return answer;
+    expect("a count after a refusal", UNTOUCHED, count);
+    expect("1 for rows that are left", 1, left(rows, sizeof rows));
+    if (answer != HELMAPRICOT_SCRATCH_TOO_SMALL && answer != HELMAPRICOT_TOO_MANY_ROWS)
+        expect("1 for scratch that is left", 1, left(scratch, sizeof scratch));
     return answer;
+}
+
+static uint64_t search(const uint8_t *query, size_t query_len, size_t places, size_t room)
+{
+    return searched(helmapricot_search, query, query_len, places, room);
+}
+
+static uint64_t search_number(const char *typed, size_t places, size_t room)
+{
+    return searched(helmapricot_search_number, (const uint8_t *)typed, strlen(typed), places, room);
 }
 
 static uint64_t save(size_t room)
@@ -231,12 +259,44 @@ static void searching(void)
     leaves("a changed header", HELMAPRICOT_INDEX_RULE_BROKEN, search((const uint8_t *)"a", 1, 8, 8));
 }
 
+/* Thirteen zeros, put together from four writes, have check 1. From its byte i on, the first being 0, the query has i + 1 places. */
+static void numbers(void)
+{
+    opened(29, 26);
+    expect("a number's front", HELMAPRICOT_DONE, record(HELMAPRICOT_MEMORY, 100, 10, 50, "000"));
+    expect("its second part", HELMAPRICOT_DONE, record(HELMAPRICOT_MEMORY, 103, 10, 50, "000"));
+    expect("its third part", HELMAPRICOT_DONE, record(HELMAPRICOT_MEMORY, 106, 10, 50, "000"));
+    expect("its end", HELMAPRICOT_DONE, record(HELMAPRICOT_MEMORY, 109, 10, 50, "0000"));
+    note();
+    leaves("a right number before finish", HELMAPRICOT_BEFORE_FINISH, search_number("00000000000001", 100, 8));
+    leaves("a wrong number before finish", HELMAPRICOT_BEFORE_FINISH, search_number("0", 100, 8));
+    expect("finish", HELMAPRICOT_DONE, helmapricot_finish(memory, sizeof memory));
+    note();
+    leaves("nothing typed", HELMAPRICOT_WRONG_NUMBER, search_number("", 100, 8));
+    leaves("without its check", HELMAPRICOT_WRONG_NUMBER, search_number("0000000000000", 100, 8));
+    leaves("one character more", HELMAPRICOT_WRONG_NUMBER, search_number("000000000000010", 100, 8));
+    leaves("another check", HELMAPRICOT_WRONG_NUMBER, search_number("00000000000002", 100, 8));
+    leaves("a small letter", HELMAPRICOT_WRONG_NUMBER, search_number("g123498654321H", 100, 8));
+    leaves("a star inside", HELMAPRICOT_WRONG_NUMBER, search_number("000000000000*3", 100, 8));
+    leaves("a place too few", HELMAPRICOT_SCRATCH_TOO_SMALL, search_number("00000000000001", 90, 8));
+    leaves("a row too few", HELMAPRICOT_TOO_MANY_ROWS, search_number("00000000000001", 91, 0));
+    leaves("just enough", HELMAPRICOT_DONE, search_number("00000000000001", 91, 1));
+    expect("its address", 100, rows[0].address);
+    leaves("a number that stood nowhere", HELMAPRICOT_DONE, search_number("0000000000001*", 100, 0));
+    leaves("one with letters", HELMAPRICOT_DONE, search_number("G123498654321H", 100, 0));
+    memory[0] ^= 1;
+    note();
+    leaves("a right number, a changed header", HELMAPRICOT_INDEX_RULE_BROKEN, search_number("00000000000001", 100, 8));
+    leaves("a wrong number, a changed header", HELMAPRICOT_INDEX_RULE_BROKEN, search_number("0", 100, 8));
+}
+
 int main(void)
 {
     recording();
     streams();
     images();
     searching();
+    numbers();
     printf("%u answers as expected\n", right);
     return wrong != 0;
 }

@@ -9,6 +9,7 @@ pub mod level;
 pub mod linked;
 pub mod making;
 pub mod model;
+pub mod number;
 pub mod published;
 pub mod random;
 pub mod recording;

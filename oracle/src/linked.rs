@@ -16,6 +16,7 @@ extern "C" {
     fn helmapricot_record_stream(mem: *mut u8, len: usize, stream: *const u8, stream_len: usize, taken: *mut u64) -> u64;
     fn helmapricot_finish(mem: *mut u8, len: usize) -> u64;
     fn helmapricot_search(mem: *const u8, len: usize, q: *const u8, q_len: usize, scratch: *mut u8, scratch_len: usize, rows: *mut Row, rows_len: usize, count: *mut u64) -> u64;
+    fn helmapricot_search_number(mem: *const u8, len: usize, typed: *const u8, typed_len: usize, scratch: *mut u8, scratch_len: usize, rows: *mut Row, rows_len: usize, count: *mut u64) -> u64;
     fn helmapricot_save(mem: *const u8, len: usize, out: *mut u8, out_len: usize, size: *mut u64) -> u64;
     fn helmapricot_load(mem: *mut u8, len: usize, image: *const u8, image_len: usize) -> u64;
     fn helmapricot_read_block(s: *const u8, len: usize, at: usize, fields: *mut u64) -> u64;
@@ -36,11 +37,22 @@ pub fn finish(mem: &mut [u8]) -> u64 {
 /// What stands in a count or a size before a call; one that is refused leaves it.
 pub const UNWRITTEN: u64 = u64::MAX;
 
+type Search = unsafe extern "C" fn(*const u8, usize, *const u8, usize, *mut u8, usize, *mut Row, usize, *mut u64) -> u64;
+
+fn searched(call: Search, mem: &[u8], q: &[u8], scratch: &mut [u8], rows: &mut [Row]) -> (u64, u64) {
+    let mut count = UNWRITTEN;
+    let n = unsafe { call(mem.as_ptr(), mem.len(), q.as_ptr(), q.len(), scratch.as_mut_ptr(), scratch.len(), rows.as_mut_ptr(), rows.len(), &mut count) };
+    (n, count)
+}
+
 /// The number of the refusal, 0 for none, and how many rows there are.
 pub fn search(mem: &[u8], q: &[u8], scratch: &mut [u8], rows: &mut [Row]) -> (u64, u64) {
-    let mut count = UNWRITTEN;
-    let n = unsafe { helmapricot_search(mem.as_ptr(), mem.len(), q.as_ptr(), q.len(), scratch.as_mut_ptr(), scratch.len(), rows.as_mut_ptr(), rows.len(), &mut count) };
-    (n, count)
+    searched(helmapricot_search, mem, q, scratch, rows)
+}
+
+/// The same for a donation number that was typed with its check character.
+pub fn search_number(mem: &[u8], typed: &[u8], scratch: &mut [u8], rows: &mut [Row]) -> (u64, u64) {
+    searched(helmapricot_search_number, mem, typed, scratch, rows)
 }
 
 /// The number of the refusal, 0 for none, and how many bytes the image has.

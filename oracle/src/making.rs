@@ -1,6 +1,7 @@
 //! Recordings from a seed.
 use crate::level::Level;
 use crate::model::Bytes;
+use crate::number::{check, CHARACTERS, NUMBER_SIZE};
 use crate::random::Random;
 use crate::recording::{Block, Call, Domain, Location, Recording};
 
@@ -30,14 +31,40 @@ pub struct Maker {
     pub blocks: Vec<Block>,
     /// records among the others that conflict with a block before them, or nearly
     conflicts: bool,
+    /// the bytes are characters of donation numbers, and whole numbers are looked for
+    numbers: bool,
 }
 
 /// So many different bytes, in any order.
 pub fn alphabet(r: &mut Random, n: usize) -> Vec<u8> {
-    let mut all: Vec<u8> = (0..=255).collect();
+    some_of(r, (0..=255).collect(), n)
+}
+
+fn some_of(r: &mut Random, mut all: Vec<u8>, n: usize) -> Vec<u8> {
     r.shuffle(&mut all);
     all.truncate(n);
     all
+}
+
+/// A number typed with its check character: the query's first 13 bytes, with more behind them where it is shorter. Most are
+/// right if all of these are characters; the others have a place changed, neighbours exchanged, small letters or another length.
+pub fn typed(r: &mut Random, q: &[u8]) -> Vec<u8> {
+    let mut typed = q[..q.len().min(NUMBER_SIZE)].to_vec();
+    typed.resize_with(NUMBER_SIZE, || r.pick(&CHARACTERS[..36]));
+    let last = check(&typed).unwrap_or(b'0');
+    typed.push(last);
+    let at = r.below(NUMBER_SIZE as u64 + 1) as usize;
+    let next = (at + 1) % typed.len();
+    match r.below(12) {
+        0 => typed[at] = r.pick(CHARACTERS),
+        1 => typed[at] = r.next() as u8,
+        2 => typed.swap(at, next),
+        3 => typed.make_ascii_lowercase(),
+        4 => typed.truncate(at),
+        5 => typed.extend(r.bytes(at + 1)),
+        _ => {}
+    }
+    typed
 }
 
 impl Maker {
@@ -51,7 +78,16 @@ impl Maker {
         let least = r.pick(&[0, 0, 1, 100, 1 << 32, u64::MAX - span, u64::MAX - span, u64::MAX - span / 2]);
         let ticks = r.pick(&[2, 4, 10, 10, 50, 1000]);
         let first_tick = r.pick(&[0, 0, 1, 1 << 40, u64::MAX - ticks]);
-        Self { level, r, want, alphabet, text, least, span, first_tick, ticks, domain: Domain::default(), blocks: Vec::new(), conflicts: false }
+        Self { level, r, want, alphabet, text, least, span, first_tick, ticks, domain: Domain::default(), blocks: Vec::new(), conflicts: false, numbers: false }
+    }
+
+    /// From here on the bytes are characters of donation numbers.
+    fn make_numbers(&mut self) {
+        let letters = self.r.pick(&[1, 2, 4, 36]);
+        self.alphabet = some_of(&mut self.r, CHARACTERS[..36].to_vec(), letters);
+        self.numbers = true;
+        let n = self.r.between(NUMBER_SIZE as u64, 40) as usize;
+        self.text = (0..n).map(|_| self.r.pick(&self.alphabet)).collect();
     }
 
     fn length(&mut self) -> usize {
@@ -282,6 +318,9 @@ impl Maker {
     }
 
     pub fn query(&mut self, held: &Bytes) -> Vec<u8> {
+        if self.numbers && self.r.once_in(2) {
+            return self.cut(held, NUMBER_SIZE);
+        }
         let n = match self.r.below(20) {
             0 => return Vec::new(),
             1 => return self.r.bytes(257),
@@ -391,6 +430,9 @@ pub fn make(level: Level, seed: u64, number: u64) -> Recording {
     let conflicts = level.has(2) && r.once_in(4);
     let mut m = Maker::new(level, r, want);
     m.conflicts = conflicts;
+    if level.has(3) && m.r.once_in(5) {
+        m.make_numbers();
+    }
     // the largest capacity, all but used up
     if number % 5000 == 2499 {
         m.least = 1 << 20;

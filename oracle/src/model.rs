@@ -2,6 +2,7 @@
 //! the port's answers and the bytes it leaves can be foretold for every input, damaged ones too. A level says which requests it
 //! goes by besides.
 use crate::level::Level;
+use crate::number::typed_number;
 use crate::recording::{Block, Location, Piece};
 use std::collections::{BTreeSet, HashMap, HashSet};
 
@@ -66,11 +67,9 @@ pub fn foretell(pieces: &[Piece], q: &[u8]) -> Foretold {
 }
 
 impl Foretold {
-    /// The answer, by bytes of scratch and rows in the lent slice.
-    pub fn answer(&self, query: usize, scratch: usize, room: usize) -> u64 {
-        if query > 256 {
-            9
-        } else if (scratch as u64) / 24 < self.places {
+    /// The answer behind check 9, by bytes of scratch and rows in the lent slice.
+    pub fn answer(&self, scratch: usize, room: usize) -> u64 {
+        if (scratch as u64) / 24 < self.places {
             10
         } else if room < self.rows.len() {
             11
@@ -694,6 +693,15 @@ impl Memory {
             Held::Broken => 1,
             Held::Open(_) => 3,
             Held::Finished(_) => 0,
+        }
+    }
+
+    /// What a search for a typed number answers before the number is looked for.
+    pub fn search_number_refusal(&self, typed: &[u8]) -> u64 {
+        assert!(self.level.has(3), "there is no such call");
+        match self.search_refusal() {
+            0 if typed_number(typed).is_none() => 19,
+            n => n,
         }
     }
 

@@ -1,12 +1,16 @@
 //! The calls as the archive exports them: a slice is a pointer and a length.
 use crate::Row;
 
+/// What both searches are: memory, what is looked for, scratch, rows, and where the count goes.
+pub type Search = unsafe extern "C" fn(*const u8, usize, *const u8, usize, *mut u8, usize, *mut Row, usize, *mut u64) -> u64;
+
 extern "C" {
     pub fn helmapricot_open(mem: *mut u8, mem_len: usize, nodes: u64, entries: u64) -> u64;
     pub fn helmapricot_record(mem: *mut u8, mem_len: usize, kind: u64, address: u64, created_at: u64, destroyed_at: u64, data: *const u8, data_len: usize) -> u64;
     pub fn helmapricot_record_stream(mem: *mut u8, mem_len: usize, stream: *const u8, stream_len: usize, taken: *mut u64) -> u64;
     pub fn helmapricot_finish(mem: *mut u8, mem_len: usize) -> u64;
     pub fn helmapricot_search(mem: *const u8, mem_len: usize, query: *const u8, query_len: usize, scratch: *mut u8, scratch_len: usize, rows: *mut Row, rows_len: usize, count: *mut u64) -> u64;
+    pub fn helmapricot_search_number(mem: *const u8, mem_len: usize, typed: *const u8, typed_len: usize, scratch: *mut u8, scratch_len: usize, rows: *mut Row, rows_len: usize, count: *mut u64) -> u64;
     pub fn helmapricot_save(mem: *const u8, mem_len: usize, out: *mut u8, out_len: usize, size: *mut u64) -> u64;
     pub fn helmapricot_load(mem: *mut u8, mem_len: usize, image: *const u8, image_len: usize) -> u64;
     pub fn helmapricot_read_block(stream: *const u8, stream_len: usize, at: usize, fields: *mut u64) -> u64;
@@ -20,10 +24,18 @@ mod tests {
 
     const BEFORE: u64 = 0xeeee;
 
-    fn search(memory: &[u8], query: &[u8], places: usize, rows: usize) -> (u64, u64) {
+    fn searched(call: Search, memory: &[u8], query: &[u8], places: usize, rows: usize) -> (u64, u64) {
         let (mut scratch, mut rows, mut count) = (vec![0; 24 * places], vec![Row::default(); rows], BEFORE);
-        let number = unsafe { helmapricot_search(memory.as_ptr(), memory.len(), query.as_ptr(), query.len(), scratch.as_mut_ptr(), scratch.len(), rows.as_mut_ptr(), rows.len(), &mut count) };
+        let number = unsafe { call(memory.as_ptr(), memory.len(), query.as_ptr(), query.len(), scratch.as_mut_ptr(), scratch.len(), rows.as_mut_ptr(), rows.len(), &mut count) };
         (number, count)
+    }
+
+    fn search(memory: &[u8], query: &[u8], places: usize, rows: usize) -> (u64, u64) {
+        searched(helmapricot_search, memory, query, places, rows)
+    }
+
+    fn search_number(memory: &[u8], typed: &[u8], places: usize, rows: usize) -> (u64, u64) {
+        searched(helmapricot_search_number, memory, typed, places, rows)
     }
 
     fn record_stream(memory: &mut [u8], stream: &[u8]) -> (u64, u64) {
@@ -62,6 +74,28 @@ mod tests {
         let broken = [0; 100];
         assert_eq!(search(&broken, b"a", 2, 2), (1, BEFORE));
         assert_eq!(save(&broken, 1000), (1, BEFORE));
+        Ok(())
+    }
+
+    #[test]
+    fn counts_of_numbers() -> Result<(), Refusal> {
+        // thirteen zeros at two addresses: the query from its first byte on has two places, from its last on fourteen
+        let (right, wrong) = (b"00000000000001", b"00000000000002");
+        let mut index = Index::new(200, 40)?;
+        index.record(Kind::Memory, 1, 1, 9, &[b'0'; 14])?;
+        assert_eq!(search_number(index.memory(), right, 200, 2), (3, BEFORE));
+        assert_eq!(search_number(index.memory(), wrong, 200, 2), (3, BEFORE));
+        index.finish()?;
+        assert_eq!(search_number(index.memory(), wrong, 0, 0), (19, BEFORE));
+        assert_eq!(search_number(index.memory(), &[b'0'; 257], 200, 2), (19, BEFORE));
+        let places = (2..=14).sum::<usize>();
+        assert_eq!(search_number(index.memory(), right, places - 1, 2), (10, BEFORE));
+        assert_eq!(search_number(index.memory(), right, places, 1), (11, BEFORE));
+        assert_eq!(search_number(index.memory(), right, places, 2), (0, 2));
+        assert_eq!(search_number(index.memory(), b"0000000000001*", 200, 2), (0, 0));
+        let broken = [0; 100];
+        assert_eq!(search_number(&broken, right, 200, 2), (1, BEFORE));
+        assert_eq!(search_number(&broken, wrong, 200, 2), (1, BEFORE));
         Ok(())
     }
 

@@ -33,6 +33,8 @@ pub const DATA_LIMIT: usize = 4096;
 pub const QUERY_LIMIT: usize = 256;
 /// The most nodes, and the most entries.
 pub const CAPACITY_LIMIT: u64 = 1_048_576;
+/// The characters of a donation number, without its check character.
+pub const NUMBER_SIZE: usize = 13;
 /// The bytes of scratch for each place.
 pub const PLACE_SIZE: usize = 24;
 
@@ -152,25 +154,42 @@ impl<M: AsRef<[u8]>> Index<M> {
     /// The rows of a query, by address and then by first tick. Scratch and row buffer grow as they are needed, so this is
     /// never refused for their sizes.
     pub fn search(&self, query: &[u8]) -> Result<Vec<Row>, Refusal> {
-        let (mut scratch, mut rows) = (vec![0; 256 * PLACE_SIZE], vec![Row::default(); 64]);
-        loop {
-            match self.search_in(query, &mut scratch, &mut rows) {
-                Err(Refusal::ScratchTooSmall) => scratch = vec![0; 4 * scratch.len()],
-                Err(Refusal::TooManyRows) => rows = vec![Row::default(); 4 * rows.len()],
-                Err(refusal) => return Err(refusal),
-                Ok(count) => {
-                    rows.truncate(count);
-                    return Ok(rows);
-                }
-            }
-        }
+        growing(|scratch, rows| self.search_in(query, scratch, rows))
     }
 
     /// The rows of a query, written to the front of a lent slice, and how many they are. Scratch needs 24 bytes a place.
     pub fn search_in(&self, query: &[u8], scratch: &mut [u8], rows: &mut [Row]) -> Result<usize, Refusal> {
+        self.searched(calls::helmapricot_search, query, scratch, rows)
+    }
+
+    /// The rows of a donation number as the desk types it: 13 characters of 0-9 and A-Z, and the check character (ISO/IEC 7064
+    /// MOD 37-2, `*` among them). They are those of a search for the 13. One that is mistyped in a place, or with two neighbours
+    /// exchanged, never fits its check: [`Refusal::WrongNumber`].
+    ///
+    /// ```
+    /// use helmapricot::{Index, Kind, Refusal, Row};
+    ///
+    /// let mut index = Index::new(1000, 400)?;
+    /// index.record(Kind::Memory, 4096, 10, 50, b"G1234986")?;
+    /// index.record(Kind::Memory, 4104, 12, 60, b"54321")?;
+    /// index.finish()?;
+    /// assert_eq!(index.search_number(b"G123498654321H")?, [Row { address: 4096, created: 12, destroyed: 50 }]);
+    /// assert_eq!(index.search_number(b"G123489654321H"), Err(Refusal::WrongNumber));
+    /// # Ok::<(), Refusal>(())
+    /// ```
+    pub fn search_number(&self, typed: &[u8]) -> Result<Vec<Row>, Refusal> {
+        growing(|scratch, rows| self.search_number_in(typed, scratch, rows))
+    }
+
+    /// The same with lent buffers, as [`Index::search_in`] has them.
+    pub fn search_number_in(&self, typed: &[u8], scratch: &mut [u8], rows: &mut [Row]) -> Result<usize, Refusal> {
+        self.searched(calls::helmapricot_search_number, typed, scratch, rows)
+    }
+
+    fn searched(&self, call: calls::Search, query: &[u8], scratch: &mut [u8], rows: &mut [Row]) -> Result<usize, Refusal> {
         let m = self.memory.as_ref();
         let mut count = 0;
-        answer(unsafe { calls::helmapricot_search(m.as_ptr(), m.len(), query.as_ptr(), query.len(), scratch.as_mut_ptr(), scratch.len(), rows.as_mut_ptr(), rows.len(), &mut count) })?;
+        answer(unsafe { call(m.as_ptr(), m.len(), query.as_ptr(), query.len(), scratch.as_mut_ptr(), scratch.len(), rows.as_mut_ptr(), rows.len(), &mut count) })?;
         Ok(count as usize)
     }
 
@@ -198,5 +217,21 @@ impl<M: AsRef<[u8]>> Index<M> {
 
     pub fn into_memory(self) -> M {
         self.memory
+    }
+}
+
+/// The rows of a search, with scratch and row buffer made larger until it is not refused for their sizes.
+fn growing(search: impl Fn(&mut [u8], &mut [Row]) -> Result<usize, Refusal>) -> Result<Vec<Row>, Refusal> {
+    let (mut scratch, mut rows) = (vec![0; 256 * PLACE_SIZE], vec![Row::default(); 64]);
+    loop {
+        match search(&mut scratch, &mut rows) {
+            Err(Refusal::ScratchTooSmall) => scratch = vec![0; 4 * scratch.len()],
+            Err(Refusal::TooManyRows) => rows = vec![Row::default(); 4 * rows.len()],
+            Err(refusal) => return Err(refusal),
+            Ok(count) => {
+                rows.truncate(count);
+                return Ok(rows);
+            }
+        }
     }
 }

@@ -47,6 +47,7 @@ refusals! {
     CapacityRefused = 16, "opening with 0 or over 1,048,576 nodes or entries, or with more than the lent memory holds";
     NoForm = 17, "program line is no form";
     Conflict = 18, "a block shares a byte address and a live tick with a piece held (load: two pieces do)";
+    WrongNumber = 19, "no donation number with its check character: the length, a character or the check is wrong";
 }
 
 impl Refusal {

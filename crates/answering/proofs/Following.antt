@@ -7,17 +7,18 @@ use mathlib.Core.List.{List, [], _∷_, _++_}
 use mathlib.Core.Option.{Option, none, some}
 use lib.ListN.{length}
 use lib.Dec.{ltb, eqb}
-use borrow.Author.Tests.{le-ltb}
+use borrow.Author.Tests.{le-ltb, ne-eqb}
 use Rattle.definitions.specs.Location.{Location}
 use Rattle.definitions.specs.Blocks.{Block, Piece, pieces, pieces-of, memory-kind}
 use Rattle.definitions.specs.Places.{places-counted}
 use Rattle.definitions.specs.Rows.{rows}
-use Rattle.definitions.specs.Causes.{Cause, number, capacity-refused, index-rule-broken, record-after-finish, before-finish, data-too-long, no-life, address-too-high, too-many-nodes, too-many-entries, query-too-long, scratch-too-small, too-many-rows, save-buffer-too-short, cut-short, unknown-kind, image-broken, no-form, conflict, first-cause}
+use Rattle.definitions.specs.Causes.{Cause, number, query-too-long, scratch-too-small, too-many-rows, first-cause}
 use Rattle.definitions.specs.Calls.{Recorded, fresh, Standing, record-checks, search-checks, needed}
 use Rattle.definitions.specs.Recording.{record-block}
 use Rattle.definitions.specs.Recording as C
 use Rattle.definitions.specs.Program.{Form, block, finish, find, Reply, taken, finished, refused, found, or-refused, form-replies, replies, program-capacity}
 use Rattle.definitions.proofs.Chains.{SamePieces, rows-by-set}
+use Rattle.definitions.proofs.Checks.{number-some}
 use Rattle.trie.specs.Trie.{trie-pieces}
 use Rattle.trie.specs.Build.{trie-of}
 use Rattle.index_memory.specs.Index.{Index, opened, standing-of, read-index}
@@ -43,24 +44,7 @@ use Rattle.answering.proofs.Cutting.{parts-answered}
 -- ── a refusal by its number and by its cause ──
 
 number-tells : (c : Cause) (rs : List Reply) → unless-number (number c) rs ≡ refused (number c) ∷ []
-number-tells capacity-refused rs = refl
-number-tells index-rule-broken rs = refl
-number-tells record-after-finish rs = refl
-number-tells before-finish rs = refl
-number-tells data-too-long rs = refl
-number-tells no-life rs = refl
-number-tells address-too-high rs = refl
-number-tells too-many-nodes rs = refl
-number-tells too-many-entries rs = refl
-number-tells query-too-long rs = refl
-number-tells scratch-too-small rs = refl
-number-tells too-many-rows rs = refl
-number-tells save-buffer-too-short rs = refl
-number-tells cut-short rs = refl
-number-tells unknown-kind rs = refl
-number-tells image-broken rs = refl
-number-tells no-form rs = refl
-number-tells conflict rs = refl
+number-tells c rs = rw (ne-eqb (number c) 0 (number-some c)) refl
 
 recorded-tells : (o : Option Cause) (m n : List ℕ) (rs : List Reply) → unless-number (unless-refused o m n .refusal) rs ≡ or-refused o rs
 recorded-tells none m n rs = refl

@@ -8,7 +8,7 @@ use mathlib.Core.Option.{Option, none, some}
 use lib.ListN.{take}
 use lib.Dec.{eqb}
 use Rattle.definitions.specs.Blocks.{Block, memory-kind}
-use Rattle.definitions.specs.Causes.{Cause, number, capacity-refused, index-rule-broken, record-after-finish, before-finish, data-too-long, no-life, address-too-high, too-many-nodes, too-many-entries, query-too-long, scratch-too-small, too-many-rows, save-buffer-too-short, cut-short, unknown-kind, image-broken, no-form, conflict, Check, first-cause, refusal-of, causes, checked, record-call, read-block-call}
+use Rattle.definitions.specs.Causes.{Cause, number, capacity-refused, index-rule-broken, record-after-finish, before-finish, data-too-long, no-life, address-too-high, too-many-nodes, too-many-entries, wrong-number, query-too-long, scratch-too-small, too-many-rows, save-buffer-too-short, cut-short, unknown-kind, image-broken, no-form, conflict, Check, first-cause, refusal-of, causes, checked, record-call, read-block-call}
 use Rattle.definitions.specs.Calls.{Standing, block-checks, record-checks}
 use Rattle.definitions.specs.BlockStream.{read-block-checks}
 use Rattle.definitions.specs.Promises.{ChecksInOrder}
@@ -41,6 +41,8 @@ checks-in-order = record {
   stream-block-order = refl;
   finish-order = λ s. refl;
   search-order = λ s q scratch room. refl;
+  search-number-order = λ s is-right number scratch room. refl;
+  number-order = refl;
   scratch-order = refl;
   save-order = λ s image buffer. refl;
   load-order = λ s fault nodes entries. refl;
@@ -83,6 +85,7 @@ number-some unknown-kind e = omega arith
 number-some image-broken e = omega arith
 number-some no-form e = omega arith
 number-some conflict e = omega arith
+number-some wrong-number e = omega arith
 
 pub none-refused : (o : Option Cause) → refusal-of o ≡ 0 → o ≡ none
 none-refused none e = refl

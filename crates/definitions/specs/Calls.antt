@@ -10,7 +10,7 @@ use Rattle.definitions.specs.Blocks.{Block, Piece, memory-kind, last-kin
 use Rattle.definitions.specs.Conflicts.{clash}
 use Rattle.definitions.specs.Places.{places-counted}
 use Rattle.definitions.specs.Rows.{rows}
-use Rattle.definitions.specs.Causes.{Cause, number, capacity-refused, index-rule-broken, record-after-finish, before-finish, data-too-long, no-life, address-too-high, conflict, too-many-nodes, too-many-entries, query-too-long, scratch-too-small, too-many-rows, save-buffer-too-short, cut-short, unknown-kind, image-broken, Check, first-cause}
+use Rattle.definitions.specs.Causes.{Cause, number, capacity-refused, index-rule-broken, record-after-finish, before-finish, data-too-long, no-life, address-too-high, conflict, too-many-nodes, too-many-entries, wrong-number, query-too-long, scratch-too-small, too-many-rows, save-buffer-too-short, cut-short, unknown-kind, image-broken, Check, first-cause}
 
 abbrev pub data-limit : ℕ
 data-limit = 4096
@@ -103,14 +103,29 @@ record-checks s kind b = stream-checks s ++ kind-checks kind (block-checks (s .c
 abbrev pub finish-checks : Standing → List Check
 finish-checks s = index-check s ∷ []
 
--- scratch has room for so many places, the row buffer for so many rows
+-- what a query asks: scratch has room for so many places, the row buffer for so many rows
+abbrev pub query-checks : Standing → List ℕ → (scratch room : ℕ) → List Check
+query-checks s q scratch room =
+    record { applies = ltb query-limit (length q); cause = query-too-long } ∷
+    record { applies = ltb scratch (places-counted (s .pieces) q); cause = scratch-too-small } ∷
+    record { applies = ltb room (length (rows (s .pieces) q)); cause = too-many-rows } ∷ []
+
 abbrev pub search-checks : Standing → List ℕ → (scratch room : ℕ) → List Check
 search-checks s q scratch room =
     index-check s ∷
     finish-check s ∷
-    record { applies = ltb query-limit (length q); cause = query-too-long } ∷
-    record { applies = ltb scratch (places-counted (s .pieces) q); cause = scratch-too-small } ∷
-    record { applies = ltb room (length (rows (s .pieces) q)); cause = too-many-rows } ∷ []
+    query-checks s q scratch room
+
+-- what is asked before the query of one who types a number, which is right or not
+abbrev pub number-checks : Standing → (is-right : Bool) → List Check
+number-checks s is-right =
+    index-check s ∷
+    finish-check s ∷
+    record { applies = not is-right; cause = wrong-number } ∷ []
+
+-- the query is the number
+abbrev pub search-number-checks : Standing → (is-right : Bool) → List ℕ → (scratch room : ℕ) → List Check
+search-number-checks s is-right number scratch room = number-checks s is-right ++ query-checks s number scratch room
 
 -- an image and a save buffer of so many bytes
 abbrev pub save-checks : Standing → (image buffer : ℕ) → List Check

@@ -1,4 +1,4 @@
--- Document 01, "Causes and their numbers", and 18 of document 02: each cause, its number, and the order in which each call checks them.
+-- Document 01, "Causes and their numbers", and 18 and 19 of document 02: each cause, its number, and the order in which each call checks them.
 -- Assumes nothing.
 use Prim.Native.Nat.{ℕ}
 use mathlib.Core.Path.{_≡_}
@@ -28,6 +28,8 @@ pub data Cause : Type 0 where
   too-many-nodes : Cause
   -- entry charge over capacity (load: entries)
   too-many-entries : Cause
+  -- what was typed is no donation number with its check character: the length, a character or the check is wrong
+  wrong-number : Cause
   -- query over 256 bytes
   query-too-long : Cause
   -- sizes of all T(i) together exceed scratch
@@ -63,6 +65,7 @@ number unknown-kind = 14
 number image-broken = 15
 number no-form = 17
 number conflict = 18
+number wrong-number = 19
 
 -- ── the order in which each call checks them ──
 
@@ -72,6 +75,7 @@ pub data CallName : Type 0 where
   record-stream-call : CallName
   finish-call : CallName
   search-call : CallName
+  search-number-call : CallName
   save-call : CallName
   load-call : CallName
   read-block-call : CallName
@@ -86,6 +90,7 @@ checked record-call = index-rule-broken ∷ record-after-finish ∷ unknown-kind
 checked record-stream-call = index-rule-broken ∷ record-after-finish ∷ cut-short ∷ unknown-kind ∷ data-too-long ∷ no-life ∷ address-too-high ∷ conflict ∷ too-many-nodes ∷ too-many-entries ∷ []
 checked finish-call = index-rule-broken ∷ []
 checked search-call = index-rule-broken ∷ before-finish ∷ query-too-long ∷ scratch-too-small ∷ too-many-rows ∷ []
+checked search-number-call = index-rule-broken ∷ before-finish ∷ wrong-number ∷ query-too-long ∷ scratch-too-small ∷ too-many-rows ∷ []
 checked save-call = index-rule-broken ∷ before-finish ∷ save-buffer-too-short ∷ []
 checked load-call = index-rule-broken ∷ cut-short ∷ unknown-kind ∷ image-broken ∷ conflict ∷ too-many-nodes ∷ too-many-entries ∷ []
 checked read-block-call = cut-short ∷ unknown-kind ∷ []
@@ -116,7 +121,7 @@ causes (c ∷ cs) = c .cause ∷ causes cs
 
 -- causes that leave scratch as it was; scratch contents are free after a search past check 9
 abbrev pub scratch-kept : List Cause
-scratch-kept = index-rule-broken ∷ before-finish ∷ query-too-long ∷ []
+scratch-kept = index-rule-broken ∷ before-finish ∷ wrong-number ∷ query-too-long ∷ []
 
 -- whether a number is that of one of these causes
 abbrev pub numbered : ℕ → List Cause → Bool

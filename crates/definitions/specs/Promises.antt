@@ -12,8 +12,8 @@ use Rattle.definitions.specs.Places.{T, table}
 use Rattle.definitions.specs.Rows.{rows}
 use Rattle.definitions.specs.Runs.{RowsAreRuns, Consistent, SameRows, SameHeld}
 use Rattle.definitions.specs.Conflicts.{shares, conflicts-with, clash, free, Common}
-use Rattle.definitions.specs.Causes.{Cause, scratch-too-small, too-many-rows, scratch-kept, causes, checked, opening, record-call, record-stream-call, finish-call, search-call, save-call, load-call, read-block-call, line-call}
-use Rattle.definitions.specs.Calls.{Capacity, Standing, open-checks, stream-checks, record-checks, finish-checks, search-checks, save-checks, load-checks}
+use Rattle.definitions.specs.Causes.{Cause, wrong-number, scratch-too-small, too-many-rows, scratch-kept, causes, checked, opening, record-call, record-stream-call, finish-call, search-call, search-number-call, save-call, load-call, read-block-call, line-call}
+use Rattle.definitions.specs.Calls.{Capacity, Standing, open-checks, stream-checks, record-checks, finish-checks, search-checks, search-number-checks, save-checks, load-checks}
 use Rattle.definitions.specs.Recording.{Call, taken, Sound}
 use Rattle.definitions.specs.BlockStream.{read-block-checks}
 use Rattle.definitions.specs.Program.{line-checks}
@@ -30,8 +30,11 @@ pub record ChecksInOrder : Type 0 where
   pub stream-block-order : checked record-stream-call ≡ take 2 (checked record-call) ++ (checked read-block-call ++ drop 3 (checked record-call))
   pub finish-order : (s : Standing) → causes (finish-checks s) ≡ checked finish-call
   pub search-order : (s : Standing) (q : List ℕ) (scratch room : ℕ) → causes (search-checks s q scratch room) ≡ checked search-call
+  pub search-number-order : (s : Standing) (is-right : Bool) (number : List ℕ) (scratch room : ℕ) → causes (search-number-checks s is-right number scratch room) ≡ checked search-number-call
+  -- a search by a typed number has 19 between 3 and 9, and the plain search's order
+  pub number-order : checked search-number-call ≡ take 2 (checked search-call) ++ (wrong-number ∷ drop 2 (checked search-call))
   -- the causes that leave scratch as it was are those up to check 9
-  pub scratch-order : checked search-call ≡ scratch-kept ++ (scratch-too-small ∷ too-many-rows ∷ [])
+  pub scratch-order : checked search-number-call ≡ scratch-kept ++ (scratch-too-small ∷ too-many-rows ∷ [])
   pub save-order : (s : Standing) (image buffer : ℕ) → causes (save-checks s image buffer) ≡ checked save-call
   pub load-order : (s : Standing) (fault nodes entries : ℕ) → causes (load-checks s fault nodes entries) ≡ checked load-call
   pub read-block-order : (s : List ℕ) (at : ℕ) (c : Cause) → List·Memᴰ c (causes (read-block-checks s at)) → List·Memᴰ c (checked read-block-call)

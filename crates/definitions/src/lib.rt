@@ -36,6 +36,8 @@ pub const IMAGE_BROKEN: u64 = 15;
 pub const NO_FORM: u64 = 17;
 // A block shares a byte address and a live tick with a piece held; in loading, two pieces of the image do.
 pub const CONFLICT: u64 = 18;
+// What was typed is no donation number with its check character.
+pub const WRONG_NUMBER: u64 = 19;
 
 // The kind of a block whose bytes are recorded, and the last kind that there is.
 pub const MEMORY_KIND: u8 = 1;

@@ -37,7 +37,7 @@ found-fit m q scratch room = rows-have-room (standing-of (read-index m)) q (scra
 abbrev pub handed-over : Rows-found → List Row → Found
 handed-over o lent = record { refusal = o .refusal; count = length (o .rows); rows = rows-over (o .rows) lent }
 
-pieces-handed : (o : Option Cause) (rs : List Location) (lent : List Row) → found-or-refused o rs lent ≡ handed-over (rows-or-refused o rs) lent
+pub pieces-handed : (o : Option Cause) (rs : List Location) (lent : List Row) → found-or-refused o rs lent ≡ handed-over (rows-or-refused o rs) lent
 unfolding rows-of
 pieces-handed none rs lent = refl
 pieces-handed (some c) rs lent = refl

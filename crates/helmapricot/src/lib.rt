@@ -15,7 +15,7 @@ ghost use Rattle.memory_header.specs.Opening.{open-memory};
 ghost use Rattle.recording.specs.Record.{record-memory};
 ghost use Rattle.stream_recording.specs.Stream.{record-stream};
 ghost use Rattle.string_index.specs.Finish.{finish-memory};
-ghost use Rattle.handing_over.specs.Search.{search-memory};
+ghost use Rattle.handing_over.specs.Search.{search-memory, search-number-memory};
 ghost use Rattle.saving.specs.Saving.{save-memory, load-memory};
 ghost use Rattle.answer_numbers.specs.Counts.{put-unless-refused};
 ghost use Rattle.helmapricot.specs.Stream.{stream-number, with-fields};
@@ -84,6 +84,24 @@ pub extern "C" fn helmapricot_search(
     ensures scratch { λ _. ⌜ ScratchAfter (search-memory (now (mem .entry)) (now (q .entry)) (length (now (scratch .entry))) (now (rows .entry)) .refusal) (now (scratch .entry)) (now (scratch .exit)) ⌝ }
 {
     let a = string_index::search(mem, q, scratch, rows);
+    answer_numbers::put_count(count, a)
+}
+
+// Searches for a donation number that was typed with its check character; what is handed over is as in a search.
+#[no_mangle]
+pub extern "C" fn helmapricot_search_number(
+    mem: &[u8],
+    typed: &[u8],
+    scratch: &mut [u8],
+    rows: &mut [Row],
+    count: &mut [u64; 1],
+) -> u64
+    ensures answer { λ r. ⌜ r ≡ search-number-memory (now (mem .entry)) (now (typed .entry)) (length (now (scratch .entry))) (now (rows .entry)) .refusal ⌝ }
+    ensures rows { λ _. ⌜ now (rows .exit) ≡ search-number-memory (now (mem .entry)) (now (typed .entry)) (length (now (scratch .entry))) (now (rows .entry)) .rows ⌝ }
+    ensures count { λ _. ⌜ now (count .exit) ≡ put-unless-refused (search-number-memory (now (mem .entry)) (now (typed .entry)) (length (now (scratch .entry))) (now (rows .entry)) .refusal) (search-number-memory (now (mem .entry)) (now (typed .entry)) (length (now (scratch .entry))) (now (rows .entry)) .count) (now (count .entry)) ⌝ }
+    ensures scratch { λ _. ⌜ ScratchAfter (search-number-memory (now (mem .entry)) (now (typed .entry)) (length (now (scratch .entry))) (now (rows .entry)) .refusal) (now (scratch .entry)) (now (scratch .exit)) ⌝ }
+{
+    let a = string_index::search_number(mem, typed, scratch, rows);
     answer_numbers::put_count(count, a)
 }
 

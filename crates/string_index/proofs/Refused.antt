@@ -7,7 +7,8 @@ use lib.ListN.{length}
 use Rattle.definitions.specs.Location.{Location}
 use Rattle.definitions.specs.Rows.{rows}
 use Rattle.definitions.specs.Causes.{Cause, first-cause}
-use Rattle.definitions.specs.Calls.{Capacity, open-checks, finish-checks, search-checks}
+use Rattle.definitions.specs.Calls.{Capacity, open-checks, finish-checks, search-checks, search-number-checks}
+use Rattle.check_character.specs.Number.{number-in, right}
 use Rattle.memory_header.specs.Opening.{fresh-memory, open-memory}
 use Rattle.index_memory.specs.Index.{standing-of, read-index}
 use Rattle.recording.proofs.Outcome.{record-leaves}
@@ -16,7 +17,7 @@ use Rattle.memory_header.proofs.Opening.{refused-leaves}
 use Rattle.rows.specs.declared.Row.{Row}
 use Rattle.saving.proofs.Theorems.{save-leaves, load-leaves}
 use Rattle.string_index.specs.Finish.{finished-by, finish-memory}
-use Rattle.handing_over.specs.Search.{found-or-refused, search-memory}
+use Rattle.handing_over.specs.Search.{found-or-refused, search-memory, search-number-memory}
 use Rattle.string_index.specs.Promises.{RefusedLeaves}
 
 open-leaves : (m : List ℕ) (c : Capacity) → (open-memory m c .refusal ≡ 0 → ⊥) → open-memory m c .memory ≡ m
@@ -36,5 +37,10 @@ unfolding search-memory
 search-leaves m q scratch lent =
     found-leaves (first-cause (search-checks (standing-of (read-index m)) q (scratch / 24) (length lent))) (rows (standing-of (read-index m) .pieces) q) lent
 
+search-number-leaves : (m typed : List ℕ) (scratch : ℕ) (lent : List Row) → (search-number-memory m typed scratch lent .refusal ≡ 0 → ⊥) → search-number-memory m typed scratch lent .rows ≡ lent
+unfolding search-number-memory
+search-number-leaves m typed scratch lent =
+    found-leaves (first-cause (search-number-checks (standing-of (read-index m)) (right typed) (number-in typed) (scratch / 24) (length lent))) (rows (standing-of (read-index m) .pieces) (number-in typed)) lent
+
 pub all-leave : RefusedLeaves
-all-leave = record { open-leaves = open-leaves; record-leaves = record-leaves; stream-leaves = stream-leaves; finish-leaves = finish-leaves; search-leaves = search-leaves; save-leaves = save-leaves; load-leaves = load-leaves }
+all-leave = record { open-leaves = open-leaves; record-leaves = record-leaves; stream-leaves = stream-leaves; finish-leaves = finish-leaves; search-leaves = search-leaves; search-number-leaves = search-number-leaves; save-leaves = save-leaves; load-leaves = load-leaves }

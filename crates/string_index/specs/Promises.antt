@@ -10,7 +10,7 @@ use Rattle.stream_recording.specs.Stream.{record-stream}
 use Rattle.rows.specs.declared.Row.{Row}
 use Rattle.saving.specs.Saving.{save-memory, load-memory}
 use Rattle.string_index.specs.Finish.{finish-memory}
-use Rattle.handing_over.specs.Search.{search-memory}
+use Rattle.handing_over.specs.Search.{search-memory, search-number-memory}
 
 -- a call that is refused leaves the lent memory, the lent rows and the save buffer as they were
 pub record RefusedLeaves : Type 0 where
@@ -20,5 +20,6 @@ pub record RefusedLeaves : Type 0 where
   pub stream-leaves : (m s : List ℕ) → record-stream m s .taken ≡ 0 → record-stream m s .memory ≡ m
   pub finish-leaves : (m : List ℕ) → (finish-memory m .refusal ≡ 0 → ⊥) → finish-memory m .memory ≡ m
   pub search-leaves : (m q : List ℕ) (scratch : ℕ) (lent : List Row) → (search-memory m q scratch lent .refusal ≡ 0 → ⊥) → search-memory m q scratch lent .rows ≡ lent
+  pub search-number-leaves : (m typed : List ℕ) (scratch : ℕ) (lent : List Row) → (search-number-memory m typed scratch lent .refusal ≡ 0 → ⊥) → search-number-memory m typed scratch lent .rows ≡ lent
   pub save-leaves : (m buffer : List ℕ) → (save-memory m buffer .refusal ≡ 0 → ⊥) → save-memory m buffer .buffer ≡ buffer
   pub load-leaves : (m s : List ℕ) → (load-memory m s .refusal ≡ 0 → ⊥) → load-memory m s .memory ≡ m

@@ -1,6 +1,7 @@
 // The calls of the index. Each but opening inspects the lent memory first, so none asks anything of it.
 pub use handing_over::Answer;
 pub use handing_over::search;
+pub use handing_over::search_number;
 use inspecting::Held;
 use location::SpacetimeLocation;
 pub use memory_header::Outcome;

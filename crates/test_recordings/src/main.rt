@@ -1,8 +1,9 @@
 // Document 01's recordings 1 and 6, whose rows are lent, and 11, 12 and 13, which no form can hold or whose images are to be seen;
-// then blocks and images that conflict.
+// then blocks and images that conflict, and a donation number as it is typed.
 // Prints a line for each answer.
 use libc::STDOUT_FILENO;
 use location::SpacetimeLocation;
+use row_buffer::Finding;
 use string_index::Answer;
 use string_index::Outcome;
 use string_index::Recorded;
@@ -78,12 +79,10 @@ fn print_first(scratch: &[u8], n: usize)
     io::write_all(STDOUT_FILENO, b"\n");
 }
 
-// The first row and how many there are.
-fn find(mem: &[u8], q: &[u8]) {
-    let mut scratch = [0u8; 240000];
-    io::write_all(STDOUT_FILENO, b"  query of");
-    print_number(q.len() as u64);
-    let found = finding::find(mem, q, &mut scratch, 20);
+// The number of the refusal, or how many rows there are and the first.
+fn print_found(found: Finding, scratch: &[u8])
+    requires { ⌜ found .count * 24 ≤ length (now scratch) ⌝ }
+{
     if found.refusal != 0 {
         io::write_all(STDOUT_FILENO, b" refused");
         print_line(found.refusal);
@@ -91,7 +90,24 @@ fn find(mem: &[u8], q: &[u8]) {
     }
     io::write_all(STDOUT_FILENO, b" has rows");
     print_number(found.count as u64);
-    print_first(&scratch, found.count);
+    print_first(scratch, found.count);
+}
+
+fn find(mem: &[u8], q: &[u8]) {
+    let mut scratch = [0u8; 240000];
+    io::write_all(STDOUT_FILENO, b"  query of");
+    print_number(q.len() as u64);
+    let found = finding::find(mem, q, &mut scratch, 20);
+    print_found(found, &scratch);
+}
+
+// The same for a number with its check character.
+fn find_number(mem: &[u8], typed: &[u8]) {
+    let mut scratch = [0u8; 2400];
+    io::write_all(STDOUT_FILENO, b"  number of");
+    print_number(typed.len() as u64);
+    let found = number_finding::find_number(mem, typed, &mut scratch, 20);
+    print_found(found, &scratch);
 }
 
 // The image: its size, its first byte, and the number at an index.
@@ -346,6 +362,26 @@ fn conflicts(mem: &mut [u8]) {
     load_moved(mem);
 }
 
+// A number as it is, with two neighbours exchanged, with a small letter, with another check, without one.
+fn find_typed(mem: &[u8]) {
+    find_number(mem, b"G123498654321H");
+    find_number(mem, b"G123489654321H");
+    find_number(mem, b"g123498654321H");
+    find_number(mem, b"G123498654321*");
+    find_number(mem, b"G123498654321");
+}
+
+// A number in two writes, typed before finish and behind it.
+fn numbers(mem: &mut [u8]) {
+    io::write_all(STDOUT_FILENO, b"numbers\n");
+    open(mem, 100, 100);
+    record_at(mem, SpacetimeLocation::new(4096, 10, 50), b"G1234986");
+    record_at(mem, SpacetimeLocation::new(4104, 12, 60), b"54321");
+    find_number(mem, b"G123489654321H");
+    finish(mem);
+    find_typed(mem);
+}
+
 fn run(mem: &mut [u8]) {
     one(mem);
     six(mem);
@@ -353,6 +389,7 @@ fn run(mem: &mut [u8]) {
     twelve(mem);
     thirteen(mem);
     conflicts(mem);
+    numbers(mem);
 }
 
 // The memory is what 34,817 nodes and 8,192 entries need: a block of 4,096 bytes charges as many.

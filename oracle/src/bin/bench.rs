@@ -4,13 +4,14 @@
 //!     cd oracle && cargo run --release --offline --features parts --bin bench
 //!
 //! Of request 2 it times the test of images with and without its part that looks for conflicts, on blocks, on label buffers and on
-//! images made to be slow; a call on an open index; and streams, in the order of addresses and in others. With the word `long` behind
-//! `--` it times the longest streams alone.
+//! images made to be slow; a call on an open index; and streams, in the order of addresses and in others. Of request 3 it times a typed
+//! number against its 13 characters. With the word `long` behind `--` it times the longest streams alone.
 use dataflow::prelude::SpaceKind;
 use oracle::index::string_index::StringIndex;
 use oracle::index::{Index, Serializable, SpacetimeBlock};
 use oracle::bench_parts;
 use oracle::linked;
+use oracle::number;
 use oracle::random;
 use oracle::sink::Sink;
 use std::hint::black_box;
@@ -186,6 +187,22 @@ fn time_open(mem: &mut [u8], name: &str, made: &[SpacetimeBlock]) {
     println!("{:44} {call:12.1}", format!("{name}, {} pieces", made.len()));
 }
 
+/// A typed number, right or wrong, against its 13 characters, in an index of that one block. A hundred calls of each in turn, the
+/// best of many rounds.
+fn typed_numbers(mem: &mut [u8]) {
+    let number = Random(3).text(number::NUMBER_SIZE);
+    let right = [&number[..], &[number::check(&number).unwrap()]].concat();
+    finished(mem, &[block(4096, 1, 9, number.clone())]);
+    let (mut scratch, mut rows) = (vec![0; 24 * 100], vec![linked::Row::default(); 4]);
+    let mut call = |search: fn(&[u8], &[u8], &mut [u8], &mut [linked::Row]) -> (u64, u64), q: &[u8], answer: u64| timed(|| (0..100).for_each(|_| assert_eq!(search(mem, q, &mut scratch, &mut rows).0, answer)));
+    let mut best = [f64::MAX; 3];
+    for _ in 0..3000 {
+        let round = [call(linked::search, &number, 0), call(linked::search_number, &right, 0), call(linked::search_number, &number, 19)];
+        best.iter_mut().zip(round).for_each(|(b, t)| *b = b.min(t / 100.0));
+    }
+    println!("a number in an index of it alone, microseconds: plain search {:.3}, typed {:.3}, typed without its check {:.3}", best[0], best[1], best[2]);
+}
+
 fn image_of(mem: &[u8]) -> &[u8] {
     let n = u64::from_le_bytes(mem[40..48].try_into().unwrap()) as usize;
     &mem[64..64 + n]
@@ -343,5 +360,6 @@ fn main() {
     }
     longer_streams(&mut mem);
     open_calls(&mut mem);
+    typed_numbers(&mut mem);
     tests_of_odd_images(&mut mem);
 }

@@ -1,7 +1,8 @@
 //! Compares the port's calls with the published index, with documents 01 and 02 done slowly (src/model.rs), and with longest runs
 //! counted tick by tick, on recordings made from a seed. Half of them are recorded block by block, half by streams. A good third
 //! have blocks that conflict with one before them: the published index is given what was taken, and apart from that all of
-//! them, so that its images have conflicts.
+//! them, so that its images have conflicts. Behind each query a donation number is typed that begins as it does,
+//! right or wrong, and a fifth of the recordings are of the characters of such numbers.
 //!
 //!     rt staticlib helmapricot && cd oracle && cargo run --release --offline --features calls --bin compare -- SEED COUNT
 //!
@@ -11,8 +12,9 @@
 use oracle::fenced::Fenced;
 use oracle::level::Level;
 use oracle::linked;
-use oracle::making::{make, small};
+use oracle::making::{make, small, typed};
 use oracle::model::{self, Bytes, Foretold, Held, Memory, Node};
+use oracle::number::NUMBER_SIZE;
 use oracle::published::{self, Published};
 use oracle::random::Random;
 use oracle::recording::{hex, Block, Call, Domain, Location, Piece, Recording};
@@ -73,6 +75,15 @@ struct Answer {
     rows: Vec<Location>,
 }
 
+/// One of the two searches, by its name in the counts.
+struct Search {
+    name: &'static str,
+    call: fn(&[u8], &[u8], &mut [u8], &mut [linked::Row]) -> (u64, u64),
+}
+
+const QUERY: Search = Search { name: "searches", call: linked::search };
+const NUMBER: Search = Search { name: "searches for typed numbers", call: linked::search_number };
+
 impl Port {
     fn new() -> Self {
         let small = || Fenced::new(1 << 20);
@@ -116,13 +127,13 @@ impl Port {
     }
 
     /// A search with so many bytes of scratch and so many rows in the lent slice.
-    fn search(&mut self, q: &[u8], scratch: usize, room: usize, r: &mut Random) -> Result<Answer, String> {
+    fn search(&mut self, by: &Search, q: &[u8], scratch: usize, room: usize, r: &mut Random) -> Result<Answer, String> {
         let before_rows = r.bytes(24 * room);
         let before_scratch = r.bytes(scratch);
         self.input.set(q);
         self.rows.set(&before_rows);
         self.scratch.set(&before_scratch);
-        let (number, count) = linked::search(self.mem.bytes(), self.input.bytes(), self.scratch.bytes(), self.rows.rows());
+        let (number, count) = (by.call)(self.mem.bytes(), self.input.bytes(), self.scratch.bytes(), self.rows.rows());
         self.fences()?;
         same_bytes("a query afterwards", q, self.input.bytes())?;
         if ![0, 10, 11].contains(&number) {
@@ -277,17 +288,35 @@ impl Run<'_> {
         }
     }
 
-    /// Searches with room for all, with just enough, and with one byte or row too few.
+    /// Searches for a query, and for a number that is typed from it.
     fn find(&mut self, q: &[u8]) -> Compared {
-        let refusal = self.model.search_refusal();
-        if refusal != 0 || q.len() > 256 {
+        let refusal = match self.model.search_refusal() {
+            0 if q.len() > 256 => 9,
+            n => n,
+        };
+        self.find_by(&QUERY, q, q, refusal)?;
+        let typed = typed(&mut self.r, q);
+        let number = &typed[..typed.len().min(NUMBER_SIZE)];
+        self.find_by(&NUMBER, &typed, number, self.model.search_number_refusal(&typed))
+    }
+
+    /// A search that is handed one thing and looks for another, if it is not refused before.
+    fn find_by(&mut self, by: &Search, handed: &[u8], q: &[u8], refusal: u64) -> Compared {
+        if refusal != 0 {
             let (scratch, room) = (self.r.below(100) as usize, self.r.below(7) as usize);
-            let a = self.port.search(q, scratch, room, &mut self.r)?;
-            self.counts.one(&format!("searches answered {}", a.number));
-            return same("a search that is refused", (if refusal == 0 { 9 } else { refusal }, 0), (a.number, a.rows.len()));
+            let a = self.port.search(by, handed, scratch, room, &mut self.r)?;
+            self.counts.one(&format!("{} answered {}", by.name, a.number));
+            return same(&format!("{} ({}), one that is refused", by.name, hex(handed)), (refusal, 0), (a.number, a.rows.len()));
         }
-        let f = self.finished.as_ref().unwrap();
-        let told = model::foretell(&f.pieces, q);
+        let told = model::foretell(&self.finished.as_ref().unwrap().pieces, q);
+        for (scratch, room) in self.rooms(&told) {
+            self.search(by, handed, &told, scratch, room)?;
+        }
+        self.judge_rows(q, told.rows)
+    }
+
+    /// Room for all, just enough, and one byte or row too few.
+    fn rooms(&mut self, told: &Foretold) -> Vec<(usize, usize)> {
         let (places, rows) = (24 * told.places as usize, told.rows.len());
         let mut rooms = vec![(places + self.r.below(30) as usize, rows + self.r.below(3) as usize), (places, rows)];
         if places > 0 {
@@ -299,17 +328,14 @@ impl Run<'_> {
         if self.is_large() {
             rooms.drain(..1);
         }
-        for (scratch, room) in rooms {
-            self.search(q, &told, scratch, room)?;
-        }
-        self.judge_rows(q, told.rows)
+        rooms
     }
 
-    fn search(&mut self, q: &[u8], told: &Foretold, scratch: usize, room: usize) -> Compared {
-        let number = told.answer(q.len(), scratch, room);
-        let a = self.port.search(q, scratch, room, &mut self.r)?;
-        self.counts.one(&format!("searches answered {number}"));
-        let what = format!("search for ({}) with {scratch} bytes of scratch, {} places, a slice of {room} rows", hex(q), told.places);
+    fn search(&mut self, by: &Search, handed: &[u8], told: &Foretold, scratch: usize, room: usize) -> Compared {
+        let number = told.answer(scratch, room);
+        let a = self.port.search(by, handed, scratch, room, &mut self.r)?;
+        self.counts.one(&format!("{} answered {number}", by.name));
+        let what = format!("{} ({}) with {scratch} bytes of scratch, {} places, a slice of {room} rows", by.name, hex(handed), told.places);
         same(&what, number, a.number)?;
         let none = Vec::new();
         same(&what, if number == 0 { &told.rows } else { &none }, &a.rows)
@@ -428,7 +454,7 @@ impl Run<'_> {
         let f = self.finished.as_ref().unwrap();
         for (q, rows) in f.queries.iter().take(if self.model.bytes.len() > LARGE { 4 } else { 99 }) {
             let places = model::foretell(&f.pieces, q).places as usize;
-            let a = self.port.search(q, 24 * places, rows.len(), &mut self.r)?;
+            let a = self.port.search(&QUERY, q, 24 * places, rows.len(), &mut self.r)?;
             same(&format!("rows of ({}) in the Rust's image, loaded", hex(q)), (0, rows), (a.number, &a.rows))?;
             self.counts.one("row lists found in the Rust's image, loaded");
         }
@@ -650,10 +676,19 @@ impl Run<'_> {
         self.port.mem.set(&bad.bytes);
         let told = model::foretell(&if bad.search_refusal() == 0 { bad.pieces() } else { Vec::new() }, q);
         let (scratch, room) = (24 * told.places as usize, told.rows.len());
-        let a = self.port.search(q, scratch, room, &mut self.r)?;
+        let a = self.port.search(&QUERY, q, scratch, room, &mut self.r)?;
         same("search on a damaged memory", bad.search_refusal(), a.number)?;
         same("rows in a damaged memory", told.rows, a.rows)?;
         same_bytes("a damaged memory after search", &bad.bytes, self.port.mem.bytes())?;
+
+        let typed = typed(&mut self.r, q);
+        let refusal = bad.search_number_refusal(&typed);
+        let told = model::foretell(&if refusal == 0 { bad.pieces() } else { Vec::new() }, &typed[..typed.len().min(NUMBER_SIZE)]);
+        let (scratch, room) = (24 * told.places as usize, told.rows.len());
+        let a = self.port.search(&NUMBER, &typed, scratch, room, &mut self.r)?;
+        same("search for a typed number on a damaged memory", refusal, a.number)?;
+        same("rows of a number in a damaged memory", told.rows, a.rows)?;
+        same_bytes("a damaged memory after search for a typed number", &bad.bytes, self.port.mem.bytes())?;
 
         let size = image.len() + self.r.below(60) as usize;
         same("save on a damaged memory", bad.save(size), self.port.save(size, &mut self.r)?)?;
@@ -662,7 +697,7 @@ impl Run<'_> {
         let mut m = bad.clone();
         same("load on a damaged memory", m.load(image), self.port.load(image)?)?;
         same_bytes("a damaged memory after load", &m.bytes, self.port.mem.bytes())?;
-        self.counts.add("calls on damaged memories", 6);
+        self.counts.add("calls on damaged memories", 7);
         Ok(())
     }
 

@@ -4,27 +4,12 @@ use Rattle.row_buffer.proofs.Answering.{rows-within}
 use Rattle.test_recordings.proofs.find.Statement.{statement}
 use Rattle.test_recordings.proofs.find.Tie as tie
 
-print-first-requires : tie.Need-print-first-requires
-print-first-requires c κs =
-    let d = c .before .before .before .before .before .before .before .find in
+print-found-requires : tie.Need-print-found-requires
+print-found-requires c κs =
+    let d = c .before .before .find in
     rows-within (d .ensures .0) (d .ensures .1 .0)
 
 pub find-spec : {M : Type 1} → statement M
 find-spec =
     tie.close
-    (tie.spec
-    (λ c. search needs)
-    (λ c κs. search needs)
-    (λ c κs. search needs)
-    (λ c. search needs)
-    (λ c κs. search needs)
-    (λ c. search needs)
-    (λ c κs. search needs)
-    (λ c κs. search needs)
-    (λ c. search needs)
-    (λ c. search needs)
-    (λ c κs. search needs)
-    (λ c κs. search needs)
-    (λ c. search needs)
-    print-first-requires
-    (λ c. search needs))
+    (tie.spec (λ c. search needs) (λ c κs. search needs) (λ c κs. search needs) (λ c. search needs) (λ c κs. search needs) (λ c. search needs) print-found-requires (λ c. search needs))
