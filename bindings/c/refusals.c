@@ -17,7 +17,7 @@ enum { NODES = 20, ENTRIES = 40, ROOM = HELMAPRICOT_NEEDED(NODES, ENTRIES), UNTO
 
 static uint8_t memory[ROOM];
 static uint8_t before[ROOM];
-static uint8_t scratch[100 * HELMAPRICOT_PLACE_SIZE];
+static uint8_t scratch[40 * HELMAPRICOT_PLACE_SIZE];
 static uint8_t out[1024];
 static uint8_t long_data[HELMAPRICOT_DATA_LIMIT + 1];
 static struct helmapricot_row rows[8];
@@ -259,7 +259,8 @@ static void searching(void)
     leaves("a changed header", HELMAPRICOT_INDEX_RULE_BROKEN, search((const uint8_t *)"a", 1, 8, 8));
 }
 
-/* Thirteen zeros, put together from four writes, have check 1. From its byte i on, the first being 0, the query has i + 1 places. */
+/* Thirteen zeros, put together from four writes, have check 1. They take 34 places: one for the whole, and for each of their ends one
+ * for each write that it can begin with, four for ends of up to 4 bytes, three up to 7, two up to 10, one up to 12. */
 static void numbers(void)
 {
     opened(29, 26);
@@ -268,26 +269,26 @@ static void numbers(void)
     expect("its third part", HELMAPRICOT_DONE, record(HELMAPRICOT_MEMORY, 106, 10, 50, "000"));
     expect("its end", HELMAPRICOT_DONE, record(HELMAPRICOT_MEMORY, 109, 10, 50, "0000"));
     note();
-    leaves("a right number before finish", HELMAPRICOT_BEFORE_FINISH, search_number("00000000000001", 100, 8));
-    leaves("a wrong number before finish", HELMAPRICOT_BEFORE_FINISH, search_number("0", 100, 8));
+    leaves("a right number before finish", HELMAPRICOT_BEFORE_FINISH, search_number("00000000000001", 40, 8));
+    leaves("a wrong number before finish", HELMAPRICOT_BEFORE_FINISH, search_number("0", 40, 8));
     expect("finish", HELMAPRICOT_DONE, helmapricot_finish(memory, sizeof memory));
     note();
-    leaves("nothing typed", HELMAPRICOT_WRONG_NUMBER, search_number("", 100, 8));
-    leaves("without its check", HELMAPRICOT_WRONG_NUMBER, search_number("0000000000000", 100, 8));
-    leaves("one character more", HELMAPRICOT_WRONG_NUMBER, search_number("000000000000010", 100, 8));
-    leaves("another check", HELMAPRICOT_WRONG_NUMBER, search_number("00000000000002", 100, 8));
-    leaves("a small letter", HELMAPRICOT_WRONG_NUMBER, search_number("g123498654321H", 100, 8));
-    leaves("a star inside", HELMAPRICOT_WRONG_NUMBER, search_number("000000000000*3", 100, 8));
-    leaves("a place too few", HELMAPRICOT_SCRATCH_TOO_SMALL, search_number("00000000000001", 90, 8));
-    leaves("a row too few", HELMAPRICOT_TOO_MANY_ROWS, search_number("00000000000001", 91, 0));
-    leaves("just enough", HELMAPRICOT_DONE, search_number("00000000000001", 91, 1));
+    leaves("nothing typed", HELMAPRICOT_WRONG_NUMBER, search_number("", 40, 8));
+    leaves("without its check", HELMAPRICOT_WRONG_NUMBER, search_number("0000000000000", 40, 8));
+    leaves("one character more", HELMAPRICOT_WRONG_NUMBER, search_number("000000000000010", 40, 8));
+    leaves("another check", HELMAPRICOT_WRONG_NUMBER, search_number("00000000000002", 40, 8));
+    leaves("a small letter", HELMAPRICOT_WRONG_NUMBER, search_number("g123498654321H", 40, 8));
+    leaves("a star inside", HELMAPRICOT_WRONG_NUMBER, search_number("000000000000*3", 40, 8));
+    leaves("a place too few", HELMAPRICOT_SCRATCH_TOO_SMALL, search_number("00000000000001", 33, 8));
+    leaves("a row too few", HELMAPRICOT_TOO_MANY_ROWS, search_number("00000000000001", 34, 0));
+    leaves("just enough", HELMAPRICOT_DONE, search_number("00000000000001", 34, 1));
     expect("its address", 100, rows[0].address);
-    leaves("a number that stood nowhere", HELMAPRICOT_DONE, search_number("0000000000001*", 100, 0));
-    leaves("one with letters", HELMAPRICOT_DONE, search_number("G123498654321H", 100, 0));
-    memory[0] ^= 1;
+    leaves("a number that stood nowhere", HELMAPRICOT_DONE, search_number("0000000000001*", 40, 0));
+    leaves("one with letters", HELMAPRICOT_DONE, search_number("G123498654321H", 40, 0));
+    memory[HELMAPRICOT_HEADER_SIZE] ^= 1;
     note();
-    leaves("a right number, a changed header", HELMAPRICOT_INDEX_RULE_BROKEN, search_number("00000000000001", 100, 8));
-    leaves("a wrong number, a changed header", HELMAPRICOT_INDEX_RULE_BROKEN, search_number("0", 100, 8));
+    leaves("a right number, a changed image", HELMAPRICOT_INDEX_RULE_BROKEN, search_number("00000000000001", 40, 8));
+    leaves("a wrong number, a changed image", HELMAPRICOT_INDEX_RULE_BROKEN, search_number("0", 40, 8));
 }
 
 int main(void)

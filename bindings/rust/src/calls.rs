@@ -79,7 +79,7 @@ mod tests {
 
     #[test]
     fn counts_of_numbers() -> Result<(), Refusal> {
-        // thirteen zeros at two addresses: the query from its first byte on has two places, from its last on fourteen
+        // thirteen zeros at two addresses of a piece: two places, and one for each of the twelve ends that the piece begins with
         let (right, wrong) = (b"00000000000001", b"00000000000002");
         let mut index = Index::new(200, 40)?;
         index.record(Kind::Memory, 1, 1, 9, &[b'0'; 14])?;
@@ -88,7 +88,7 @@ mod tests {
         index.finish()?;
         assert_eq!(search_number(index.memory(), wrong, 0, 0), (19, BEFORE));
         assert_eq!(search_number(index.memory(), &[b'0'; 257], 200, 2), (19, BEFORE));
-        let places = (2..=14).sum::<usize>();
+        let places = 2 + 12;
         assert_eq!(search_number(index.memory(), right, places - 1, 2), (10, BEFORE));
         assert_eq!(search_number(index.memory(), right, places, 1), (11, BEFORE));
         assert_eq!(search_number(index.memory(), right, places, 2), (0, 2));
