@@ -103,7 +103,7 @@ record-checks s kind b = stream-checks s ++ kind-checks kind (block-checks (s .c
 abbrev pub finish-checks : Standing → List Check
 finish-checks s = index-check s ∷ []
 
--- what a query asks: scratch has room for so many places, the row buffer for so many rows
+-- what is asked of a query: scratch has room for so many places, the row buffer for so many rows
 abbrev pub query-checks : Standing → List ℕ → (scratch room : ℕ) → List Check
 query-checks s q scratch room =
     record { applies = ltb query-limit (length q); cause = query-too-long } ∷
@@ -116,14 +116,14 @@ search-checks s q scratch room =
     finish-check s ∷
     query-checks s q scratch room
 
--- what is asked before the query of one who types a number, which is right or not
+-- what is asked before a typed number is looked for; it is right or not
 abbrev pub number-checks : Standing → (is-right : Bool) → List Check
 number-checks s is-right =
     index-check s ∷
     finish-check s ∷
     record { applies = not is-right; cause = wrong-number } ∷ []
 
--- the query is the number
+-- the number is the query
 abbrev pub search-number-checks : Standing → (is-right : Bool) → List ℕ → (scratch room : ℕ) → List Check
 search-number-checks s is-right number scratch room = number-checks s is-right ++ query-checks s number scratch room
 
