@@ -64,6 +64,9 @@ fn calls() {
             let q: Vec<u8> = (0..len).map(|_| (next() % letters) as u8).collect();
             note("search", taken(|| { black_box(linked::search(&mem, &q, &mut scratch, &mut rows)); }));
         }
+        for typed in [&b"G123498654321H"[..], b"00000000000001", b""] {
+            note("search_number", taken(|| { black_box(linked::search_number(&mem, typed, &mut scratch, &mut rows)); }));
+        }
         let mut size = 0;
         note("save", taken(|| size = linked::save(&mem, &mut out).1));
         note("load", taken(|| assert_eq!(linked::load(&mut mem, &out[..size as usize]), 0)));
