@@ -8,10 +8,10 @@ ghost use Prim.Native.Nat.{_≤_, _<_};
 ghost use lib.ListN.{length};
 ghost use Rattle.check_character.specs.Number.{value, weighted, check, characters, values, sum-from, right};
 
-// The characters of a number, and what is typed: a number and its check character.
+// The characters of a number.
 pub const NUMBER_SIZE: usize = 13;
-
-pub const TYPED_SIZE: usize = 14;
+// What is typed: a number and its check character.
+const TYPED_SIZE: usize = 14;
 
 // The value of a character: 0 to 35 of 0-9 and A-Z, 36 of `*`, 37 of any other.
 fn value_of(b: u8) -> usize

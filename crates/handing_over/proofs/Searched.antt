@@ -15,7 +15,7 @@ use Rattle.handing_over.specs.Answers.{answer-as, answer-to}
 use Rattle.handing_over.proofs.Finding.{handed-over}
 use Rattle.finding.proofs.FindCall.{Finds}
 
--- o was found, and its rows have room; f says so, and s is scratch afterwards
+-- o was found: f says so, and x is scratch before, s afterwards
 module _ (o : Rows-found) (x : List ℕ) (rows : List Row) {s : List ℕ} {f : Finding} (found : Finds o x s f) where
   refused : f .refusal ≡ o .refusal
   refused = ap (λ (h : Finding). h .refusal) (found .0)
