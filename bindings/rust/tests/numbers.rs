@@ -20,7 +20,7 @@ fn any_number(r: &mut Random) -> Vec<u8> {
     (0..NUMBER_SIZE).map(|_| r.pick(&CHARACTERS[..36])).collect()
 }
 
-/// An index that holds the number at address 4096 in writes of at most so many bytes, and what is typed for it.
+/// An index that holds the number at address 4096, in writes of at most so many bytes.
 fn held(number: &[u8], longest: usize) -> Result<Index, Refusal> {
     let mut index = Index::new(200, 40)?;
     for (i, part) in number.chunks(longest).enumerate() {
