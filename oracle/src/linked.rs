@@ -37,9 +37,12 @@ pub fn finish(mem: &mut [u8]) -> u64 {
 /// What stands in a count or a size before a call; one that is refused leaves it.
 pub const UNWRITTEN: u64 = u64::MAX;
 
-type Search = unsafe extern "C" fn(*const u8, usize, *const u8, usize, *mut u8, usize, *mut Row, usize, *mut u64) -> u64;
+/// What both searches are.
+pub type Search = fn(&[u8], &[u8], &mut [u8], &mut [Row]) -> (u64, u64);
 
-fn searched(call: Search, mem: &[u8], q: &[u8], scratch: &mut [u8], rows: &mut [Row]) -> (u64, u64) {
+type ExportedSearch = unsafe extern "C" fn(*const u8, usize, *const u8, usize, *mut u8, usize, *mut Row, usize, *mut u64) -> u64;
+
+fn searched(call: ExportedSearch, mem: &[u8], q: &[u8], scratch: &mut [u8], rows: &mut [Row]) -> (u64, u64) {
     let mut count = UNWRITTEN;
     let n = unsafe { call(mem.as_ptr(), mem.len(), q.as_ptr(), q.len(), scratch.as_mut_ptr(), scratch.len(), rows.as_mut_ptr(), rows.len(), &mut count) };
     (n, count)

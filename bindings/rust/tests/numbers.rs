@@ -20,14 +20,14 @@ fn any_number(r: &mut Random) -> Vec<u8> {
     (0..NUMBER_SIZE).map(|_| r.pick(&CHARACTERS[..36])).collect()
 }
 
-/// An index that holds the number at address 4096, in writes of at most so many bytes.
-fn held(number: &[u8], longest: usize) -> Result<Index, Refusal> {
+/// An index that holds the number at address 4096, in writes of at most so many bytes, and what is typed for it.
+fn held(number: &[u8], longest: usize) -> Result<(Index, Vec<u8>), Refusal> {
     let mut index = Index::new(200, 40)?;
     for (i, part) in number.chunks(longest).enumerate() {
         index.record(Kind::Memory, 4096 + (i * longest) as u64, 10, 50, part)?;
     }
     index.finish()?;
-    Ok(index)
+    Ok((index, with_check(number)))
 }
 
 const STOOD: [Row; 1] = [Row { address: 4096, created: 10, destroyed: 50 }];
@@ -42,7 +42,7 @@ fn typed_otherwise(index: &Index, right: &[u8], typed: &[u8]) {
 fn documented() -> Result<(), Refusal> {
     assert_eq!((check(b"0000000000000"), check(b"0000000000001"), check(b"G123498654321")), (b'1', b'*', b'H'));
     for typed in [b"00000000000001", b"0000000000001*", b"G123498654321H"] {
-        assert_eq!(held(&typed[..NUMBER_SIZE], 4)?.search_number(typed)?, STOOD);
+        assert_eq!(held(&typed[..NUMBER_SIZE], 4)?.0.search_number(typed)?, STOOD);
     }
     Ok(())
 }
@@ -51,8 +51,7 @@ fn documented() -> Result<(), Refusal> {
 fn single_changes() -> Result<(), Refusal> {
     let r = &mut Random(31);
     for _ in 0..150 {
-        let number = any_number(r);
-        let (index, right) = (held(&number, 4)?, with_check(&number));
+        let (index, right) = held(&any_number(r), 4)?;
         for at in 0..right.len() {
             for byte in 0..=255 {
                 let mut typed = right.clone();
@@ -68,8 +67,7 @@ fn single_changes() -> Result<(), Refusal> {
 fn exchanged_neighbours() -> Result<(), Refusal> {
     let r = &mut Random(32);
     for _ in 0..3_000 {
-        let number = any_number(r);
-        let (index, right) = (held(&number, 16)?, with_check(&number));
+        let (index, right) = held(&any_number(r), 16)?;
         for at in 1..right.len() {
             let mut typed = right.clone();
             typed.swap(at - 1, at);
@@ -85,7 +83,7 @@ fn each_value_at_each_place() -> Result<(), Refusal> {
     for (at, value) in (0..NUMBER_SIZE).flat_map(|at| CHARACTERS[..36].iter().map(move |c| (at, *c))) {
         let mut number = [b'0'; NUMBER_SIZE];
         number[at] = value;
-        let (index, right) = (held(&number, 16)?, with_check(&number));
+        let (index, right) = held(&number, 16)?;
         for last in CHARACTERS {
             typed_otherwise(&index, &right, &[&number[..], &[*last]].concat());
         }
@@ -97,8 +95,7 @@ fn each_value_at_each_place() -> Result<(), Refusal> {
 fn other_lengths() -> Result<(), Refusal> {
     let r = &mut Random(33);
     for _ in 0..200 {
-        let number = any_number(r);
-        let (index, right) = (held(&number, 4)?, with_check(&number));
+        let (index, right) = held(&any_number(r), 4)?;
         let long = [&right[..], &right, &right].concat();
         for length in 0..=long.len() {
             typed_otherwise(&index, &right, &long[..length]);

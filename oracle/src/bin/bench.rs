@@ -194,7 +194,7 @@ fn typed_numbers(mem: &mut [u8]) {
     let right = [&number[..], &[number::check(&number).unwrap()]].concat();
     finished(mem, &[block(4096, 1, 9, number.clone())]);
     let (mut scratch, mut rows) = (vec![0; 24 * 100], vec![linked::Row::default(); 4]);
-    let mut call = |search: fn(&[u8], &[u8], &mut [u8], &mut [linked::Row]) -> (u64, u64), q: &[u8], answer: u64| timed(|| (0..100).for_each(|_| assert_eq!(search(mem, q, &mut scratch, &mut rows).0, answer)));
+    let mut call = |search: linked::Search, q: &[u8], answer: u64| timed(|| (0..100).for_each(|_| assert_eq!(search(mem, q, &mut scratch, &mut rows).0, answer)));
     let mut best = [f64::MAX; 3];
     for _ in 0..3000 {
         let round = [call(linked::search, &number, 0), call(linked::search_number, &right, 0), call(linked::search_number, &number, 19)];

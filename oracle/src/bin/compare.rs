@@ -78,7 +78,12 @@ struct Answer {
 /// One of the two searches, by its name in the counts.
 struct Search {
     name: &'static str,
-    call: fn(&[u8], &[u8], &mut [u8], &mut [linked::Row]) -> (u64, u64),
+    call: linked::Search,
+}
+
+/// What is looked for where this was typed.
+fn number_in(typed: &[u8]) -> &[u8] {
+    &typed[..typed.len().min(NUMBER_SIZE)]
 }
 
 const QUERY: Search = Search { name: "searches", call: linked::search };
@@ -296,8 +301,7 @@ impl Run<'_> {
         };
         self.find_by(&QUERY, q, q, refusal)?;
         let typed = typed(&mut self.r, q);
-        let number = &typed[..typed.len().min(NUMBER_SIZE)];
-        self.find_by(&NUMBER, &typed, number, self.model.search_number_refusal(&typed))
+        self.find_by(&NUMBER, &typed, number_in(&typed), self.model.search_number_refusal(&typed))
     }
 
     /// A search that is handed one thing and looks for another, if it is not refused before.
@@ -646,6 +650,15 @@ impl Run<'_> {
         Ok(())
     }
 
+    /// A search that is handed one thing and looks for another, on a damaged memory, with just enough room.
+    fn search_damaged(&mut self, by: &Search, bad: &Memory, handed: &[u8], q: &[u8], refusal: u64) -> Compared {
+        let told = model::foretell(&if refusal == 0 { bad.pieces() } else { Vec::new() }, q);
+        let a = self.port.search(by, handed, 24 * told.places as usize, told.rows.len(), &mut self.r)?;
+        same(&format!("{} on a damaged memory", by.name), refusal, a.number)?;
+        same(&format!("{}: rows in a damaged memory", by.name), told.rows, a.rows)?;
+        same_bytes(&format!("{}: a damaged memory afterwards", by.name), &bad.bytes, self.port.mem.bytes())
+    }
+
     /// Every call but opening, each on its own copy of a memory.
     fn calls_on(&mut self, bad: &Memory, q: &[u8], image: &[u8]) -> Compared {
         self.port.mem.set(&bad.bytes);
@@ -674,21 +687,9 @@ impl Run<'_> {
         same_bytes("a damaged memory after finish", &m.bytes, self.port.mem.bytes())?;
 
         self.port.mem.set(&bad.bytes);
-        let told = model::foretell(&if bad.search_refusal() == 0 { bad.pieces() } else { Vec::new() }, q);
-        let (scratch, room) = (24 * told.places as usize, told.rows.len());
-        let a = self.port.search(&QUERY, q, scratch, room, &mut self.r)?;
-        same("search on a damaged memory", bad.search_refusal(), a.number)?;
-        same("rows in a damaged memory", told.rows, a.rows)?;
-        same_bytes("a damaged memory after search", &bad.bytes, self.port.mem.bytes())?;
-
+        self.search_damaged(&QUERY, bad, q, q, bad.search_refusal())?;
         let typed = typed(&mut self.r, q);
-        let refusal = bad.search_number_refusal(&typed);
-        let told = model::foretell(&if refusal == 0 { bad.pieces() } else { Vec::new() }, &typed[..typed.len().min(NUMBER_SIZE)]);
-        let (scratch, room) = (24 * told.places as usize, told.rows.len());
-        let a = self.port.search(&NUMBER, &typed, scratch, room, &mut self.r)?;
-        same("search for a typed number on a damaged memory", refusal, a.number)?;
-        same("rows of a number in a damaged memory", told.rows, a.rows)?;
-        same_bytes("a damaged memory after search for a typed number", &bad.bytes, self.port.mem.bytes())?;
+        self.search_damaged(&NUMBER, bad, &typed, number_in(&typed), bad.search_number_refusal(&typed))?;
 
         let size = image.len() + self.r.below(60) as usize;
         same("save on a damaged memory", bad.save(size), self.port.save(size, &mut self.r)?)?;

@@ -1,4 +1,5 @@
-//! Numbers from a seed (splitmix64).
+//! Numbers from a seed (splitmix64). Each test uses what it needs of them.
+#![allow(dead_code)]
 pub struct Random(pub u64);
 
 impl Random {
