@@ -1,8 +1,8 @@
 -- Demand 3 for typed numbers: a right one is searched for as its 13 characters are. Assumes nothing.
-use Prim.Native.Nat.{ℕ, _/_, _≤_, _<_}
+use Prim.Native.Nat.{ℕ, _/_}
 use native.Mathlib.Omega.{arith}
 use mathlib.Core.Path.{_≡_, refl, sym, ap, _∙_, subst}
-use mathlib.Core.Bool.{true, false, not}
+use mathlib.Core.Bool.{true, false}
 use mathlib.Core.List.{List, []}
 use mathlib.Core.Option.{Option, none, some}
 use lib.ListN.{length, length-take}
@@ -20,7 +20,7 @@ use Rattle.index_memory.specs.Index.{standing-of, read-index}
 use Rattle.handing_over.specs.Search.{Found, found-or-refused, search-memory, search-number-memory}
 use Rattle.handing_over.proofs.Numbers.{number-searches}
 use Rattle.demand.specs.Demand.{Recording, final, HandsOver, Exactly}
-use Rattle.demand.specs.Numbers.{number-searched, NumberRowsExact, WrongRefused, RightByBuffers, RightAnswers, ShiftNumberRowsExact, NumberDemand}
+use Rattle.demand.specs.Numbers.{NumberRowsExact, WrongRefused, RightByBuffers, RightAnswers, ShiftNumberRowsExact, NumberDemand}
 use Rattle.demand.proofs.Theorem.{demand}
 
 -- ── the number as a query ──
