@@ -1,4 +1,5 @@
 // Answers the forms of the program `places`: each line by a call of the index, each reply into an output that is lent.
+#![tactic(auto)]
 ghost use Rattle.std.specs.Prelude.{◌+◌, ◌≤◌, length};
 ghost use Rattle.answering.specs.Parts.{kept_answer, kept_memory, end_answer, end_memory};
 ghost use Rattle.answering.specs.Cited.{AnswersLines};
@@ -44,7 +45,7 @@ fn end_line(
 }
 
 // How many bytes of an unfinished line are kept, how far the output is filled, and where the input goes on.
-#[derive(Drop)]
+#[derive(Clone, Copy)]
 pub struct Progress {
     pub kept: usize,
     pub at: usize,

@@ -1,4 +1,5 @@
 // The block stream: kind 1, address 8, length 8, created 8, destroyed 8, then the data.
+#![tactic(auto)]
 ghost use Rattle.std.specs.Prelude.{◌≡◌};
 ghost use Rattle.definitions.specs.BlockStream.{read_block, data_of};
 ghost use Rattle.block_stream.specs.Answer.{read_of, Starts};
@@ -7,7 +8,7 @@ ghost use Rattle.block_stream.specs.Answer.{read_of, Starts};
 const HEAD_SIZE: usize = 33;
 
 // A block of the stream. Its data are the bytes from start to next, and the next block stands at next.
-#[derive(Drop)]
+#[derive(Clone, Copy)]
 pub struct Block {
     pub kind: u8,
     pub address: u64,
@@ -18,7 +19,7 @@ pub struct Block {
 }
 
 // What reading at a cursor gives: a block, the stream's end, or the number of the cause of a refusal.
-#[derive(Drop)]
+#[derive(Clone, Copy)]
 pub enum Read {
     Block(Block),
     End,

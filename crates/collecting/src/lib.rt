@@ -1,4 +1,5 @@
 // Collecting places from an image in place: what a node and all under it hold goes into a set of places.
+#![tactic(auto)]
 ghost use Rattle.std.specs.Prelude.{◌+◌, ◌*◌, ◌≤◌, ◌++◌, length};
 ghost use Rattle.definitions.specs.Location.{locations_in};
 ghost use Rattle.image_walk.specs.Here.{Laid};
@@ -9,7 +10,7 @@ use image_walk::{Node, Slot};
 use place_buffer::Places;
 
 // Where following ends: the first node with other than one child, how many levels are left below it, and the set by then.
-#[derive(Drop)]
+#[derive(Clone, Copy)]
 struct Stop {
     node: Node,
     left: usize,

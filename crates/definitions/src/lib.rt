@@ -1,4 +1,5 @@
 // The numbers of documents 01 and 02 that the code shares: refusals, and limits.
+#![tactic(auto)]
 
 // Opening with 0 or over 1,048,576 nodes or entries, or with more than the lent memory holds.
 pub const CAPACITY_REFUSED: u64 = 16;

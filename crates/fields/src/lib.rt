@@ -1,4 +1,5 @@
 // The fields of one node of an image in layout order.
+#![tactic(auto)]
 ghost use Rattle.std.specs.Prelude.{◌≡◌, ◌+◌, ◌*◌, ◌≤◌, ◌<◌, length, eqb, cond, true};
 ghost use Rattle.image_format.specs.Reading.{offset, slot_turn, turn_at, all_met, read_list, read_head, open_table};
 ghost use Rattle.fields.specs.Answers.{step_of, list_of, head_of, table_in, table_of, turn_of};
@@ -9,13 +10,13 @@ use definitions::LOCATION_SIZE;
 use image_format::{DENSE_ENTRIES, DENSE_SIZE, SLOT_SIZE};
 
 // The nodes and entries of an image.
-#[derive(Drop)]
+#[derive(Clone, Copy)]
 pub struct Counts {
     pub nodes: usize,
     pub entries: usize,
 }
 
-#[derive(Drop)]
+#[derive(Clone, Copy)]
 pub enum Layout {
     Right(Counts),
     Refused(u64),
@@ -23,7 +24,7 @@ pub enum Layout {
 
 // Where a part of an image ends and what it counts, or its refusal; 0 where there is none. (A struct, and no enum: the
 // reader's speed is that of copying this answer from level to level, and an enum of a number has seven bytes between.)
-#[derive(Drop)]
+#[derive(Clone, Copy)]
 pub struct Past {
     pub at: usize,
     pub refusal: u64,
@@ -32,7 +33,7 @@ pub struct Past {
 }
 
 // A node up to its table: its kind, where its lists end and what they count, or a refusal.
-#[derive(Drop)]
+#[derive(Clone, Copy)]
 pub struct Head {
     pub kind: u8,
     pub at: usize,
@@ -42,7 +43,7 @@ pub struct Head {
 
 // The children of a node: where its table stands and how many entries that has, where the first flag is due, and how
 // many turns there are; or a refusal.
-#[derive(Drop)]
+#[derive(Clone, Copy)]
 pub struct Children {
     pub kind: u8,
     pub base: usize,
@@ -53,7 +54,7 @@ pub struct Children {
 }
 
 // What stands where a child is due.
-#[derive(Drop)]
+#[derive(Clone, Copy)]
 pub enum Due {
     Child,
     Gap,

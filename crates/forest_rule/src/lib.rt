@@ -1,4 +1,5 @@
 // The index rule at all nodes below the root: each child with its fronts, runs of nodes with one child at once.
+#![tactic(auto)]
 ghost use Rattle.std.specs.Prelude.{◌≡◌, true, false, ◌+◌, ◌*◌, ◌≤◌, ◌<◌, length};
 ghost use Rattle.node_rule.specs.Parts.{HasTable};
 ghost use Rattle.single_runs.specs.Says.{ChildAsked, ChildSays, ChildrenAsked, ChildrenSays};
@@ -18,7 +19,7 @@ fn owes_none(s: &[u8], table: usize, lists: &mut [usize]) -> bool
 }
 
 // Whether a leaf is right, if found is true.
-#[derive(Drop)]
+#[derive(Clone, Copy)]
 struct Leaf {
     pub found: bool,
     pub right: bool,
@@ -65,7 +66,7 @@ fn leaf_right(s: &[u8], table: usize, other: usize, lists: &mut [usize]) -> Leaf
 }
 
 // The children in the table of a node at depth, where left levels are left below the node.
-#[derive(Drop)]
+#[derive(Clone, Copy)]
 pub struct Siblings {
     pub table: usize,
     pub children: usize,
@@ -74,7 +75,7 @@ pub struct Siblings {
 }
 
 // Where the run below a node ends, and whether its last node is right; or all below it, if the run ended at leaves.
-#[derive(Drop)]
+#[derive(Clone, Copy)]
 struct RunEnd {
     pub levels: usize,
     pub table: usize,

@@ -1,4 +1,5 @@
 // The forms of a line: a block, finish, find, or no form at all.
+#![tactic(auto)]
 ghost use Rattle.std.specs.Prelude.{◌≡◌, ◌*◌, length, drop};
 ghost use Rattle.definitions.specs.Program.{find};
 ghost use Rattle.forms.specs.ReadLine.{with_bytes, read_block, read_line};
@@ -11,7 +12,7 @@ use lines::LINE_LIMIT;
 use numerals::Number;
 
 // A form. Its bytes stand in the buffer that the reader was lent; here is how many they are.
-#[derive(Drop)]
+#[derive(Clone, Copy)]
 pub enum Form {
     Block {
         kind: u64,

@@ -1,4 +1,5 @@
 // The nodes whose paths have one byte more in front.
+#![tactic(auto)]
 ghost use Rattle.std.specs.Prelude.{◌≡◌, ◌+◌, ◌*◌, ◌≤◌, ◌<◌, ◌/◌, min, length, set, cond, eqb};
 ghost use Rattle.node_rule.specs.Parts.{HasTable};
 ghost use Rattle.fronts.specs.Fronts.{HasFronts, with_front};
@@ -47,7 +48,7 @@ pub fn root_fronts(s: &[u8], table: usize, children: usize, fronts: &mut [usize]
 }
 
 // How many fronts, and how many lists of their chunks and prefixes.
-#[derive(Drop)]
+#[derive(Clone, Copy)]
 pub struct Found {
     pub fronts: usize,
     pub lists: usize,
@@ -91,7 +92,7 @@ fn fronts_by(
 }
 
 // The child by byte at index at, of a node at depth.
-#[derive(Drop)]
+#[derive(Clone, Copy)]
 pub struct Place {
     pub byte: u8,
     pub at: usize,

@@ -1,4 +1,5 @@
 // The rows of a query or of a typed number, handed over in a slice that is lent for them.
+#![tactic(auto)]
 ghost use Rattle.std.specs.Prelude.{◌≡◌, length};
 ghost use Rattle.definitions.specs.Causes.{ScratchAfter};
 ghost use Rattle.handing_over.specs.Search.{search_memory, search_number_memory};
@@ -8,7 +9,7 @@ use row_buffer::Finding;
 use rows::Row;
 
 // How many rows are handed over, or the number of a refusal.
-#[derive(Drop)]
+#[derive(Clone, Copy)]
 pub enum Answer {
     Rows(usize),
     Refused(u64),

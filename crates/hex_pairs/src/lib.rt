@@ -1,11 +1,12 @@
 // Bytes in the text of a form: pairs of hexadecimal digits.
+#![tactic(auto)]
 ghost use Rattle.std.specs.Prelude.{◌≡◌, ◌+◌, ◌*◌, ◌≤◌, length, get_or, drop};
 ghost use Rattle.std.proofs.lemmas.List.Edits.{sets};
 ghost use Rattle.hex_pairs.specs.HexBytes.{nibble, pair, closing, hex_bytes, last_bytes};
 ghost use Rattle.hex_pairs.specs.HexAnswers.{counted, pairs_at};
 
 // How many bytes the last parentheses of a line hold.
-#[derive(Drop)]
+#[derive(Clone, Copy)]
 pub enum Count {
     Bytes(usize),
     Bad,

@@ -1,4 +1,5 @@
 // Conflicts among the pieces of an image, found in place: its chunks against the root's suffixes, where all of them stand.
+#![tactic(auto)]
 ghost use Rattle.std.specs.Prelude.{◌≡◌, true, not, ◌+◌, ◌*◌, ◌≤◌, length};
 ghost use Rattle.definitions.specs.Location.{locations_in};
 ghost use Rattle.definitions.specs.Calls.{last_number};
@@ -18,7 +19,7 @@ use lined_locations::Line;
 use location::SpacetimeLocation;
 
 // How many chunks are yet due, or that two pieces conflict.
-#[derive(Drop)]
+#[derive(Clone, Copy)]
 enum Due {
     Chunks(usize),
     Conflict,

@@ -1,4 +1,5 @@
 // The bytes of an image and how they are read: definitions and what holds of them, and the sizes that the code shares.
+#![tactic(auto)]
 
 // An entry in a table of kind 2 or 3: a byte and an offset.
 pub const SLOT_SIZE: usize = 9;

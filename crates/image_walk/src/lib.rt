@@ -1,4 +1,5 @@
 // Nodes of an image, found in place by their index.
+#![tactic(auto)]
 ghost use Rattle.std.specs.Prelude.{◌≡◌, cond, ℕ, ◌+◌, ◌*◌, ◌^◌, ◌≤◌, ◌<◌, length, get_or, eqb};
 ghost use Rattle.words.specs.Words.{le64};
 ghost use Rattle.image_format.specs.Held.{sparse_entries};
@@ -13,7 +14,7 @@ use image_format::{DENSE_ENTRIES, SLOT_SIZE};
 
 // Where the parts of a node stand. Its children are the entries of its table: 256 in kind 1, some of them empty, and at
 // most 96 in kinds 2 and 3.
-#[derive(Drop)]
+#[derive(Clone, Copy)]
 pub struct Node {
     pub prefixes: usize,
     pub prefix_count: usize,
@@ -26,14 +27,14 @@ pub struct Node {
 }
 
 // A place in a node's table.
-#[derive(Drop)]
+#[derive(Clone, Copy)]
 pub enum Slot {
     Taken { byte: u8, at: usize },
     Empty,
 }
 
 // The child for a byte.
-#[derive(Drop)]
+#[derive(Clone, Copy)]
 pub enum Child {
     At(usize),
     Nothing,

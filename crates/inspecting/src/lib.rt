@@ -1,4 +1,5 @@
 // What a lent memory holds, tested before any call relies on it: no index, an open one, or a finished one.
+#![tactic(auto)]
 ghost use Rattle.std.specs.Prelude.{◌≡◌};
 ghost use Rattle.std.proofs.Math.Option.{some};
 ghost use Rattle.memory_header.specs.Answers.{header_of, heading_at};
@@ -8,7 +9,7 @@ use fields::Layout;
 use memory_header::{HEADER_SIZE, Header, Heading};
 
 // What a memory holds, by its header.
-#[derive(Drop)]
+#[derive(Clone, Copy)]
 pub enum Held {
     Broken,
     Open(Header),

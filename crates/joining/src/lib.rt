@@ -1,4 +1,5 @@
 // Joins locations that end where places begin, and adds what they have in common to a set of places.
+#![tactic(auto)]
 ghost use Rattle.std.specs.Prelude.{◌≡◌, cond, [], ◌∷◌, ◌+◌, ◌≤◌, length, ltb};
 ghost use Rattle.words.specs.Words.{le64};
 ghost use Rattle.definitions.specs.Places.{joins};
@@ -13,14 +14,14 @@ use location::{Common, SpacetimeLocation};
 use place_buffer::Places;
 
 // A list of locations in an image: so many from byte at on.
-#[derive(Drop)]
+#[derive(Clone, Copy)]
 pub struct List {
     pub at: usize,
     pub count: usize,
 }
 
 // The places number from to to - 1 of scratch.
-#[derive(Drop)]
+#[derive(Clone, Copy)]
 pub struct Span {
     pub from: usize,
     pub to: usize,

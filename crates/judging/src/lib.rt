@@ -1,4 +1,5 @@
 // A block judged by the header and the certificate of an open index: the header that counts it too, or why it is refused.
+#![tactic(auto)]
 ghost use Rattle.std.specs.Prelude.{◌≡◌, ◌≤◌, length};
 ghost use Rattle.location.specs.Plain.{plain};
 ghost use Rattle.memory_header.specs.Answers.{header_of};
@@ -13,7 +14,7 @@ use location::SpacetimeLocation;
 use memory_header::Header;
 
 // A block judged: the header that counts it too, or the number of its refusal.
-#[derive(Drop)]
+#[derive(Clone, Copy)]
 pub enum Judged {
     Counted(Header),
     Refused(u64),

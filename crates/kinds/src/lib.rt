@@ -1,9 +1,10 @@
 // The kinds of a node in an image by how many children it has.
+#![tactic(auto)]
 ghost use Rattle.std.specs.Prelude.{◌≡◌, ◌≤◌};
 ghost use Rattle.kinds.specs.Kinds.{kind_of, fits};
 
 // A node kind with its lowest and its highest child count.
-#[derive(Drop)]
+#[derive(Clone, Copy)]
 pub struct KindRange {
     pub kind: u8,
     pub lowest: usize,

@@ -1,4 +1,5 @@
 // Locations in line, found in memory by their number: one after the other, or in a log by the numbers of a certificate.
+#![tactic(auto)]
 ghost use Rattle.std.specs.Prelude.{◌≡◌, ◌-◌, ◌≤◌, ◌<◌};
 ghost use Rattle.location.specs.Plain.{plain};
 ghost use Rattle.conflicts.specs.Lined.{is_ahead, earlier, in_line, first_from, lives_among, Lined};
@@ -15,7 +16,7 @@ pub const CERTIFIED_SIZE: usize = 16;
 const PIECE_LOCATION: usize = 24;
 
 // Where they stand: from index base on, 24 bytes each; or in the log, by the numbers of the certificate from index base on.
-#[derive(Drop)]
+#[derive(Clone, Copy)]
 pub struct Line {
     pub base: usize,
     pub count: usize,

@@ -1,4 +1,5 @@
 // The lists of a node: the locations of tails in the work area, sorted, each once, written into the image.
+#![tactic(auto)]
 ghost use Rattle.std.specs.Prelude.{◌≡◌, cond, ◌+◌, ◌*◌, ◌≤◌, ◌<◌, [], length};
 ghost use Rattle.std.proofs.lemmas.List.Edits.{sets};
 ghost use Rattle.definitions.specs.Location.{location_bytes};
@@ -10,7 +11,7 @@ use definitions::LOCATION_SIZE;
 use tails::TAIL_SIZE;
 
 // Where an image ends, and the nodes and entries written so far.
-#[derive(Drop)]
+#[derive(Clone, Copy)]
 pub struct End {
     pub at: usize,
     pub nodes: usize,

@@ -1,19 +1,20 @@
 // Locations in space and time: where a block stood, from which tick on and until which.
+#![tactic(auto)]
 ghost use Rattle.std.specs.Prelude.{◌≡◌, ◌+◌, ◌^◌, ◌≤◌, ◌<◌, min, max, length};
 ghost use Rattle.std.proofs.lemmas.List.Edits.{sets};
 ghost use Rattle.definitions.specs.Location as D;
 ghost use Rattle.location.specs.Plain.{plain, common_of};
 
 // An address. It is added only to byte counts.
-#[derive(Drop)]
+#[derive(Clone, Copy)]
 pub struct Address(pub u64);
 
 // A tick. Nothing is added to it.
-#[derive(Drop)]
+#[derive(Clone, Copy)]
 pub struct Tick(pub u64);
 
 // Where something stands, from which tick on and until which.
-#[derive(Drop)]
+#[derive(Clone, Copy)]
 pub struct SpacetimeLocation {
     pub address: Address,
     pub created_at: Tick,
@@ -21,7 +22,7 @@ pub struct SpacetimeLocation {
 }
 
 // The life that two locations have in common, where there is one.
-#[derive(Drop)]
+#[derive(Clone, Copy)]
 pub enum Common {
     Life(SpacetimeLocation),
     Nothing,

@@ -1,4 +1,5 @@
 // The header of lent memory: its fields, their test, and opening an index.
+#![tactic(auto)]
 ghost use Rattle.std.specs.Prelude.{◌≡◌, not, cond, ◌+◌, ◌≤◌, ◌<◌, length, eqb};
 ghost use Rattle.definitions.specs.Calls.{needed, out_of_range};
 ghost use Rattle.memory_header.specs.Layout.{payload_size, with_header};
@@ -17,7 +18,7 @@ pub const LOGGED_SIZE: usize = 48;
 
 // What stands in the header: the capacity, the phase (0 open, 1 finished), the tally, and the size of the payload:
 // pieces in a log, bytes in an image.
-#[derive(Drop)]
+#[derive(Clone, Copy)]
 pub struct Header {
     pub node_room: usize,
     pub entry_room: usize,
@@ -28,14 +29,14 @@ pub struct Header {
 }
 
 // What a memory has for a header.
-#[derive(Drop)]
+#[derive(Clone, Copy)]
 pub enum Heading {
     Right(Header),
     Broken,
 }
 
 // Whether a call is done, or the number of its refusal.
-#[derive(Drop)]
+#[derive(Clone, Copy)]
 pub enum Outcome {
     Done,
     Refused(u64),

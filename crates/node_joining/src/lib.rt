@@ -1,4 +1,5 @@
 // The pieces of one node of an image joined with the places behind them.
+#![tactic(auto)]
 ghost use Rattle.std.specs.Prelude.{◌≡◌, true, ◌+◌, ◌-◌, ◌≤◌, ◌<◌, length, get_or, drop, eqb};
 ghost use Rattle.definitions.specs.Places.{first_of};
 ghost use Rattle.trie.specs.Find.{joins_each, ends_found};
@@ -12,14 +13,14 @@ use joining::{List, Span};
 use place_buffer::Places;
 
 // What ends at a node. Inside a query its prefixes are an empty list.
-#[derive(Drop)]
+#[derive(Clone, Copy)]
 pub struct Ended {
     pub prefixes: List,
     pub chunks: List,
 }
 
 // A step along a query from its byte i on: the node n is reached by those before byte j, and last by the query's last byte.
-#[derive(Drop)]
+#[derive(Clone, Copy)]
 pub struct Step {
     pub i: usize,
     pub j: usize,

@@ -1,4 +1,5 @@
 // The image of sorted tails: a node with its lists, its table, and the nodes below it.
+#![tactic(auto)]
 ghost use Rattle.std.specs.Prelude.{◌+◌, ◌-◌, ◌*◌, ◌≤◌, ◌<◌, length};
 ghost use Rattle.slot_writer.specs.Turns.{TurnAsked, Turned};
 ghost use Rattle.node_writer.specs.Images.{ImageAsked, ImageWritten};
@@ -10,7 +11,7 @@ use single_writer::Head;
 use slot_writer::{Branches, Span, Table, Turn};
 
 // How far a table is: the turn that comes next, how many children were met, and where the image ends.
-#[derive(Drop)]
+#[derive(Clone, Copy)]
 pub struct Progress {
     pub turn: usize,
     pub met: usize,

@@ -1,10 +1,11 @@
 // Numbers in the text of a form: decimal digits.
+#![tactic(auto)]
 ghost use Rattle.std.specs.Prelude.{◌≡◌, ◌≤◌, drop};
 ghost use Rattle.numerals.specs.Numerals.{is_digit, digits_from, space_ends, number};
 ghost use Rattle.numerals.specs.NumeralAnswers.{numeral_of, over_last};
 
 // A number, and where the text behind its space begins.
-#[derive(Drop)]
+#[derive(Clone, Copy)]
 pub enum Number {
     Is(u64, usize),
     Bad,

@@ -1,4 +1,5 @@
 // A set of places in lent memory, 24 bytes a place. What has no room is refused only where the set itself is too large.
+#![tactic(auto)]
 ghost use Rattle.std.specs.Prelude.{◌≡◌, true, false, ◌+◌, ◌*◌, ◌≤◌, length};
 ghost use Rattle.definitions.specs.Location.{locations_in};
 ghost use Rattle.location.specs.Plain.{plain};
@@ -9,7 +10,7 @@ use location::SpacetimeLocation;
 
 // The places from number base to count - 1 are a set. full: a place had no room, and the set is refused.
 // tight: there is no room, and they ascend, so that a further place is only looked up.
-#[derive(Drop)]
+#[derive(Clone, Copy)]
 pub struct Places {
     pub base: usize,
     pub count: usize,

@@ -1,11 +1,12 @@
 // The program `places`: reads forms, a line each, and writes the answers of one index.
+#![tactic(auto)]
 ghost use Rattle.std.specs.Prelude.{◌≡◌, true, ◌≤◌, ◌<◌, length};
 ghost use Rattle.answering.specs.Cited.{TakesPart};
 
 use libc::{STDIN_FILENO, STDOUT_FILENO};
 
 // Whether all was written; if so, how many bytes of an unfinished line are kept.
-#[derive(Drop)]
+#[derive(Clone, Copy)]
 struct Part {
     pub written: bool,
     pub kept: usize,

@@ -1,4 +1,5 @@
 // Recording into an open index: a block that is not refused is entered behind the log, and the header put.
+#![tactic(auto)]
 ghost use Rattle.std.specs.Prelude.{◌≡◌, ◌+◌, ◌-◌, ◌*◌, ◌^◌, ◌≤◌, ◌<◌, min, length};
 ghost use Rattle.std.proofs.lemmas.List.Edits.{sets};
 ghost use Rattle.definitions.specs.Blocks.{pieces};
@@ -22,7 +23,7 @@ use location::SpacetimeLocation;
 use memory_header::{HEADER_SIZE, Header, LOGGED_SIZE};
 
 // Whether a block is taken, or why not.
-#[derive(Drop)]
+#[derive(Clone, Copy)]
 pub enum Recorded {
     Taken,
     Refused(u64),

@@ -1,4 +1,5 @@
 // Rows: places with lives that touch, joined.
+#![tactic(auto)]
 ghost use Rattle.std.specs.Prelude.{◌≡◌, ◌+◌, ◌-◌, ◌*◌, ◌≤◌, ◌<◌, length};
 ghost use Rattle.std.proofs.lemmas.List.Edits.{sets};
 ghost use Rattle.definitions.specs.Location.{location_at, location_bytes, locations_in, locations_bytes};
@@ -10,7 +11,7 @@ use definitions::LOCATION_SIZE;
 use location::SpacetimeLocation;
 
 // What a search finds: the number of a refusal (0 for none), and how many rows stand at the front of scratch.
-#[derive(Drop)]
+#[derive(Clone, Copy)]
 pub struct Finding {
     pub refusal: u64,
     pub count: usize,

@@ -1,4 +1,5 @@
 // Rows as records: where a query stands, from which tick on and until which. They are handed over in a lent slice.
+#![tactic(auto)]
 ghost use Rattle.std.specs.Prelude.{◌≡◌, ◌+◌, ◌*◌, ◌≤◌, length};
 ghost use Rattle.definitions.specs.Location.{location_at, locations_in};
 ghost use Rattle.rows.specs.Rows.{row_of, rows_over};
@@ -7,7 +8,7 @@ use definitions::LOCATION_SIZE;
 
 // Three numbers side by side, so that programs in other languages can lend rows.
 #[repr(C)]
-#[derive(Drop)]
+#[derive(Clone, Copy)]
 pub struct Row {
     pub address: u64,
     pub created_at: u64,

@@ -1,4 +1,5 @@
 // Saving the image of a finished index, and loading an image in place of what a memory holds.
+#![tactic(auto)]
 ghost use Rattle.std.specs.Prelude.{◌≡◌};
 ghost use Rattle.std.proofs.Math.Option.{some};
 ghost use Rattle.image_format.specs.Held.{trie_in};
@@ -15,7 +16,7 @@ use fields::{Counts, Layout};
 use memory_header::{HEADER_SIZE, Header, Outcome};
 
 // How many bytes of the save buffer are the image, or a refusal.
-#[derive(Drop)]
+#[derive(Clone, Copy)]
 pub enum Saved {
     Bytes(usize),
     Refused(u64),

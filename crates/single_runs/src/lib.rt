@@ -1,4 +1,5 @@
 // Runs of nodes with one child, stepped over at once.
+#![tactic(auto)]
 ghost use Rattle.std.specs.Prelude.{◌≡◌, false, true, ◌+◌, ◌≤◌, length};
 ghost use Rattle.single_runs.specs.Runs.{is_leaf, SingleTable, BareSingle, byte_behind, Down, RunTo};
 ghost use Rattle.image_walk.specs.Parts.{parts_at};
@@ -90,7 +91,7 @@ fn byte_behind(s: &[u8], table: usize) -> usize
 }
 
 // The tables of two nodes, if both is true.
-#[derive(Drop)]
+#[derive(Clone, Copy)]
 struct Pair {
     pub table: usize,
     pub other: usize,
@@ -137,7 +138,7 @@ fn both_down(s: &[u8], table: usize, other: usize) -> Pair
 }
 
 // How many levels a run goes on, and the tables where it ends.
-#[derive(Drop)]
+#[derive(Clone, Copy)]
 pub struct Run {
     pub levels: usize,
     pub table: usize,
@@ -213,7 +214,7 @@ fn goes_on(s: &[u8], table: usize) -> bool
 }
 
 // How many levels such a run goes on, and the table where it ends.
-#[derive(Drop)]
+#[derive(Clone, Copy)]
 pub struct SingleRun {
     pub levels: usize,
     pub table: usize,

@@ -1,4 +1,5 @@
 // Nodes with one child and leaves, and the fronts of all nodes.
+#![tactic(auto)]
 ghost use Rattle.std.specs.Prelude.{◌≡◌, ◌+◌, ◌-◌, ◌≤◌, ◌<◌, length};
 ghost use Rattle.tail_words.specs.Tail.{tail_in};
 ghost use Rattle.single_writer.specs.Nodes.{SpanAsked, SpanWritten};
@@ -9,7 +10,7 @@ use list_writer::End;
 use slot_writer::Span;
 
 // A node up to its table: where the tails begin that go on, how many groups they have, and where the image ends.
-#[derive(Drop)]
+#[derive(Clone, Copy)]
 pub struct Head {
     pub below: usize,
     pub groups: usize,

@@ -1,4 +1,5 @@
 // The slots of a table, written entry by entry.
+#![tactic(auto)]
 ghost use Rattle.std.specs.Prelude.{◌≡◌, ◌+◌, ◌-◌, ◌*◌, ◌≤◌, ◌<◌, length, set};
 ghost use Rattle.std.proofs.lemmas.List.Edits.{sets};
 ghost use Rattle.words.specs.Words.{bytes64};
@@ -9,7 +10,7 @@ use list_writer::End;
 use tail_groups::{LEAST, LEVEL_SIZE};
 
 // The tails from lo to hi - 1 in the work area, which share their first depth bytes.
-#[derive(Drop)]
+#[derive(Clone, Copy)]
 pub struct Span {
     pub work: usize,
     pub lo: usize,
@@ -18,7 +19,7 @@ pub struct Span {
 }
 
 // The tails of a node that go on, those from lo to hi - 1, in count groups by their byte at depth.
-#[derive(Drop)]
+#[derive(Clone, Copy)]
 pub struct Branches {
     pub work: usize,
     pub lo: usize,
@@ -28,7 +29,7 @@ pub struct Branches {
 }
 
 // The table of a node: its kind, where its entries begin, where its children begin, and how many turns they take.
-#[derive(Drop)]
+#[derive(Clone, Copy)]
 pub struct Table {
     pub kind: u8,
     pub base: usize,
@@ -37,7 +38,7 @@ pub struct Table {
 }
 
 // What a turn of a table is for: a group, or none where the number is that of all groups; and where the image ends then.
-#[derive(Drop)]
+#[derive(Clone, Copy)]
 pub struct Turn {
     pub group: usize,
     pub end: End,

@@ -1,4 +1,5 @@
 // Recording a stream into an open index: each block is read and entered, the first refusal stops it, and one header is put at last.
+#![tactic(auto)]
 ghost use Rattle.std.specs.Prelude.{◌≡◌, ◌≤◌, ◌<◌, length};
 ghost use Rattle.definitions.specs.BlockStream.{read_block};
 ghost use Rattle.memory_header.specs.Layout.{header_at, with_header};
@@ -17,7 +18,7 @@ use location::SpacetimeLocation;
 use memory_header::Header;
 
 // How a stream call ended: all blocks were taken, so many; or it stopped behind so many, at a refusal with this number.
-#[derive(Drop)]
+#[derive(Clone, Copy)]
 pub enum Streamed {
     All(u64),
     Stopped(u64, u64),
@@ -25,7 +26,7 @@ pub enum Streamed {
 
 // How far a stream is recorded: the header that counts what was taken, how many of its pieces have a byte, the cursor, how many
 // blocks were taken, and whether there is more; if not, the number of the refusal, 0 at the stream's end.
-#[derive(Drop)]
+#[derive(Clone, Copy)]
 struct Progress {
     header: Header,
     filled: usize,

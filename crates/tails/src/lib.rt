@@ -1,1 +1,2 @@
+#![tactic(auto)]
 pub const TAIL_SIZE: usize = 56;

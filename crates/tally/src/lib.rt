@@ -1,10 +1,11 @@
 // The running tally of an index: nodes charged, entries charged, phase. It is lent to `record` and `finish`;
 // the work is in functions that take it by value.
+#![tactic(auto)]
 ghost use Rattle.std.specs.Prelude.{◌≡◌, ◌+◌, ◌^◌, ◌<◌};
 ghost use Rattle.tally.specs.Tallied.{recorded, finished};
 
 // The phase is 0 in an open index and 1 in a finished one.
-#[derive(Drop)]
+#[derive(Clone, Copy)]
 pub struct Tally {
     pub nodes: usize,
     pub entries: usize,

@@ -1,5 +1,6 @@
 // Judges the images of data/images (made by oracle/image_vectors.py) and prints what is said of them, a line for each run of
 // like answers.
+#![tactic(auto)]
 ghost use Rattle.std.specs.Prelude.{◌≡◌, ◌+◌, ◌≤◌, ◌<◌, min, length};
 ghost use Rattle.test_image_vectors.specs.Said.{said_image, same_said, said_after, said_parts, said_whole};
 ghost use Rattle.test_image_vectors.specs.Vector.{said_damaged, after_damaged, after_whole, after_vector};
@@ -8,7 +9,7 @@ use fields::Layout;
 use libc::STDOUT_FILENO;
 
 // What is said of an image, and how often in a row: a refusal's number, or 0 with its nodes and entries.
-#[derive(Drop)]
+#[derive(Clone, Copy)]
 pub struct Said {
     pub times: u64,
     pub refusal: u64,
@@ -17,7 +18,7 @@ pub struct Said {
 }
 
 // Where the next vector begins, the image that was judged last, and what was said last.
-#[derive(Drop)]
+#[derive(Clone, Copy)]
 pub struct Cursor {
     pub at: usize,
     pub start: usize,

@@ -1,6 +1,7 @@
 // Document 01's recordings 1 and 6, whose rows are lent, and 11, 12 and 13, which no form can hold or whose images are to be seen;
 // then blocks and images that conflict, and a donation number as it is typed.
 // Prints a line for each answer.
+#![tactic(auto)]
 ghost use Rattle.std.specs.Prelude.{◌≡◌, ◌+◌, ◌*◌, ◌<◌, ◌≤◌, length, replicate};
 ghost use Rattle.handing_over.specs.Search.{search_memory};
 ghost use Rattle.test_recordings.specs.Counting.{counting_up};
@@ -167,7 +168,7 @@ fn reload(mem: &mut [u8], at: usize, q: &[u8]) {
 }
 
 // What a search answers, and one of the rows that were lent to it.
-#[derive(Drop)]
+#[derive(Clone, Copy)]
 struct Handed {
     answer: Answer,
     row: Row,

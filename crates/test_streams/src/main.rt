@@ -1,5 +1,6 @@
 // Records each stream of data/ twice, by one call into one index and block by block into another, and prints what each answers
 // and whether memories and images are the same. oracle/stream_samples.py made the streams and foretold what is printed.
+#![tactic(auto)]
 ghost use Rattle.test_streams.specs.Step.{Onward};
 
 use block_stream::Read;
@@ -17,14 +18,14 @@ const MEMORY_SIZE: usize = 720064;
 const IMAGE_SIZE: usize = 560000;
 
 // How a recording ended: how many blocks were taken, and the number of what stopped it, 0 at the stream's end.
-#[derive(Drop)]
+#[derive(Clone, Copy)]
 struct Ended {
     taken: u64,
     number: u64,
 }
 
 // Where the next block stands, behind one that is taken; or the number of what stopped the recording, 0 at the stream's end.
-#[derive(Drop)]
+#[derive(Clone, Copy)]
 enum Step {
     On(usize),
     Stopped(u64),

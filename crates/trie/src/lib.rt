@@ -1,2 +1,3 @@
 // The longest path of a trie.
+#![tactic(auto)]
 pub const MAX_DEPTH: usize = 16;

@@ -1,0 +1,18 @@
+-- `copying::clear` meets its contract: what is still to be written, written, is always the same.
+use Prim.Native.Nat.{◌-◌}
+use native.Mathlib.Omega.{arith}
+use mathlib.Core.Path.{refl, sym, ◌∙◌}
+use lib.ListN.{length-set}
+use Rattle.copying.proofs.Steps.{clear_turn, clear_done}
+use Rattle.copying.proofs.clear.Goals as goal
+
+pub loop-k-init : goal.loop-k-init
+loop-k-init c = (omega arith, refl, refl)
+
+pub loop-k-preserved : goal.loop-k-preserved
+loop-k-preserved c =
+    let inv = c.loop-k.invariant in
+    (omega arith, simp length-set inv.1, sym (clear_turn _ _ _ c.loop-k-test.true) ∙ inv.2)
+
+pub returns : goal.returns
+returns c = sym (clear_done _ _ _ c.loop-k-test.false) ∙ c.loop-k.invariant.2

@@ -1,0 +1,18 @@
+-- `kinds::kind_of` meets its contract. Assumes nothing.
+use Prim.Native.Nat.{◌-◌, ◌≤◌, ℕ}
+use native.Mathlib.Omega.{arith}
+use mathlib.Core.Logic.{inl, inr, ⊎_elim}
+use mathlib.Core.Path.{◌≡◌, subst, sym}
+use Rattle.kinds.proofs.KindRule.{at_range, beyond, beyond_all, kind_none}
+use Rattle.kinds.proofs.kind_of.Goals as goal
+
+pub returns-then-children-k : goal.returns-then-children-k
+returns-then-children-k c = at_range c.loop-i.i c.args.children (omega arith) c.if-k-children.true c.if-children-k.true
+
+pub loop-i-preserved : goal.loop-i-preserved
+loop-i-preserved c = (omega arith, beyond c.loop-i.i c.args.children (omega arith) c.loop-i.invariant.1 (⊎_elim (λ w. inr w.2.left) (λ w. inl w.left) c.if-k-children.branch))
+
+pub returns : goal.returns
+returns c =
+    let e : c.loop-i.i ≡ 3 = omega arith in
+    sym (kind_none _ (subst (λ (k : ℕ). beyond_all k ≤ c.args.children) e c.loop-i.invariant.1))

@@ -1,0 +1,21 @@
+-- `lines::line_end` meets its contract: where the line ends is the same from each byte of it on. Assumes nothing.
+use native.Mathlib.Omega.{arith}
+use Prim.Native.Nat.{◌-◌}
+use mathlib.Core.Path.{◌∙◌}
+use Rattle.lines.proofs.LineEnds.{end_out, end_here, end_on}
+use Rattle.lines.proofs.line_end.Goals as goal
+
+pub returns-then-input-i-eq10 : goal.returns-then-input-i-eq10
+returns-then-input-i-eq10 c =
+    let s = c.args.input.now in
+    end_here s c.loop-i.i (omega arith) (omega arith) ∙ c.loop-i.invariant
+
+pub loop-i-preserved : goal.loop-i-preserved
+loop-i-preserved c =
+    let s = c.args.input.now in
+    end_on s c.loop-i.i (omega arith) (λ e. omega arith) ∙ c.loop-i.invariant
+
+pub returns : goal.returns
+returns c =
+    let s = c.args.input.now in
+    end_out s c.loop-i.i (omega arith) ∙ c.loop-i.invariant
