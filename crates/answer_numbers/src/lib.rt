@@ -1,5 +1,6 @@
 // The answers of calls as numbers: the refusal's, 0 where there is none, how many rows there are, how many blocks were taken.
 #![tactic(auto)]
+
 ghost use Rattle.std.specs.Prelude.{◌≡◌, set};
 ghost use Rattle.memory_header.specs.Answers.{outcome_number};
 ghost use Rattle.recording.specs.Recorded.{recorded_number};

@@ -1,5 +1,6 @@
 // Answers the forms of the program `places`: each line by a call of the index, each reply into an output that is lent.
 #![tactic(auto)]
+
 ghost use Rattle.std.specs.Prelude.{◌+◌, ◌≤◌, length};
 ghost use Rattle.answering.specs.Parts.{kept_answer, kept_memory, end_answer, end_memory};
 ghost use Rattle.answering.specs.Cited.{AnswersLines};

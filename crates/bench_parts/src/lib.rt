@@ -1,6 +1,7 @@
 // Parts of the calls that the benchmark times by themselves: the layout, the test of an image with conflicts and without, the search
 // behind one test.
 #![tactic(auto)]
+
 ghost use Rattle.std.specs.Prelude.{◌≡◌, ◌≤◌, min, length};
 ghost use Rattle.trie.specs.Rule.{Rule};
 ghost use Rattle.fields.specs.Answers.{layout_of};

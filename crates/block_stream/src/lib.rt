@@ -1,5 +1,6 @@
 // The block stream: kind 1, address 8, length 8, created 8, destroyed 8, then the data.
 #![tactic(auto)]
+
 ghost use Rattle.std.specs.Prelude.{◌≡◌};
 ghost use Rattle.definitions.specs.BlockStream.{read_block, data_of};
 ghost use Rattle.block_stream.specs.Answer.{read_of, Starts};

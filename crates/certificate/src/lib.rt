@@ -1,5 +1,6 @@
 // The certificate of an open index: its entries in the order of the pieces, tested against the log.
 #![tactic(auto)]
+
 ghost use Rattle.std.specs.Prelude.{◌≡◌, true, not, ◌&&◌, cond, ◌+◌, ◌-◌, ◌*◌, ◌≤◌, ◌<◌, length, ltb, eqb};
 ghost use Rattle.std.proofs.Math.Option.{some};
 ghost use Rattle.words.specs.Words.{le64};

@@ -1,5 +1,6 @@
 // Donation numbers: 13 characters and a check character (ISO/IEC 7064 MOD 37-2).
 #![tactic(auto)]
+
 mod table;
 
 ghost use Rattle.std.specs.Prelude.{◌≡◌, true, ◌≤◌, ◌<◌, length};

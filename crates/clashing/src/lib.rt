@@ -1,5 +1,6 @@
 // Whether a block conflicts with a piece of an open index, read off the certificate.
 #![tactic(auto)]
+
 ghost use Rattle.std.specs.Prelude.{◌≡◌, ◌+◌, ◌-◌, ◌^◌, ◌<◌};
 ghost use Rattle.location.specs.Plain.{plain};
 ghost use Rattle.memory_header.specs.Answers.{header_of};

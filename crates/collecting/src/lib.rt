@@ -1,5 +1,6 @@
 // Collecting places from an image in place: what a node and all under it hold goes into a set of places.
 #![tactic(auto)]
+
 ghost use Rattle.std.specs.Prelude.{◌+◌, ◌*◌, ◌≤◌, ◌++◌, length};
 ghost use Rattle.definitions.specs.Location.{locations_in};
 ghost use Rattle.image_walk.specs.Here.{Laid};

@@ -1,5 +1,6 @@
 // The places of one end of a query.
 #![tactic(auto)]
+
 ghost use Rattle.std.specs.Prelude.{true, ◌+◌, ◌<◌, length, get_or, drop, eqb};
 ghost use Rattle.collecting.specs.Collected.{Standing};
 ghost use Rattle.place_buffer.specs.Buffer.{Valid, Taken};

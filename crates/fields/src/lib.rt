@@ -1,5 +1,6 @@
 // The fields of one node of an image in layout order.
 #![tactic(auto)]
+
 ghost use Rattle.std.specs.Prelude.{◌≡◌, ◌+◌, ◌*◌, ◌≤◌, ◌<◌, length, eqb, cond, true};
 ghost use Rattle.image_format.specs.Reading.{offset, slot_turn, turn_at, all_met, read_list, read_head, open_table};
 ghost use Rattle.fields.specs.Answers.{step_of, list_of, head_of, table_in, table_of, turn_of};

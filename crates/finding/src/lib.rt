@@ -1,5 +1,6 @@
 // Searching a memory: the checks in their order, then the rows into scratch.
 #![tactic(auto)]
+
 ghost use Rattle.std.specs.Prelude.{◌≡◌, length};
 ghost use Rattle.definitions.specs.Causes.{ScratchAfter};
 ghost use Rattle.image_format.specs.Held.{trie_in};

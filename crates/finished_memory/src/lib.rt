@@ -1,5 +1,6 @@
 // The memory of a finished index, whose image stands: the zeros behind it, and the header.
 #![tactic(auto)]
+
 ghost use Rattle.std.specs.Prelude.{◌≡◌};
 ghost use Rattle.memory_header.specs.Answers.{header_of};
 ghost use Rattle.finished_memory.specs.Finished.{closed, Closable};

@@ -1,5 +1,6 @@
 // Finish: the log of an open index becomes an image.
 #![tactic(auto)]
+
 ghost use Rattle.std.specs.Prelude.{◌≡◌};
 ghost use Rattle.trie.specs.Build.{trie_of};
 ghost use Rattle.memory_header.specs.Layout.{header_at};

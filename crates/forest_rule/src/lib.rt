@@ -1,5 +1,6 @@
 // The index rule at all nodes below the root: each child with its fronts, runs of nodes with one child at once.
 #![tactic(auto)]
+
 ghost use Rattle.std.specs.Prelude.{◌≡◌, true, false, ◌+◌, ◌*◌, ◌≤◌, ◌<◌, length};
 ghost use Rattle.node_rule.specs.Parts.{HasTable};
 ghost use Rattle.single_runs.specs.Says.{ChildAsked, ChildSays, ChildrenAsked, ChildrenSays};

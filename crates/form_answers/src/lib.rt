@@ -1,5 +1,6 @@
 // The answer to one form, a block, a finish or a find, on a memory.
 #![tactic(auto)]
+
 ghost use Rattle.std.specs.Prelude.{◌≡◌, ◌+◌, ◌≤◌, min, length};
 ghost use Rattle.std.proofs.Math.Option.{some};
 ghost use Rattle.definitions.specs.Program.{block, finish, find, found, program_capacity};

@@ -1,5 +1,6 @@
 // The forms of a line: a block, finish, find, or no form at all.
 #![tactic(auto)]
+
 ghost use Rattle.std.specs.Prelude.{◌≡◌, ◌*◌, length, drop};
 ghost use Rattle.definitions.specs.Program.{find};
 ghost use Rattle.forms.specs.ReadLine.{with_bytes, read_block, read_line};

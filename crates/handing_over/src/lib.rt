@@ -1,5 +1,6 @@
 // The rows of a query or of a typed number, handed over in a slice that is lent for them.
 #![tactic(auto)]
+
 ghost use Rattle.std.specs.Prelude.{◌≡◌, length};
 ghost use Rattle.definitions.specs.Causes.{ScratchAfter};
 ghost use Rattle.handing_over.specs.Search.{search_memory, search_number_memory};

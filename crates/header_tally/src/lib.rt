@@ -1,5 +1,6 @@
 // The tally of a header: what record and finish make of it.
 #![tactic(auto)]
+
 ghost use Rattle.std.specs.Prelude.{◌≡◌, ◌+◌, ◌^◌, ◌<◌};
 ghost use Rattle.tally.specs.Tallied.{recorded, finished};
 ghost use Rattle.header_tally.specs.Tallies.{tally_in, with_tally};

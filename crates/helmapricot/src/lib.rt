@@ -1,5 +1,6 @@
 // The calls for programs in other languages. Each answers the number of its refusal, 0 where there is none.
 #![tactic(auto)]
+
 ghost use Rattle.std.specs.Prelude.{◌≡◌, ◌-◌, ◌≤◌, length, set, [], ◌∷◌};
 ghost use Rattle.std.proofs.lemmas.List.Edits.{sets};
 ghost use Rattle.definitions.specs.BlockStream.{read_block};

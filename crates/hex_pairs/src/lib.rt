@@ -1,5 +1,6 @@
 // Bytes in the text of a form: pairs of hexadecimal digits.
 #![tactic(auto)]
+
 ghost use Rattle.std.specs.Prelude.{◌≡◌, ◌+◌, ◌*◌, ◌≤◌, length, get_or, drop};
 ghost use Rattle.std.proofs.lemmas.List.Edits.{sets};
 ghost use Rattle.hex_pairs.specs.HexBytes.{nibble, pair, closing, hex_bytes, last_bytes};

@@ -1,5 +1,6 @@
 // The layout of a saved image, read in its own order: the first faulty field decides.
 #![tactic(auto)]
+
 ghost use Rattle.std.specs.Prelude.{◌≡◌, ◌+◌, ◌*◌, ◌≤◌, ◌<◌, length};
 ghost use Rattle.image_format.specs.Reading.{read_table, read_node, read_counts, read_root, read_image};
 ghost use Rattle.fields.specs.Answers.{layout_of, step_of, table_in};

@@ -1,5 +1,6 @@
 // Conflicts among the pieces of an image, found in place: its chunks against the root's suffixes, where all of them stand.
 #![tactic(auto)]
+
 ghost use Rattle.std.specs.Prelude.{◌≡◌, true, not, ◌+◌, ◌*◌, ◌≤◌, length};
 ghost use Rattle.definitions.specs.Location.{locations_in};
 ghost use Rattle.definitions.specs.Calls.{last_number};

@@ -1,5 +1,6 @@
 // Nodes of an image, found in place by their index.
 #![tactic(auto)]
+
 ghost use Rattle.std.specs.Prelude.{◌≡◌, cond, ℕ, ◌+◌, ◌*◌, ◌^◌, ◌≤◌, ◌<◌, length, get_or, eqb};
 ghost use Rattle.words.specs.Words.{le64};
 ghost use Rattle.image_format.specs.Held.{sparse_entries};

@@ -1,5 +1,6 @@
 // The index rule of a finished index, and the one verdict on an image: its layout, the rule, and conflicts.
 #![tactic(auto)]
+
 ghost use Rattle.std.specs.Prelude.{◌≡◌, true, false};
 ghost use Rattle.trie.specs.Test.{index_rule};
 ghost use Rattle.image_format.specs.Held.{trie_in};

@@ -1,5 +1,6 @@
 // What a lent memory holds, tested before any call relies on it: no index, an open one, or a finished one.
 #![tactic(auto)]
+
 ghost use Rattle.std.specs.Prelude.{◌≡◌};
 ghost use Rattle.std.proofs.Math.Option.{some};
 ghost use Rattle.memory_header.specs.Answers.{header_of, heading_at};

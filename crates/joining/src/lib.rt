@@ -1,5 +1,6 @@
 // Joins locations that end where places begin, and adds what they have in common to a set of places.
 #![tactic(auto)]
+
 ghost use Rattle.std.specs.Prelude.{◌≡◌, cond, [], ◌∷◌, ◌+◌, ◌≤◌, length, ltb};
 ghost use Rattle.words.specs.Words.{le64};
 ghost use Rattle.definitions.specs.Places.{joins};

@@ -1,5 +1,6 @@
 // The kinds of a node in an image by how many children it has.
 #![tactic(auto)]
+
 ghost use Rattle.std.specs.Prelude.{◌≡◌, ◌≤◌};
 ghost use Rattle.kinds.specs.Kinds.{kind_of, fits};
 

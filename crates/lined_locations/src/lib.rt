@@ -1,5 +1,6 @@
 // Locations in line, found in memory by their number: one after the other, or in a log by the numbers of a certificate.
 #![tactic(auto)]
+
 ghost use Rattle.std.specs.Prelude.{◌≡◌, ◌-◌, ◌≤◌, ◌<◌};
 ghost use Rattle.location.specs.Plain.{plain};
 ghost use Rattle.conflicts.specs.Lined.{is_ahead, earlier, in_line, first_from, lives_among, Lined};

@@ -1,5 +1,6 @@
 // The lines of an input: where each ends, and what is kept of an unfinished one.
 #![tactic(auto)]
+
 ghost use Rattle.std.specs.Prelude.{◌≡◌, ◌≤◌, length};
 ghost use Rattle.lines.specs.Cut.{line_end};
 ghost use Rattle.lines.specs.Kept.{KeepsBehind};

@@ -1,5 +1,6 @@
 // Locations in memory made a list of the image: sorted, each once, with their count before them.
 #![tactic(auto)]
+
 ghost use Rattle.std.specs.Prelude.{◌+◌, ◌*◌, ◌≤◌, length};
 ghost use Rattle.definitions.specs.Location.{locations_in};
 ghost use Rattle.list_closing.specs.Closed.{Closed};

@@ -1,5 +1,6 @@
 // The lists of a node: the locations of tails in the work area, sorted, each once, written into the image.
 #![tactic(auto)]
+
 ghost use Rattle.std.specs.Prelude.{◌≡◌, cond, ◌+◌, ◌*◌, ◌≤◌, ◌<◌, [], length};
 ghost use Rattle.std.proofs.lemmas.List.Edits.{sets};
 ghost use Rattle.definitions.specs.Location.{location_bytes};

@@ -1,5 +1,6 @@
 // Lists of locations where they stand in an image: whether one ascends, is sound, or is the union of others.
 #![tactic(auto)]
+
 ghost use Rattle.std.specs.Prelude.{◌≡◌, ◌+◌, ◌*◌, ◌^◌, ◌≤◌, ◌<◌, length};
 ghost use Rattle.std.proofs.Math.Dec.{compare_is_eq};
 ghost use Rattle.definitions.specs.Location.{order, location_at};

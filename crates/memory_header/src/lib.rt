@@ -1,5 +1,6 @@
 // The header of lent memory: its fields, their test, and opening an index.
 #![tactic(auto)]
+
 ghost use Rattle.std.specs.Prelude.{◌≡◌, not, cond, ◌+◌, ◌≤◌, ◌<◌, length, eqb};
 ghost use Rattle.definitions.specs.Calls.{needed, out_of_range};
 ghost use Rattle.memory_header.specs.Layout.{payload_size, with_header};

@@ -1,5 +1,6 @@
 // The pieces of one node of an image joined with the places behind them.
 #![tactic(auto)]
+
 ghost use Rattle.std.specs.Prelude.{◌≡◌, true, ◌+◌, ◌-◌, ◌≤◌, ◌<◌, length, get_or, drop, eqb};
 ghost use Rattle.definitions.specs.Places.{first_of};
 ghost use Rattle.trie.specs.Find.{joins_each, ends_found};

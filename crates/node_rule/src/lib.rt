@@ -1,5 +1,6 @@
 // The index rule at one node: its lists in order, its suffixes, what it owes.
 #![tactic(auto)]
+
 ghost use Rattle.std.specs.Prelude.{◌≡◌, true, false, ◌+◌, ◌*◌, ◌^◌, ◌≤◌, ◌<◌, length};
 ghost use Rattle.location_lists.specs.Lists.{count_with};
 ghost use Rattle.node_rule.specs.Parts.{HasTable, HasParts};

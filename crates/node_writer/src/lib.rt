@@ -1,5 +1,6 @@
 // The image of sorted tails: a node with its lists, its table, and the nodes below it.
 #![tactic(auto)]
+
 ghost use Rattle.std.specs.Prelude.{◌+◌, ◌-◌, ◌*◌, ◌≤◌, ◌<◌, length};
 ghost use Rattle.slot_writer.specs.Turns.{TurnAsked, Turned};
 ghost use Rattle.node_writer.specs.Images.{ImageAsked, ImageWritten};

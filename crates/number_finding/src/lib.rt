@@ -1,5 +1,6 @@
 // Searching a memory for a donation number as it was typed, with its check character.
 #![tactic(auto)]
+
 ghost use Rattle.std.specs.Prelude.{◌≡◌, false, length};
 ghost use Rattle.definitions.specs.Causes.{first_cause, refusal_of, ScratchAfter};
 ghost use Rattle.definitions.specs.Calls.{number_checks};

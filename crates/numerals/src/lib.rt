@@ -1,5 +1,6 @@
 // Numbers in the text of a form: decimal digits.
 #![tactic(auto)]
+
 ghost use Rattle.std.specs.Prelude.{◌≡◌, ◌≤◌, drop};
 ghost use Rattle.numerals.specs.Numerals.{is_digit, digits_from, space_ends, number};
 ghost use Rattle.numerals.specs.NumeralAnswers.{numeral_of, over_last};

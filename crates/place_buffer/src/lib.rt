@@ -1,5 +1,6 @@
 // A set of places in lent memory, 24 bytes a place. What has no room is refused only where the set itself is too large.
 #![tactic(auto)]
+
 ghost use Rattle.std.specs.Prelude.{◌≡◌, true, false, ◌+◌, ◌*◌, ◌≤◌, length};
 ghost use Rattle.definitions.specs.Location.{locations_in};
 ghost use Rattle.location.specs.Plain.{plain};

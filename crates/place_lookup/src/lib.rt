@@ -1,5 +1,6 @@
 // Places that ascend in a slice, 24 bytes a place: how many come before one, whether one is there, how many two lists have together.
 #![tactic(auto)]
+
 ghost use Rattle.std.specs.Prelude.{◌≡◌, ◌+◌, ◌*◌, ◌≤◌, cond, ◌++◌, length, eqb};
 ghost use Rattle.definitions.specs.Location.{order, is_lt, normal, location_at, locations_in};
 ghost use Rattle.location.specs.Plain.{plain};

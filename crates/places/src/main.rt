@@ -1,5 +1,6 @@
 // The program `places`: reads forms, a line each, and writes the answers of one index.
 #![tactic(auto)]
+
 ghost use Rattle.std.specs.Prelude.{◌≡◌, true, ◌≤◌, ◌<◌, length};
 ghost use Rattle.answering.specs.Cited.{TakesPart};
 

@@ -1,5 +1,6 @@
 // The replies of the program `places`, each a line with its newline, written to an output.
 #![tactic(auto)]
+
 ghost use Rattle.std.specs.Prelude.{◌≡◌, ◌+◌, ◌%◌, ◌≤◌, [], ◌∷◌, ◌++◌, length};
 ghost use Rattle.definitions.specs.Program.{decimal, taken, finished, place, end, refused};
 ghost use Rattle.replies.specs.Written.{Written, reply_bytes};

@@ -1,5 +1,6 @@
 // Rows: places with lives that touch, joined.
 #![tactic(auto)]
+
 ghost use Rattle.std.specs.Prelude.{◌≡◌, ◌+◌, ◌-◌, ◌*◌, ◌≤◌, ◌<◌, length};
 ghost use Rattle.std.proofs.lemmas.List.Edits.{sets};
 ghost use Rattle.definitions.specs.Location.{location_at, location_bytes, locations_in, locations_bytes};

@@ -1,5 +1,6 @@
 // The replies with the rows of a search.
 #![tactic(auto)]
+
 ghost use Rattle.std.specs.Prelude.{◌+◌, ◌*◌, ◌≤◌, length};
 ghost use Rattle.definitions.specs.Location.{locations_in, location_at};
 ghost use Rattle.definitions.specs.Program.{place, found};

@@ -1,5 +1,6 @@
 // Rows as records: where a query stands, from which tick on and until which. They are handed over in a lent slice.
 #![tactic(auto)]
+
 ghost use Rattle.std.specs.Prelude.{◌≡◌, ◌+◌, ◌*◌, ◌≤◌, length};
 ghost use Rattle.definitions.specs.Location.{location_at, locations_in};
 ghost use Rattle.rows.specs.Rows.{row_of, rows_over};

@@ -1,5 +1,6 @@
 // Saving the image of a finished index, and loading an image in place of what a memory holds.
 #![tactic(auto)]
+
 ghost use Rattle.std.specs.Prelude.{◌≡◌};
 ghost use Rattle.std.proofs.Math.Option.{some};
 ghost use Rattle.image_format.specs.Held.{trie_in};

@@ -1,5 +1,6 @@
 // Searching: the places of each end of a query, from its back, in scratch; then the rows.
 #![tactic(auto)]
+
 ghost use Rattle.std.specs.Prelude.{◌≡◌, true, ◌+◌, ◌-◌, ◌/◌, ◌≤◌, ◌<◌, length};
 ghost use Rattle.trie.specs.Rule.{Rule};
 ghost use Rattle.image_format.specs.Held.{trie_in};

@@ -1,5 +1,6 @@
 // Runs of nodes with one child, stepped over at once.
 #![tactic(auto)]
+
 ghost use Rattle.std.specs.Prelude.{◌≡◌, false, true, ◌+◌, ◌≤◌, length};
 ghost use Rattle.single_runs.specs.Runs.{is_leaf, SingleTable, BareSingle, byte_behind, Down, RunTo};
 ghost use Rattle.image_walk.specs.Parts.{parts_at};

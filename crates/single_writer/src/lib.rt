@@ -1,5 +1,6 @@
 // Nodes with one child and leaves, and the fronts of all nodes.
 #![tactic(auto)]
+
 ghost use Rattle.std.specs.Prelude.{◌≡◌, ◌+◌, ◌-◌, ◌≤◌, ◌<◌, length};
 ghost use Rattle.tail_words.specs.Tail.{tail_in};
 ghost use Rattle.single_writer.specs.Nodes.{SpanAsked, SpanWritten};

@@ -1,5 +1,6 @@
 // Recording a stream into an open index: each block is read and entered, the first refusal stops it, and one header is put at last.
 #![tactic(auto)]
+
 ghost use Rattle.std.specs.Prelude.{◌≡◌, ◌≤◌, ◌<◌, length};
 ghost use Rattle.definitions.specs.BlockStream.{read_block};
 ghost use Rattle.memory_header.specs.Layout.{header_at, with_header};

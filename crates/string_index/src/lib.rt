@@ -1,5 +1,6 @@
 // The calls of the index. Each but opening inspects the lent memory first, so none asks anything of it.
 #![tactic(auto)]
+
 ghost use Rattle.std.specs.Prelude.{◌≡◌};
 ghost use Rattle.location.specs.Plain.{plain};
 ghost use Rattle.recording.specs.Record.{record_memory};

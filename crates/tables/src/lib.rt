@@ -1,5 +1,6 @@
 // The table of a node with few children: its entries by byte.
 #![tactic(auto)]
+
 ghost use Rattle.std.specs.Prelude.{◌≡◌, ◌+◌, ◌*◌, ◌≤◌, length};
 ghost use Rattle.image_format.specs.Reading.{find_byte, table_fault};
 ghost use Rattle.image_format.specs.Entries.{Nearer, Least};

@@ -1,5 +1,6 @@
 // Bytes of a tail as words, highest byte first, and small choices between numbers.
 #![tactic(auto)]
+
 ghost use Rattle.std.specs.Prelude.{◌≡◌, ◌+◌, ◌-◌, ◌*◌, ◌/◌, ◌%◌, ◌≤◌, ◌<◌, min, length, get_or, take, drop};
 ghost use Rattle.tails.specs.Tails.{high, mark_of};
 

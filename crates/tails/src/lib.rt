@@ -1,2 +1,3 @@
 #![tactic(auto)]
+
 pub const TAIL_SIZE: usize = 56;

@@ -1,6 +1,7 @@
 // The running tally of an index: nodes charged, entries charged, phase. It is lent to `record` and `finish`;
 // the work is in functions that take it by value.
 #![tactic(auto)]
+
 ghost use Rattle.std.specs.Prelude.{◌≡◌, ◌+◌, ◌^◌, ◌<◌};
 ghost use Rattle.tally.specs.Tallied.{recorded, finished};
 

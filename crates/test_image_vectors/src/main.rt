@@ -1,6 +1,7 @@
 // Judges the images of data/images (made by oracle/image_vectors.py) and prints what is said of them, a line for each run of
 // like answers.
 #![tactic(auto)]
+
 ghost use Rattle.std.specs.Prelude.{◌≡◌, ◌+◌, ◌≤◌, ◌<◌, min, length};
 ghost use Rattle.test_image_vectors.specs.Said.{said_image, same_said, said_after, said_parts, said_whole};
 ghost use Rattle.test_image_vectors.specs.Vector.{said_damaged, after_damaged, after_whole, after_vector};

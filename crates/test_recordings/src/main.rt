@@ -2,6 +2,7 @@
 // then blocks and images that conflict, and a donation number as it is typed.
 // Prints a line for each answer.
 #![tactic(auto)]
+
 ghost use Rattle.std.specs.Prelude.{◌≡◌, ◌+◌, ◌*◌, ◌<◌, ◌≤◌, length, replicate};
 ghost use Rattle.handing_over.specs.Search.{search_memory};
 ghost use Rattle.test_recordings.specs.Counting.{counting_up};

@@ -1,6 +1,7 @@
 // Replays the recordings of data/recordings, which stand there in the forms of `places`, and prints what each is answered.
 // The line (new) opens a fresh index, and (save) prints the image. The answers that are expected are the published index's.
 #![tactic(auto)]
+
 ghost use Rattle.std.specs.Prelude.{◌≡◌, [], ◌∷◌, ◌+◌, ◌*◌, ◌≤◌, ◌<◌, length};
 ghost use Rattle.definitions.specs.Program.{hex, hex_digit};
 ghost use Rattle.replies.specs.Written.{Written};

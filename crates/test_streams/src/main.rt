@@ -1,6 +1,7 @@
 // Records each stream of data/ twice, by one call into one index and block by block into another, and prints what each answers
 // and whether memories and images are the same. oracle/stream_samples.py made the streams and foretold what is printed.
 #![tactic(auto)]
+
 ghost use Rattle.test_streams.specs.Step.{Onward};
 
 use block_stream::Read;

@@ -1,0 +1,32 @@
+use native.Mathlib.Omega.{arith}
+use mathlib.Core.Path.{sym, ap, ◌∙◌}
+use lib.ListN.{length}
+use Rattle.fields.specs.Answers.{layout_of}
+use Rattle.bench_parts.specs.Parts.{last_of}
+use Rattle.bench_parts.proofs.Queries.{right_image, said_refused, said_right}
+use Rattle.bench_parts.proofs.helmapricot_search_image.Reads as reads
+use Rattle.bench_parts.proofs.helmapricot_search_image.Lts as lts
+use Rattle.index_rule.proofs.check.Reads as check-reads
+use Rattle.bench_parts.proofs.search_right.Reads as search-right-reads
+use Rattle.bench_parts.proofs.helmapricot_search_image.Goals as goal
+
+-- src/lib.rt:115:29
+
+-- src/lib.rt:101:1
+
+-- src/lib.rt:101:1
+
+pub search_right-requires : goal.search_right-requires
+search_right-requires c =
+    let a = c.args in
+    right_image a.img.now (λ j. omega (arith, c.shared_slice_known-1.given j)) (omega arith) (ap layout_of (sym c.enum_told-1.given.1) ∙ c.check.ensures)
+
+pub returns-in-Refused : goal.returns-in-Refused
+returns-in-Refused c =
+    let a = c.args in
+    said_refused a.img.now (last_of a.queries.now a.size) (length a.scratch.now) a.room a.count.now a.scratch.now (ap layout_of (sym c.n-1.given.1) ∙ c.check.ensures)
+
+pub returns-in-Right : goal.returns-in-Right
+returns-in-Right c =
+    let a = c.args in
+    said_right a.img.now (last_of a.queries.now a.size) (length a.scratch.now) a.room a.count.now a.scratch.now (ap layout_of (sym c.enum_told-1.given.1) ∙ c.check.ensures) c.search_right.ensures

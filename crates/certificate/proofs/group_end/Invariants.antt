@@ -1,0 +1,11 @@
+-- `certificate::group_end` meets its contract: those from g to e - 1 are at one address. Assumes nothing.
+use Prim.Native.Nat.{ℕ, ◌-◌, ◌≤◌, ◌<◌}
+use mathlib.Core.Path.{◌≡◌}
+use Rattle.lined_locations.specs.Line.{location_of}
+use Rattle.certificate.proofs.group_end.Given as goal
+
+abbrev pub invariant-loop-e : goal.invariant-loop-e
+invariant-loop-e l = (l.g < l.e) × (l.e ≤ l.v.count) × ((k : ℕ) → l.g ≤ k → k < l.e → (location_of l.mem l.v k).address ≡ (location_of l.mem l.v l.g).address)
+
+abbrev pub decreases-loop-e : goal.decreases-loop-e
+decreases-loop-e l = l.v.count - l.e

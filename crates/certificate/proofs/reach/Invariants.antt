@@ -1,0 +1,11 @@
+-- `certificate::reach` meets its contract: the pieces before entry j don't go beyond the end so far. Assumes nothing.
+use Prim.Native.Nat.{◌-◌, ◌≤◌}
+use Rattle.certificate.specs.Entries.{piece_end}
+use Rattle.certificate.specs.Groups.{NoneBeyond}
+use Rattle.certificate.proofs.reach.Given as goal
+
+abbrev pub invariant-loop-j : goal.invariant-loop-j
+invariant-loop-j l = (l.i ≤ l.j) × (l.j ≤ l.e) × NoneBeyond (piece_end l.mem l.v) l.i l.j l.end
+
+abbrev pub decreases-loop-j : goal.decreases-loop-j
+decreases-loop-j l = l.e - l.j

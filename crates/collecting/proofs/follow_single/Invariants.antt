@@ -1,0 +1,9 @@
+-- `collecting::follow_single` meets its contract: what the nodes left behind hold is added, and the levels left fall. Assumes nothing.
+use Rattle.collecting.specs.Collected.{Followed}
+use Rattle.collecting.proofs.follow_single.Given as goal
+
+abbrev pub invariant-loop-node : goal.invariant-loop-node
+invariant-loop-node l = Followed l.img l.left l.at l.initial.scratch l.scratch l.initial.r l.node l.rest l.r
+
+abbrev pub decreases-loop-node : goal.decreases-loop-node
+decreases-loop-node l = l.rest

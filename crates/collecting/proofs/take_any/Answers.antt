@@ -1,0 +1,6 @@
+-- `collecting::take_any` meets its contract: an empty list adds nothing. Assumes nothing.
+use Rattle.collecting.proofs.Nodes.{empty_taken}
+use Rattle.collecting.proofs.take_any.Goals as goal
+
+pub returns-then-n-eq0 : goal.returns-then-n-eq0
+returns-then-n-eq0 c = empty_taken _ _ _ c.if-n-eq0.true c.requires.1

@@ -1,0 +1,24 @@
+-- `finding::find_finished` meets its contract: the image passed the test, so what is found is that by its pieces. Assumes nothing.
+use native.Mathlib.Omega.{arith}
+use borrow.Author.Rules.{rules}
+use borrow.Author.Tests.{lt-ltb}
+use Rattle.memory_header.specs.Answers.{header_of}
+use Rattle.finding.proofs.FindCall.{none_front, unchanged}
+use Rattle.finding.proofs.Calling.{searchable, answered_part}
+use Rattle.finding.proofs.find_finished.Goals as goal
+
+pub returns-then-q-gt-QUERY_LIMIT : goal.returns-then-q-gt-QUERY_LIMIT
+returns-then-q-gt-QUERY_LIMIT c =
+    let long = c.if-q-gt-QUERY_LIMIT.true in
+    (rw (lt-ltb 256 _ long) c.no_rows.ensures, (rw (lt-ltb 256 _ long) (none_front _), unchanged _ _))
+
+pub search_image-requires : goal.search_image-requires
+search_image-requires c =
+    let a = c.args in
+    let w = searchable a.mem.now (header_of a.h) (λ j. omega (arith, c.shared_slice_known-1.given j)) (omega arith) c.requires in
+    (w.0, w.1, omega (arith, c.if-q-gt-QUERY_LIMIT.false))
+
+pub returns : goal.returns
+returns c =
+    let a = c.args in
+    answered_part a.mem.now (header_of a.h) (λ j. omega (arith, c.shared_slice_known-1.given j)) (omega arith) c.requires a.q.now a.scratch.now _ _ (omega (arith, c.if-q-gt-QUERY_LIMIT.false)) (search rules) c.search_image.ensures

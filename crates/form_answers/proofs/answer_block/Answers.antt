@@ -1,0 +1,23 @@
+-- `form_answers::answer_block` meets its contract. Assumes nothing.
+use mathlib.Core.List.{[], ◌∷◌}
+use Rattle.location.specs.Plain.{plain}
+use Rattle.recording.specs.Record.{record_memory}
+use native.Mathlib.Omega.{arith}
+use mathlib.Core.Path.{sym, ◌∙◌}
+use Rattle.definitions.specs.Program.{taken}
+use Rattle.form_answers.proofs.Replying.{answered_one, answered_refused, was_taken, was_refused}
+use Rattle.form_answers.proofs.answer_block.Goals as goal
+
+pub returns-in-Taken : goal.returns-in-Taken
+returns-in-Taken c =
+    {- place record c.before.before.before.before.before.before.before.before used whole -}
+    let k = c.before.before.before.before.before.before.before.before.«record» in
+    let a = c.before.before.before.before.before.before.before.before.before.before.before.before.before.args in
+    answered_one taken (was_taken (record_memory a.mem.now a.kind (record { bytes = a.bytes.now; at = plain a.l })).refusal (taken ∷ []) (sym c.before.before.before.before.enum_told.given.1 ∙ k.ensures.0)) (omega arith) c.before.before.put-taken.ensures k.ensures.1
+
+pub returns-in-Refused : goal.returns-in-Refused
+returns-in-Refused c =
+    {- place record c.before.before.before.before.before.before.before.before.before used whole -}
+    let k = c.before.before.before.before.before.before.before.before.before.«record» in
+    let a = c.before.before.before.before.before.before.before.before.before.before.before.before.before.before.args in
+    answered_refused _ (was_refused (record_memory a.mem.now a.kind (record { bytes = a.bytes.now; at = plain a.l })).refusal _ (taken ∷ []) (sym c.before.before.before.before.before.n.given.1 ∙ k.ensures.0)) c.before.before.Put-refused.ensures k.ensures.1

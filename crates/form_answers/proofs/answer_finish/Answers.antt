@@ -1,0 +1,20 @@
+-- `form_answers::answer_finish` meets its contract. Assumes nothing.
+use mathlib.Core.List.{[], ◌∷◌}
+use Rattle.string_index.specs.Finish.{finish_memory}
+use native.Mathlib.Omega.{arith}
+use mathlib.Core.Path.{sym, ◌∙◌}
+use Rattle.definitions.specs.Program.{finished}
+use Rattle.form_answers.proofs.Replying.{answered_one, answered_refused, was_finished, not_finished}
+use Rattle.form_answers.proofs.answer_finish.Goals as goal
+
+pub returns-in-Done : goal.returns-in-Done
+returns-in-Done c =
+    let k = c.finish in
+    let a = c.args in
+    answered_one finished (was_finished (finish_memory a.mem.now).refusal (finished ∷ []) (sym c.enum_told-1.given.1 ∙ k.ensures.0)) (omega arith) c.put_finished.ensures k.ensures.1
+
+pub returns-in-Refused : goal.returns-in-Refused
+returns-in-Refused c =
+    let k = c.finish in
+    let a = c.args in
+    answered_refused _ (not_finished (finish_memory a.mem.now).refusal _ (finished ∷ []) (sym c.n-1.given.1 ∙ k.ensures.0)) c.put_refused.ensures k.ensures.1

@@ -1,0 +1,10 @@
+-- `helmapricot_load` keeps the contract of the call that it exports. Assumes nothing.
+use mathlib.Core.Path.{◌∙◌, ap}
+use Rattle.memory_header.specs.Answers.{outcome_number}
+use Rattle.helmapricot.proofs.Numbers.{outcome_back}
+use Rattle.helmapricot.proofs.helmapricot_load.Goals as goal
+
+pub returns : goal.returns
+returns c =
+    let r = c.load in
+    (c.outcome_number.ensures ∙ ap outcome_number r.ensures.0 ∙ outcome_back _, r.ensures.1)

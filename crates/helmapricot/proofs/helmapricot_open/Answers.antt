@@ -1,0 +1,11 @@
+-- `helmapricot_open` keeps the contract of the call that it exports. Assumes nothing.
+use mathlib.Core.Path.{◌∙◌, ap}
+use Rattle.memory_header.specs.Answers.{outcome_number}
+use Rattle.helmapricot.proofs.Numbers.{outcome_back}
+use Rattle.helmapricot.proofs.helmapricot_open.Goals as goal
+
+pub returns : goal.returns
+returns c =
+    {- place record c.before.before.before used whole -}
+    let r = c.before.before.before.«open» in
+    (c.outcome-number.ensures ∙ ap outcome_number r.ensures.0 ∙ outcome_back _, r.ensures.1)

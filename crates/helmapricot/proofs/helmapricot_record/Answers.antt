@@ -1,0 +1,16 @@
+-- `helmapricot_record` keeps the contract of the call that it exports. Assumes nothing.
+use mathlib.Core.Path.{◌∙◌, ap}
+use Rattle.definitions.specs.Location.{Location}
+use Rattle.memory_header.specs.Opening.{Done}
+use Rattle.recording.specs.Record.{record_memory}
+use Rattle.recording.specs.Recorded.{recorded_number}
+use Rattle.helmapricot.proofs.Numbers.{recorded_back}
+use Rattle.helmapricot.proofs.helmapricot_record.Goals as goal
+
+pub returns : goal.returns
+returns c =
+    {- place record c.before.before.before used whole -}
+    let a = c.before.before.before.before.before.before.before.before.args in
+    let r = c.before.before.before.«record» in
+    let e = ap (λ (l : Location). record_memory a.mem.now a.kind (record { bytes = a.«data».now; at = l })) c.before.before.before.before.before.new.ensures in
+    (c.recorded-number.ensures ∙ ap recorded_number r.ensures.0 ∙ recorded_back _ ∙ ap (λ (d : Done). d.refusal) e, r.ensures.1 ∙ ap (λ (d : Done). d.memory) e)

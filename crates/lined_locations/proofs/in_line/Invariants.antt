@@ -1,0 +1,13 @@
+-- `lined_locations::in_line` meets its contract: the locations before i are in line. Assumes nothing.
+use Prim.Native.Nat.{◌-◌, ◌≤◌, max}
+use mathlib.Core.Path.{◌≡◌}
+use mathlib.Core.Bool.{true}
+use Rattle.conflicts.specs.Lined.{in_line}
+use Rattle.lined_locations.specs.Line.{location_of}
+use Rattle.lined_locations.proofs.in_line.Given as goal
+
+abbrev pub invariant-loop-i : goal.invariant-loop-i
+invariant-loop-i l = (1 ≤ l.i) × (l.i ≤ max 1 l.v.count) × (true ≡ in_line (location_of l.s l.v) (l.i - 1))
+
+abbrev pub decreases-loop-i : goal.decreases-loop-i
+decreases-loop-i l = l.v.count - l.i

@@ -1,0 +1,18 @@
+-- `lined_locations::lives_among` meets its contract: what is asked from the first on is asked from g on. Assumes nothing.
+use Prim.Native.Nat.{◌-◌, ◌≤◌}
+use mathlib.Core.Path.{◌≡◌}
+use Rattle.location.specs.Plain.{plain}
+use Rattle.conflicts.specs.Lined.{lives_among}
+use Rattle.lined_locations.specs.Line.{location_of}
+use Rattle.lined_locations.proofs.lives_among.Reads as reads
+use Rattle.lined_locations.proofs.lives_among.Lts as lts
+use Rattle.lined_locations.proofs.first_from.Reads as first-from-reads
+use Rattle.lined_locations.proofs.location.Reads as location-reads
+use Rattle.lined_locations.proofs.lives_among.Given as goal
+
+abbrev pub invariant-loop-g : goal.invariant-loop-g
+invariant-loop-g l =
+    (l.g ≤ l.v.count) × (lives_among (location_of l.s l.v) (l.v.count - l.g) l.g (plain l.x) l.end ≡ lives_among (location_of l.s l.v) (l.v.count - l.from) l.from (plain l.x) l.end)
+
+abbrev pub decreases-loop-g : goal.decreases-loop-g
+decreases-loop-g l = l.v.count - l.g

@@ -1,0 +1,26 @@
+-- `list_writer::put_single_suffix_list` meets its contract: at most one location is copied, and made a list. Assumes nothing.
+use native.Mathlib.Omega.{arith}
+use Rattle.list_writer.proofs.Copying.{single_whole_asks, single_whole}
+use Rattle.list_writer.proofs.Closing.{written}
+use Rattle.list_writer.proofs.put_single_suffix_list.Goals as goal
+
+pub put_whole-n-requires : goal.put_whole-n-requires
+put_whole-n-requires c =
+    let asks = single_whole_asks _ _ _ _ c.requires.0 (λ j. omega (arith, c.slice_known-1.given j)) c.requires.1 in
+    (omega (arith, c.requires.0), omega (arith, c.requires.0))
+
+pub close_list-kept-requires : goal.close_list-kept-requires
+close_list-kept-requires c =
+    let asks = single_whole_asks _ _ _ _ c.requires.0 (λ j. omega (arith, c.slice_known-1.given j)) c.requires.1 in
+    omega (arith, c.requires.0, c.put_whole-n.ensures.0, c.put_whole-n.auto.0)
+
+pub behind_list-requires : goal.behind_list-requires
+behind_list-requires c =
+    let asks = single_whole_asks _ _ _ _ c.requires.0 (λ j. omega (arith, c.slice_known-1.given j)) c.requires.1 in
+    (omega (arith, c.requires.0, c.put_whole-n.ensures.0, c.close_list-kept.ensures.few), c.requires.2)
+
+pub returns : goal.returns
+returns c =
+    let put = c.put_whole-n.ensures in
+    let copied = single_whole _ _ _ _ c.requires.0 (λ j. omega (arith, c.slice_known-1.given j)) c.requires.1 _ _ (λ j. omega (arith, c.slice_known-2-1.given j)) put.0 put.1 in
+    written _ _ copied c.close_list-kept.ensures c.behind_list.ensures

@@ -1,0 +1,21 @@
+-- `list_writer::put_wholes` meets its contract: the locations of the whole pieces passed are copied. Assumes nothing.
+use Prim.Native.Nat.{◌-◌}
+use native.Mathlib.Omega.{arith}
+use Rattle.list_writer.proofs.Copying.{whole_start, whole_asks, whole_turn, copy_done}
+use Rattle.list_writer.proofs.put_wholes.Goals as goal
+
+pub loop-i-init : goal.loop-i-init
+loop-i-init c = whole_start _ _ _ _ _ c.requires.0 c.requires.1 (λ j. omega (arith, c.slice_known-1.given j))
+
+pub put_whole-n-requires : goal.put_whole-n-requires
+put_whole-n-requires c =
+    let p = c.requires in
+    let w = c.loop-i.invariant in
+    let q = whole_asks _ _ _ _ _ p.0 p.1 p.2 w c.loop-i-test.true in
+    (omega (arith, q, w.copied.long), omega (arith, w.copied.long))
+
+pub loop-i-preserved : goal.loop-i-preserved
+loop-i-preserved c = whole_turn _ _ _ _ _ c.requires.0 c.requires.1 c.requires.2 c.loop-i.invariant c.loop-i-test.true _ _ (λ j. omega (arith, c.slice_known-in-loop-i-1.given j)) c.put_whole-n.ensures.0 c.put_whole-n.ensures.1
+
+pub returns : goal.returns
+returns c = copy_done _ _ _ _ _ c.requires.0 c.requires.1 c.loop-i.invariant c.loop-i-test.false

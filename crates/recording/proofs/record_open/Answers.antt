@@ -1,0 +1,35 @@
+-- `recording::record_open` meets its contract: the block is entered, and the header put. Assumes nothing.
+use native.Mathlib.Omega.{arith}
+use mathlib.Core.Path.{ap, sym, ◌∙◌}
+use Rattle.definitions.specs.Blocks.{Block}
+use Rattle.location.specs.Plain.{plain}
+use Rattle.memory_header.specs.Answers.{header_of}
+use Rattle.judging.specs.Verdicts.{verdict_of}
+use Rattle.recording.proofs.Entering.{header_room}
+use Rattle.recording.proofs.Outcome.{log_asked, pending, taken_by, refused_by}
+use Rattle.recording.proofs.record_open.Goals as goal
+
+pub filled-count-requires : goal.filled-count-requires
+filled-count-requires c = log_asked _ _ c.requires.0 c.requires.1
+
+pub enter-requires : goal.enter-requires
+enter-requires c = (pending _ _ c.requires.0 c.requires.1 (λ j. omega (arith, c.slice-known.given j)), c.filled-count.ensures)
+
+pub put_header-requires : goal.put_header-requires
+put_header-requires c =
+    let p = pending _ _ c.requires.0 c.requires.1 (λ j. omega (arith, c.slice-known.given j)) in
+    omega (arith, header_room _ _ p, c.enter.auto.0)
+
+pub returns-in-Counted : goal.returns-in-Counted
+returns-in-Counted c =
+    let g = c.counted-1.given in
+    let b : Block = record { bytes = c.args.«data».now; at = plain c.args.l } in
+    taken_by _ _ c.requires.0 c.requires.1 (λ j. omega (arith, c.slice-known.given j)) _ b (header_of g.0.0) c.enter.new.mem c.put_header.new.mem
+    (sym (ap verdict_of g.1) ∙ c.enter.ensures.0, c.enter.ensures.1.0) c.put_header.ensures
+
+pub returns-in-Refused : goal.returns-in-Refused
+returns-in-Refused c =
+    let g = c.n-1.given in
+    let b : Block = record { bytes = c.args.«data».now; at = plain c.args.l } in
+    refused_by _ _ c.requires.0 c.requires.1 (λ j. omega (arith, c.slice-known.given j)) _ b g.0.0 c.enter.new.mem
+    (sym (ap verdict_of g.1) ∙ c.enter.ensures.0, c.enter.ensures.1.0)

@@ -1,0 +1,32 @@
+-- `string_index::record` meets its contract: what the memory holds decides. Assumes nothing.
+use mathlib.Core.Path.{ap, subst}
+use Rattle.location.specs.Plain.{plain}
+use Rattle.memory_header.specs.Opening.{Done}
+use Rattle.recording.specs.Recorded.{recorded_as}
+use Rattle.recording.proofs.Outcome.{record_as}
+use Rattle.inspecting.specs.Held.{Inspects}
+use Rattle.string_index.proofs.record.Goals as goal
+
+pub record_open-requires : goal.record_open-requires
+record_open-requires c =
+    let w = subst (Inspects c.args.mem.now) c.h-1.given.1 c.inspect.ensures in
+    (w.told, w.holds)
+
+pub returns-in-Broken : goal.returns-in-Broken
+returns-in-Broken c =
+    let a = c.args in
+    let w = subst (Inspects a.mem.now) c.enum_told-1.given.1 c.inspect.ensures in
+    let e = record_as a.mem.now a.kind (record { bytes = a.«data».now; at = plain a.l }) _ w.holds in
+    (ap (λ (d : Done). recorded_as d.refusal) e, ap (λ (d : Done). d.memory) e)
+
+pub returns-in-Open : goal.returns-in-Open
+returns-in-Open c =
+    let r = c.record_open in
+    (r.ensures.0, r.ensures.1)
+
+pub returns-in-Finished : goal.returns-in-Finished
+returns-in-Finished c =
+    let a = c.args in
+    let w = subst (Inspects a.mem.now) c.enum_told-in-Finished-1.given.1 c.inspect.ensures in
+    let e = record_as a.mem.now a.kind (record { bytes = a.«data».now; at = plain a.l }) _ w.holds in
+    (ap (λ (d : Done). recorded_as d.refusal) e, ap (λ (d : Done). d.memory) e)

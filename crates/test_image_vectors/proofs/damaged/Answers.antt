@@ -1,0 +1,10 @@
+-- `test_image_vectors::damaged` meets its contract. Assumes nothing.
+use native.Mathlib.Omega.{arith}
+use Rattle.test_image_vectors.proofs.Vectors.{damaged_leads}
+use Rattle.test_image_vectors.proofs.damaged.Goals as goal
+
+pub returns : goal.returns
+returns c =
+    let g = c.args in
+    let d = c.judge_damaged-said in
+    (damaged_leads g.bytes.now g.c c.get64-index.result d.result c.after.result c.get64-index.ensures d.ensures.0 c.after.ensures, (d.ensures.1, (omega arith, omega arith, omega arith)))

@@ -1,0 +1,18 @@
+-- `test_replay::replay_line` meets its contract. Assumes nothing.
+use native.Mathlib.Omega.{arith}
+use mathlib.Core.Path.{refl, sym, ◌∙◌}
+use Rattle.test_replay.proofs.Replaying.{replays_new, replays_save, replays_form}
+use Rattle.test_replay.proofs.replay_line.Goals as goal
+
+pub returns-then-is_word : goal.returns-then-is_word
+returns-then-is_word c = {- place record c.before.before used whole -} replays_new (omega arith) (sym c.before.before.before.before.if1.true ∙ c.before.before.before.before.before.is_word.ensures) c.before.before.«open».ensures.1 (record { out = refl; next = refl })
+
+pub returns-then-is_word-2 : goal.returns-then-is_word-2
+returns-then-is_word-2 c =
+    let w = c.save.ensures in
+    replays_save w.1 (sym c.if-is_word.false ∙ c.is_word.ensures) (sym c.if-is_word-2.true ∙ c.is_word-2.ensures) refl w.0
+
+pub returns : goal.returns
+returns c =
+    let w = c.answer.ensures in
+    replays_form (omega (arith, w.short)) (sym c.if-is_word.false ∙ c.is_word.ensures) (sym c.if-is_word-2.false ∙ c.is_word-2.ensures) w

@@ -1,0 +1,10 @@
+-- `test_streams::record_next` meets its contract: a block that was read ends behind the cursor. Assumes nothing.
+use native.Mathlib.Omega.{arith}
+use Rattle.block_stream.proofs.Bounds.{block_part}
+use Rattle.test_streams.proofs.record_next.Goals as goal
+
+pub returns-in-Taken : goal.returns-in-Taken
+returns-in-Taken c =
+    let a = c.args in
+    let k = block_part a.stream.now a.at c.read_block.result c.b-1.given.0.0 c.b-1.given.1 c.read_block.ensures.0 c.read_block.ensures.1 in
+    (omega (arith, k.behind), k.within)
