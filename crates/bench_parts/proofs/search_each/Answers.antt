@@ -11,4 +11,4 @@ use Rattle.bench_parts.proofs.search_each.Goals as goal
 pub returns : goal.returns
 returns c =
     let a = c.args in
-    answers_last _ a.queries.now _ a.size _ _ a.room (tail_is a.queries.now _ a.size refl) c.loop-at.invariant c.search_image-2.ensures.0
+    answers_last _ a.queries.now _ a.size _ _ a.room (tail_is a.queries.now _ a.size refl) c.loop-at.invariant c.search_image-2.ensures.found

@@ -27,14 +27,14 @@ pub returns-in_default : goal.returns-in_default
 returns-in_default c =
     let f = c.read_block-r in
     let a = c.args in
-    no-data a.s.now a.at f.result c.in_default.keys2 f.ensures.0
+    no-data a.s.now a.at f.result c.in_default.keys2 f.ensures.means
 
 pub slice_bounds-result-count-2 : goal.slice_bounds-result-count-2
 slice_bounds-result-count-2 c =
     let g = c.r-1.given in
     let f = c.read_block-r in
     let a = c.args in
-    let k = block_part a.s.now a.at f.result g.0.0 g.1 f.ensures.0 f.ensures.1 in
+    let k = block_part a.s.now a.at f.result g.0.0 g.1 f.ensures.means f.ensures.starts in
     omega arith
 
 pub slice_bounds-result-start-2 : goal.slice_bounds-result-start-2
@@ -42,7 +42,7 @@ slice_bounds-result-start-2 c =
     let g = c.r-1.given in
     let f = c.read_block-r in
     let a = c.args in
-    let k = block_part a.s.now a.at f.result g.0.0 g.1 f.ensures.0 f.ensures.1 in
+    let k = block_part a.s.now a.at f.result g.0.0 g.1 f.ensures.means f.ensures.starts in
     omega arith
 
 pub slice_bounds-result-end-2 : goal.slice_bounds-result-end-2
@@ -50,7 +50,7 @@ slice_bounds-result-end-2 c =
     let g = c.r-1.given in
     let f = c.read_block-r in
     let a = c.args in
-    let k = block_part a.s.now a.at f.result g.0.0 g.1 f.ensures.0 f.ensures.1 in
+    let k = block_part a.s.now a.at f.result g.0.0 g.1 f.ensures.means f.ensures.starts in
     omega arith
 
 pub returns : goal.returns
@@ -58,5 +58,5 @@ returns c =
     let g = c.r-1.given in
     let f = c.read_block-r in
     let a = c.args in
-    let k = block_part a.s.now a.at f.result g.0.0 g.1 f.ensures.0 f.ensures.1 in
+    let k = block_part a.s.now a.at f.result g.0.0 g.1 f.ensures.means f.ensures.starts in
     k.bytes

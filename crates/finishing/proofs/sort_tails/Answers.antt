@@ -11,10 +11,10 @@ expand-n-requires c =
 pub sort-requires : goal.sort-requires
 sort-requires c =
     let r = c.expand-n in
-    (omega arith, omega (arith, c.requires.room, r.ensures.0, r.auto.0))
+    (omega arith, omega (arith, c.requires.room, r.ensures.count, r.auto.0))
 
 pub returns : goal.returns
 returns c =
     let a = c.args in
     let r = c.expand-n in
-    tails_sorted a.mem.now r.new.mem c.sort.new.s a.pieces a.work r.result (λ j. omega (arith, c.slice_known-1.given j)) (omega arith) c.requires r.ensures.0 r.ensures.1 c.sort.ensures
+    tails_sorted a.mem.now r.new.mem c.sort.new.s a.pieces a.work r.result (λ j. omega (arith, c.slice_known-1.given j)) (omega arith) c.requires r.ensures.count r.ensures.bytes c.sort.ensures

@@ -53,4 +53,4 @@ returns c =
     let n = c.node_at-f in
     let d = c.add_front-n in
     let u = c.is_union in
-    λ _. leaf_says a.s.now a.table a.other _ _ (ap entry_of_answer (sym c.slot-1.given.1) ∙ c.slot_in-slot.ensures) (ap entry_of_answer (sym c.front-1.given.1) ∙ c.slot_in-front.ensures) m.result n.result m.ensures n.ensures a.lists.now (omega (arith, p.2)) c.if-byte-b.false (leaf_parts _ (sym c.is_leaf.ensures ∙ not-false _ c.if-not-is_leaf.false)) c.if-f-ne0.false u.result (rw (d.ensures.0, d.ensures.1) at u.ensures.0)
+    λ _. leaf_says a.s.now a.table a.other _ _ (ap entry_of_answer (sym c.slot-1.given.1) ∙ c.slot_in-slot.ensures) (ap entry_of_answer (sym c.front-1.given.1) ∙ c.slot_in-front.ensures) m.result n.result m.ensures n.ensures a.lists.now (omega (arith, p.2)) c.if-byte-b.false (leaf_parts _ (sym c.is_leaf.ensures ∙ not-false _ c.if-not-is_leaf.false)) c.if-f-ne0.false u.result (rw (d.ensures.0, d.ensures.1) at u.ensures.says)

@@ -25,7 +25,7 @@ put_fields-requires c =
     let g = c.b-1.given in
     let f = c.read_block in
     let a = c.args in
-    (block_part a.s.now a.at f.result g.0.0 g.1 f.ensures.0 f.ensures.1).ordered
+    (block_part a.s.now a.at f.result g.0.0 g.1 f.ensures.means f.ensures.starts).ordered
 
 pub returns-in-Block : goal.returns-in-Block
 returns-in-Block c =
@@ -34,8 +34,8 @@ returns-in-Block c =
     let a = c.args in
     let xs = a.fields.now in
     let b = g.0.0 in
-    let e = subst (λ (x : Answer). read_of a.s.now x ≡ read_block a.s.now a.at) g.1 f.ensures.0 in
-    let n = data_length (block_part a.s.now a.at f.result b g.1 f.ensures.0 f.ensures.1) in (
+    let e = subst (λ (x : Answer). read_of a.s.now x ≡ read_block a.s.now a.at) g.1 f.ensures.means in
+    let n = data_length (block_part a.s.now a.at f.result b g.1 f.ensures.means f.ensures.starts) in (
       ap stream_number e,
       c.put_fields.ensures ∙ ap (λ (k : ℕ). sets xs 0 (1 ∷ b.kind ∷ b.address ∷ k ∷ b.created_at ∷ b.destroyed_at ∷ b.next ∷ [])) n ∙ ap (λ (x : Read). with_fields x xs) e,
     )
@@ -44,12 +44,12 @@ pub returns-in-End : goal.returns-in-End
 returns-in-End c =
     let f = c.read_block in
     let a = c.args in
-    let e = subst (λ (x : Answer). read_of a.s.now x ≡ read_block a.s.now a.at) c.enum_told-1.given.1 f.ensures.0 in
+    let e = subst (λ (x : Answer). read_of a.s.now x ≡ read_block a.s.now a.at) c.enum_told-1.given.1 f.ensures.means in
     (ap stream_number e, ap (λ (x : Read). with_fields x a.fields.now) e)
 
 pub returns-in-Refused : goal.returns-in-Refused
 returns-in-Refused c =
     let f = c.read_block in
     let a = c.args in
-    let e = subst (λ (x : Answer). read_of a.s.now x ≡ read_block a.s.now a.at) c.n-1.given.1 f.ensures.0 in
+    let e = subst (λ (x : Answer). read_of a.s.now x ≡ read_block a.s.now a.at) c.n-1.given.1 f.ensures.means in
     (ap stream_number e, ap (λ (x : Read). with_fields x a.fields.now) e)

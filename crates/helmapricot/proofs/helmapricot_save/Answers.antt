@@ -8,14 +8,14 @@ pub returns-in-Bytes : goal.returns-in-Bytes
 returns-in-Bytes c =
     let a = c.args in
     let r = c.save in
-    let x = sym c.n-1.given.1 ∙ r.ensures.0 in
+    let x = sym c.n-1.given.1 ∙ r.ensures.answer in
     let back = saved_back _ _ a.size.now in
-    (ap saved_number x ∙ back.0, (r.ensures.1, ap (λ (y : Saved). size_after y a.size.now) x ∙ back.1))
+    (ap saved_number x ∙ back.0, (r.ensures.buffer, ap (λ (y : Saved). size_after y a.size.now) x ∙ back.1))
 
 pub returns-in-Refused : goal.returns-in-Refused
 returns-in-Refused c =
     let a = c.args in
     let r = c.save in
-    let x = sym c.n-in-Refused-1.given.1 ∙ r.ensures.0 in
+    let x = sym c.n-in-Refused-1.given.1 ∙ r.ensures.answer in
     let back = saved_back _ _ a.size.now in
-    (ap saved_number x ∙ back.0, (r.ensures.1, ap (λ (y : Saved). size_after y a.size.now) x ∙ back.1))
+    (ap saved_number x ∙ back.0, (r.ensures.buffer, ap (λ (y : Saved). size_after y a.size.now) x ∙ back.1))

@@ -15,7 +15,7 @@ put_whole-n-requires c =
     (omega (arith, q, w.copied.long), omega (arith, w.copied.long))
 
 pub loop-i-preserved : goal.loop-i-preserved
-loop-i-preserved c = whole_turn _ _ _ _ _ c.requires.0 c.requires.1 c.requires.2 c.loop-i.invariant c.loop-i-test.true _ _ (λ j. omega (arith, c.slice_known-in-loop-i-1.given j)) c.put_whole-n.ensures.0 c.put_whole-n.ensures.1
+loop-i-preserved c = whole_turn _ _ _ _ _ c.requires.0 c.requires.1 c.requires.2 c.loop-i.invariant c.loop-i-test.true _ _ (λ j. omega (arith, c.slice_known-in-loop-i-1.given j)) c.put_whole-n.ensures.count c.put_whole-n.ensures.bytes
 
 pub returns : goal.returns
 returns c = copy_done _ _ _ _ _ c.requires.0 c.requires.1 c.loop-i.invariant c.loop-i-test.false

@@ -13,4 +13,4 @@ returns c =
     let a = c.args in
     let f = c.child_lists-count in
     let g = c.is_union in
-    suffixes_say a.s.now a.n 0 f.new.lists f.result g.result f.ensures g.ensures.0
+    suffixes_say a.s.now a.n 0 f.new.lists f.result g.result f.ensures g.ensures.says

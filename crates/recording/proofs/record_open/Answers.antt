@@ -25,11 +25,11 @@ returns-in-Counted c =
     let g = c.counted-1.given in
     let b : Block = record { bytes = c.args.«data».now; at = plain c.args.l } in
     taken_by _ _ c.requires.0 c.requires.1 (λ j. omega (arith, c.slice-known.given j)) _ b (header_of g.0.0) c.enter.new.mem c.put_header.new.mem
-    (sym (ap verdict_of g.1) ∙ c.enter.ensures.0, c.enter.ensures.1.0) c.put_header.ensures
+    (sym (ap verdict_of g.1) ∙ c.enter.ensures.verdict, c.enter.ensures.memory.0) c.put_header.ensures
 
 pub returns-in-Refused : goal.returns-in-Refused
 returns-in-Refused c =
     let g = c.n-1.given in
     let b : Block = record { bytes = c.args.«data».now; at = plain c.args.l } in
     refused_by _ _ c.requires.0 c.requires.1 (λ j. omega (arith, c.slice-known.given j)) _ b g.0.0 c.enter.new.mem
-    (sym (ap verdict_of g.1) ∙ c.enter.ensures.0, c.enter.ensures.1.0)
+    (sym (ap verdict_of g.1) ∙ c.enter.ensures.verdict, c.enter.ensures.memory.0)

@@ -5,7 +5,7 @@ use Rattle.row_buffer.proofs.Answering.{rows_refused, rows_written}
 use Rattle.row_buffer.proofs.hand_over.Goals as goal
 
 pub returns-then-room-count : goal.returns-then-room-count
-returns-then-room-count c = rows_refused _ _ _ c.combine_split_times-count.ensures.0 c.if-room-count.true c.no_rows.ensures
+returns-then-room-count c = rows_refused _ _ _ c.combine_split_times-count.ensures.count c.if-room-count.true c.no_rows.ensures
 
 pub returns : goal.returns
-returns c = rows_written _ _ _ _ (omega (arith, c.requires)) (λ j. omega (arith, c.slice_known-1.given j)) c.combine_split_times-count.ensures.0 c.if-room-count.false c.combine_split_times-count.ensures.1 refl
+returns c = rows_written _ _ _ _ (omega (arith, c.requires)) (λ j. omega (arith, c.slice_known-1.given j)) c.combine_split_times-count.ensures.count c.if-room-count.false c.combine_split_times-count.ensures.bytes refl

@@ -34,7 +34,7 @@ filled_after-requires c =
     let g = c.header-1.given in
     let a = c.args in
     let b : Block = record { bytes = take (a.b.next - a.b.start) (drop a.b.start a.stream.now); at = plain c.new-l.result } in
-    ((λ k. counted_short a.mem.now (header_of a.p.header) (header_of g.0.0) a.b.kind b (sym c.enter.ensures.0 ∙ ap verdict_of g.1) k), count_few _ _ c.requires.0 a.p.filled c.requires.1)
+    ((λ k. counted_short a.mem.now (header_of a.p.header) (header_of g.0.0) a.b.kind b (sym c.enter.ensures.verdict ∙ ap verdict_of g.1) k), count_few _ _ c.requires.0 a.p.filled c.requires.1)
 
 pub returns-in-Counted : goal.returns-in-Counted
 returns-in-Counted c =
@@ -42,12 +42,12 @@ returns-in-Counted c =
     let a = c.args in
     let h = header_of a.p.header in
     let bytes = take (a.b.next - a.b.start) (drop a.b.start a.stream.now) in
-    let w = sym (ap verdict_of g.1) ∙ c.enter.ensures.0 in
+    let w = sym (ap verdict_of g.1) ∙ c.enter.ensures.verdict in
     let v = w ∙ ap (λ (x : Location). judged_by_kind a.mem.now h a.b.kind (record { bytes = bytes; at = x })) c.new-l.ensures in (
       ap (on_or_halted (progress_of a.p) a.b.next) v,
       (
-        c.enter.ensures.1.0 ∙ ap (λ (x : Location). entered a.mem.now h a.b.kind (record { bytes = bytes; at = x })) c.new-l.ensures,
-        c.filled_after.ensures ∙ sym (c.enter.ensures.1.1 (header_of g.0.0) (ap verdict_of g.1)),
+        c.enter.ensures.memory.0 ∙ ap (λ (x : Location). entered a.mem.now h a.b.kind (record { bytes = bytes; at = x })) c.new-l.ensures,
+        c.filled_after.ensures ∙ sym (c.enter.ensures.memory.1 (header_of g.0.0) (ap verdict_of g.1)),
       ),
     )
 
@@ -57,12 +57,12 @@ returns-in-Refused c =
     let a = c.args in
     let h = header_of a.p.header in
     let bytes = take (a.b.next - a.b.start) (drop a.b.start a.stream.now) in
-    let w = sym (ap verdict_of g.1) ∙ c.enter.ensures.0 in
+    let w = sym (ap verdict_of g.1) ∙ c.enter.ensures.verdict in
     let v = w ∙ ap (λ (x : Location). judged_by_kind a.mem.now h a.b.kind (record { bytes = bytes; at = x })) c.new-l.ensures in (
       c.halted.ensures.0 ∙ ap (on_or_halted (progress_of a.p) a.b.next) v,
       (
-        c.enter.ensures.1.0 ∙ ap (λ (x : Location). entered a.mem.now h a.b.kind (record { bytes = bytes; at = x })) c.new-l.ensures,
-        c.halted.ensures.1 ∙ still-filled a.mem.now _ h a.b.kind (record { bytes = bytes; at = plain c.new-l.result }) g.0.0 a.p.filled w c.enter.ensures.1.0 c.requires.1
+        c.enter.ensures.memory.0 ∙ ap (λ (x : Location). entered a.mem.now h a.b.kind (record { bytes = bytes; at = x })) c.new-l.ensures,
+        c.halted.ensures.1 ∙ still-filled a.mem.now _ h a.b.kind (record { bytes = bytes; at = plain c.new-l.result }) g.0.0 a.p.filled w c.enter.ensures.memory.0 c.requires.1
             ∙ ap (λ (x : Progress). filled (pieces_in c.enter.new.mem x.header)) (sym c.halted.ensures.0),
       ),
     )

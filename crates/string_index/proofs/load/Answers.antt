@@ -29,9 +29,9 @@ returns-in-Broken c =
 pub returns-in-Open : goal.returns-in-Open
 returns-in-Open c =
     let r = c.load_into in
-    (r.ensures.0, r.ensures.1)
+    (r.ensures.answer, r.ensures.memory)
 
 pub returns-in-Finished : goal.returns-in-Finished
 returns-in-Finished c =
     let r = c.load_into-in-Finished in
-    (r.ensures.0, r.ensures.1)
+    (r.ensures.answer, r.ensures.memory)

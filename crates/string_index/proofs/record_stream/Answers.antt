@@ -21,7 +21,7 @@ returns-in-Broken c =
 pub returns-in-Open : goal.returns-in-Open
 returns-in-Open c =
     let r = c.record_blocks in
-    (r.ensures.0, r.ensures.1)
+    (r.ensures.answer, r.ensures.memory)
 
 pub returns-in-Finished : goal.returns-in-Finished
 returns-in-Finished c =

@@ -29,4 +29,4 @@ returns-in-Open c =
 pub returns-in-Finished : goal.returns-in-Finished
 returns-in-Finished c =
     let r = c.save_finished in
-    (r.ensures.0, r.ensures.1)
+    (r.ensures.answer, r.ensures.buffer)

@@ -14,7 +14,7 @@ put_tails-t-requires c =
     (q.sound, q.before, q.room)
 
 pub loop-j-preserved : goal.loop-j-preserved
-loop-j-preserved c = expanding_turn _ _ _ c.requires.0 c.requires.1 c.requires.2 c.loop-j.invariant _ _ c.loop-j-test.true c.put_tails-t.ensures.0 c.put_tails-t.ensures.1
+loop-j-preserved c = expanding_turn _ _ _ c.requires.0 c.requires.1 c.requires.2 c.loop-j.invariant _ _ c.loop-j-test.true c.put_tails-t.ensures.count c.put_tails-t.ensures.bytes
 
 pub returns : goal.returns
 returns c = (expanding_count _ _ _ c.requires.0 c.requires.1 c.requires.2 c.loop-j.invariant c.loop-j-test.false, expanding_done _ _ _ c.requires.0 c.requires.1 c.requires.2 c.loop-j.invariant c.loop-j-test.false)

@@ -7,4 +7,4 @@ pub returns : goal.returns
 returns c =
     let g = c.args in
     let d = c.judge_damaged-said in
-    (damaged_leads g.bytes.now g.c c.get64-index.result d.result c.after.result c.get64-index.ensures d.ensures.0 c.after.ensures, (d.ensures.1, (omega arith, omega arith, omega arith)))
+    (damaged_leads g.bytes.now g.c c.get64-index.result d.result c.after.result c.get64-index.ensures d.ensures.value c.after.ensures, (d.ensures.bytes_unchanged, (omega arith, omega arith, omega arith)))

@@ -7,10 +7,10 @@ pub returns-then-mode-eq2 : goal.returns-then-mode-eq2
 returns-then-mode-eq2 c =
     let g = c.args in
     let d = c.damaged in
-    (vector_damaged g.bytes.now g.c d.result c.if-mode-eq2.true d.ensures.0, d.ensures.1)
+    (vector_damaged g.bytes.now g.c d.result c.if-mode-eq2.true d.ensures.value, d.ensures.bytes_unchanged)
 
 pub returns : goal.returns
 returns c =
     let g = c.args in
     let w = c.whole in
-    (vector_whole g.bytes.now g.c w.result c.if-mode-eq2.false w.ensures.0, (refl, w.ensures.1))
+    (vector_whole g.bytes.now g.c w.result c.if-mode-eq2.false w.ensures.value, (refl, w.ensures.at_lt_at))
