@@ -7,7 +7,7 @@ use mathlib.Core.Logic.{◌⊎◌, inl, inr, ◌↔◌}
 use mathlib.Core.List.{List}
 use lib.ListN.{length, get_or}
 use lib.Dec.{ltb, eqb}
-use borrow.Author.Tests.{ltb-true, lt-ltb, eqb_true, eqb-false, eq-eqb, ne_eqb, not-true}
+use borrow.Author.Tests.{ltb-true, lt-ltb, eqb-true, eqb-false, eq-eqb, ne_eqb, not-true}
 use Rattle.words.specs.Words.{le64, bytes64}
 use Rattle.words.specs.Holding.{Holds}
 use Rattle.words.proofs.Holding.{le_holds, stands_holds, holds_stands}
@@ -117,7 +117,7 @@ module _ (m : List ℕ) (b : (k : ℕ) → get_or m k 0 < 256) (h : Header) (f :
       ended : le64 m (base + 16 * i + 8) ≡ (nth ps (num i)).at.destroyed
       ended =
           let e : at + 40 ≡ at + 24 + 16 = omega arith in
-          eqb_true (le64 m (base + 16 * i + 8)) (le64 m (at + 40)) tests.2 ∙ ap (le64 m) e ∙ ap (λ (p : Piece). p.at.destroyed) (sym piece)
+          eqb-true (le64 m (base + 16 * i + 8)) (le64 m (at + 40)) tests.2 ∙ ap (le64 m) e ∙ ap (λ (p : Piece). p.at.destroyed) (sym piece)
 
     pub tested_within : Within m (line_of h (filled (pieces_in m h)))
     tested_within = record { numbers = λ e. entry_room; places = λ i l. omega (arith, stored.logged_place m base n i, room i l) }

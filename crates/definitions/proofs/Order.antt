@@ -13,7 +13,7 @@ use mathlib.Core.List.Memᴰ.{tail as later}
 use mathlib.Core.List.{List, [], ◌∷◌, ◌++◌, Memᴰ as Mem}
 use lib.ListN.{length, get_or}
 use lib.Dec.{leb, eqb, is_le, compare_is_eq}
-use borrow.Author.Tests.{leb-true, leb-false, eqb_true, eqb-false}
+use borrow.Author.Tests.{leb-true, leb-false, eqb-true, eqb-false}
 use Rattle.definitions.specs.Location.{Location, order, or_else, placed, insert, normal, Sorted, Less}
 
 -- ── what a comparison tells ──
@@ -34,7 +34,7 @@ tri a b = go (compare a b) refl
 
     go : (o : Ordering) → compare a b ≡ o → Tri o a b
     go Ordering.lt e = lt_of e
-    go Ordering.eq e = eqb_true a b (ap compare_is_eq e)
+    go Ordering.eq e = eqb-true a b (ap compare_is_eq e)
     go Ordering.gt e = leb-false a b (ap is_le e)
 
 pub location_path : {l m : Location} → l.address ≡ m.address → l.created ≡ m.created → l.destroyed ≡ m.destroyed → l ≡ m

@@ -6,7 +6,7 @@ use mathlib.Core.Bool.{Bool, true, false, ◌&&◌, cond}
 use mathlib.Core.Logic.{◌⊎◌, inl, inr}
 use mathlib.Core.Option.{Option, none, some}
 use lib.Dec.{ltb, leb, eqb}
-use borrow.Author.Tests.{ltb-true, ltb-false, leb-true, leb-false, eqb_true, eqb-false, lt-ltb}
+use borrow.Author.Tests.{ltb-true, ltb-false, leb-true, leb-false, eqb-true, eqb-false, lt-ltb}
 use Rattle.definitions.specs.Location.{Location, meets, common, overlap}
 use Rattle.definitions.specs.Rows.{goes_on}
 
@@ -18,7 +18,7 @@ pub eq : (a b : ℕ) → Eq (eqb a b) a b
 eq a b = go (eqb a b) refl
   where
     go : (o : Bool) → eqb a b ≡ o → Eq o a b
-    go true e = eqb_true a b e
+    go true e = eqb-true a b e
     go false e = eqb-false a b e
 
 abbrev pub Lt : Bool → ℕ → ℕ → Type 0

@@ -6,7 +6,7 @@ use mathlib.Core.List.{List}
 use mathlib.Core.Path.{◌∙◌, ◌≡◌, ap, refl, subst, sym}
 use lib.Dec.{eqb}
 use lib.ListN.{get_or, length}
-use borrow.Author.Tests.{eqb_true}
+use borrow.Author.Tests.{eqb-true}
 use Rattle.words.specs.Words.{le64}
 use Rattle.image_format.proofs.Heads.{head_lists, list_past, lists_ready}
 use Rattle.image_format.proofs.Nodes.{child_node, end_sparse, node_done, node_table, run_end, run_on, run_refused, run_start}
@@ -21,7 +21,7 @@ not_so e = let z : ◌≡◌ {A = ℕ} 0 1 = cc in absurd (omega arith)
 
 -- with a test that holds
 pub by_test : {P : Type 0} (n m : ℕ) → (n ≡ m → P) → eqb n m ≡ true → P
-by_test n m f e = f (eqb_true n m e)
+by_test n m f e = f (eqb-true n m e)
 
 fits_one : fits 3 1 ≡ true
 unfolding fits

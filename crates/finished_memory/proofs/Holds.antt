@@ -9,7 +9,7 @@ use mathlib.Core.Option.{some}
 use lib.ListN.{length, get_or, take, drop, replicate, length-append, length-replicate, length-take, length-drop, get_or-eq_default}
 use lib.Seq.{sets, length-sets, sets-eq, take-append_seam, drop-append_seam, get_or-take, get_or-drop}
 use lib.Dec.{eqb}
-use borrow.Author.Tests.{eq-eqb, eqb_true}
+use borrow.Author.Tests.{eq-eqb, eqb-true}
 use Rattle.words.specs.Words.{le64}
 use Rattle.words.proofs.Parts.{sets_append, le64_sets_other, lt_or_ge}
 use Rattle.definitions.specs.Calls.{Capacity, needed}
@@ -166,8 +166,8 @@ passed (right k j) h s q c t e = go (eqb h.nodes k && eqb h.entries j) refl e
     go false p f = absurd (let z : ◌≡◌ {A = ℕ} 0 1 = cc in omega arith)
     go true p f =
         let x = check_accepts s k j q in
-        let n : h.nodes ≡ k = eqb_true h.nodes k (and_left (eqb h.nodes k) (eqb h.entries j) p) in
-        let i : h.entries ≡ j = eqb_true h.entries j (and_right (eqb h.nodes k) (eqb h.entries j) p) in
+        let n : h.nodes ≡ k = eqb-true h.nodes k (and_left (eqb h.nodes k) (eqb h.entries j) p) in
+        let i : h.entries ≡ j = eqb-true h.entries j (and_right (eqb h.nodes k) (eqb h.entries j) p) in
         let u : trie_in s ≡ t = cc in
         record { capacity = cc; trie = u; read = x.read ∙ sym (rw (n, i) refl); rule = subst (λ (y : Trie). index_rule y ≡ true) u x.rule; apart = subst (λ (y : Trie). free (trie_pieces y) ≡ true) u x.apart }
 

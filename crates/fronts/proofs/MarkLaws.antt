@@ -7,7 +7,7 @@ use mathlib.Core.Option.{Option, none, some}
 use lib.Dec.{eqb}
 use lib.ListN.{length, get_or, set, replicate}
 use lib.Seq.{get_or-set_same, get_or-set_other}
-use borrow.Author.Tests.{eqb_true, eqb-false, eq-eqb, ne_eqb}
+use borrow.Author.Tests.{eqb-true, eqb-false, eq-eqb, ne_eqb}
 use Rattle.trie.specs.Trie.{Forest, leaf, more, Node, child}
 use Rattle.trie.specs.Test.{is_some}
 use Rattle.image_format.specs.Held.{Entry}
@@ -62,7 +62,7 @@ module _ (s : List ℕ) (table children : ℕ) where
       where
         go : (b : ℕ) (n : Node) (o : Option Node) (x : Bool) → eqb e.byte b ≡ x → (marked (set has e.byte 1) b || is_some o) ≡ (marked has b || is_some (cond x (some n) o))
         go b n o true z =
-            let y : get_or (set has e.byte 1) b 0 ≡ 1 = ap (λ (c : ℕ). get_or (set has e.byte 1) c 0) (sym (eqb_true e.byte b z)) ∙ get_or-set_same has e.byte 1 0 k in
+            let y : get_or (set has e.byte 1) b 0 ≡ 1 = ap (λ (c : ℕ). get_or (set has e.byte 1) c 0) (sym (eqb-true e.byte b z)) ∙ get_or-set_same has e.byte 1 0 k in
             ap (λ (c : ℕ). not (eqb c 0) || is_some o) y ∙ sym (or_true (marked has b))
         go b n o false z =
             let y : get_or (set has e.byte 1) b 0 ≡ get_or has b 0 = get_or-set_other has e.byte b 1 0 (λ w. eqb-false e.byte b z (sym w)) in

@@ -9,7 +9,7 @@ use mathlib.Core.Option.{Option, none, some}
 use lib.Dec.{eqb}
 use lib.Bits.{bit_or, or_shr, or_step}
 use lib.Pow.{shl_exact, shl-shr}
-use borrow.Author.Tests.{eqb_true, eqb-false, ne_eqb}
+use borrow.Author.Tests.{eqb-true, eqb-false, ne_eqb}
 use Rattle.trie.specs.Trie.{Forest, leaf, more, Node, child}
 use Rattle.image_format.specs.Held.{Entry}
 use Rattle.image_walk.specs.Tables.{slot_in}
@@ -54,7 +54,7 @@ absent m b e = go (eqb m 0) refl e
   where
     go : (o : Bool) → eqb m 0 ≡ o → cond o false (eqb (bit m b) 0) ≡ true → Absent m b
     go true z f = absurd (let w : ◌≡◌ {A = ℕ} 0 1 = cc in omega arith)
-    go false z f = record { some = eqb-false m 0 z; unset = eqb_true (bit m b) 0 f }
+    go false z f = record { some = eqb-false m 0 z; unset = eqb-true (bit m b) 0 f }
 
 -- ── the mask of a table ──
 

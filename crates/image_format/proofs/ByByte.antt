@@ -6,7 +6,7 @@ use mathlib.Core.List.{List, [], ◌++◌, ◌∷◌}
 use mathlib.Core.Path.{◌∙◌, ◌≡◌, ap, refl, subst, sym}
 use lib.Dec.{eqb, ltb}
 use lib.ListN.{length}
-use borrow.Author.Tests.{eqb-false, eqb_true, le-ltb, lt-ltb, ltb-false, ltb-true, ne_eqb}
+use borrow.Author.Tests.{eqb-false, eqb-true, le-ltb, lt-ltb, ltb-false, ltb-true, ne_eqb}
 use Rattle.trie.specs.Trie.{entries, nodes}
 use Rattle.image_format.proofs.KindThree.{AllRead, Distinct, Missing}
 use Rattle.image_format.specs.Image.{Child, ascending, children_size, entries_in, nodes_in, size_below, with_byte}
@@ -56,10 +56,10 @@ total_at f b (k ∷ ks) = go (ltb k.byte b) refl (eqb k.byte b) refl (total_at f
   where
     go : (p : Bool) → ltb k.byte b ≡ p → (q : Bool) → eqb k.byte b ≡ q → total f (with_byte b ks) ≡ shares f 1 b ks →
         total f (cond q (k ∷ with_byte b ks) (with_byte b ks)) ≡ cond p 0 (cond (ltb k.byte (b + 1)) (f k) 0) + shares f 1 b ks
-    go true x true y ih = absurd (omega (arith, ltb-true k.byte b x, eqb_true k.byte b y))
+    go true x true y ih = absurd (omega (arith, ltb-true k.byte b x, eqb-true k.byte b y))
     go true x false y ih = omega arith
     go false x true y ih =
-        let l : k.byte < b + 1 = omega (arith, eqb_true k.byte b y) in
+        let l : k.byte < b + 1 = omega (arith, eqb-true k.byte b y) in
         simp (lt-ltb k.byte (b + 1) l) (omega arith)
     go false x false y ih =
         let n = eqb-false k.byte b y in
@@ -130,12 +130,12 @@ below_on b (k ∷ ks) = go (ltb k.byte b) refl (ltb k.byte (b + 1)) refl (eqb k.
     go : (p : Bool) → ltb k.byte b ≡ p → (q : Bool) → ltb k.byte (b + 1) ≡ q → (r : Bool) → eqb k.byte b ≡ r →
         size_below (b + 1) ks ≡ size_below b ks + children_size (with_byte b ks) →
         cond q (1 + k.size) 0 + size_below (b + 1) ks ≡ cond p (1 + k.size) 0 + size_below b ks + children_size (cond r (k ∷ with_byte b ks) (with_byte b ks))
-    go true x true y true z ih = absurd (omega (arith, ltb-true k.byte b x, eqb_true k.byte b z))
+    go true x true y true z ih = absurd (omega (arith, ltb-true k.byte b x, eqb-true k.byte b z))
     go true x true y false z ih = omega arith
     go true x false y r z ih = absurd (omega (arith, ltb-true k.byte b x, ltb-false k.byte (b + 1) y))
     go false x true y true z ih = omega arith
     go false x true y false z ih = absurd (eqb-false k.byte b z (omega (arith, ltb-false k.byte b x, ltb-true k.byte (b + 1) y)))
-    go false x false y true z ih = absurd (omega (arith, ltb-false k.byte (b + 1) y, eqb_true k.byte b z))
+    go false x false y true z ih = absurd (omega (arith, ltb-false k.byte (b + 1) y, eqb-true k.byte b z))
     go false x false y false z ih = omega arith
 
 pub below_zero : (ks : List Child) → size_below 0 ks ≡ 0
@@ -201,7 +201,7 @@ one_at b seen (k ∷ ks) a = go (eqb k.byte b) refl (one_at b (seen ++ (k ∷ []
 
     go : (q : Bool) → eqb k.byte b ≡ q → One b ks → One b (k ∷ ks)
     go true e o =
-        let r = at_absent b ks (later_absent b (seen ++ (k ∷ [])) ks a.1 (λ x. absent_last b seen k x (eqb_true k.byte b e))) in
+        let r = at_absent b ks (later_absent b (seen ++ (k ∷ [])) ks a.1 (λ x. absent_last b seen k x (eqb-true k.byte b e))) in
         just k (sym (turn true e) ∙ ap (λ (l : List Child). k ∷ l) r)
     go false e (nobody f) = nobody (sym (turn false e) ∙ f)
     go false e (just x f) = just x (sym (turn false e) ∙ f)

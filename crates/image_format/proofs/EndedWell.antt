@@ -6,7 +6,7 @@ use mathlib.Core.List.{List, [], ◌++◌, ◌∷◌}
 use mathlib.Core.Path.{◌∙◌, ◌≡◌, refl, subst, sym}
 use lib.Dec.{eqb, leb, ltb}
 use lib.ListN.{get_or, length, length-append}
-use borrow.Author.Tests.{eq-eqb, eqb-false, eqb_true, leb-false, leb-true, ltb-false}
+use borrow.Author.Tests.{eq-eqb, eqb-false, eqb-true, leb-false, leb-true, ltb-false}
 use Rattle.words.specs.Words.{le64}
 use Rattle.image_format.proofs.Heads.{list_bound}
 use Rattle.kinds.proofs.KindRule.{Fits, fits_view, one, three, two}
@@ -30,11 +30,11 @@ flag_inv s rd kind at next k a b l e = go (eqb (get_or s at 0) 1) refl (eqb (get
   where
     go : (p : Bool) → eqb (get_or s at 0) 1 ≡ p → (q : Bool) → eqb (get_or s at 0) 0 ≡ q → (r : Bool) → eqb kind 1 ≡ r →
         done next k a b ≡ by_turn rd at (cond p child (cond q (cond r gap (wrong 15)) (wrong 15))) → Turned s rd kind at next k a b
-    go true x q y r z f = by_node l (eqb_true (get_or s at 0) 1 x) f
+    go true x q y r z f = by_node l (eqb-true (get_or s at 0) 1 x) f
     go false x true y true z f =
         let n : next ≡ at + 1 = cc in
         let m : k ≡ 0 = cc in
-        by_gap l (eqb_true (get_or s at 0) 0 y) (eqb_true kind 1 z) n m
+        by_gap l (eqb-true (get_or s at 0) 0 y) (eqb-true kind 1 z) n m
     go false x true y false z f = never f
     go false x false y r z f = never f
 
@@ -47,7 +47,7 @@ child_at s rd p i at next k a b off o e = go (eqb off at) refl (leb (length s) a
         done next k a b ≡ by_turn rd at (cond x (cond y (wrong 13) (flag_turn p.kind (get_or s at 0))) (wrong 15)) →
         (off ≡ at) × Turned s rd p.kind at next k a b
     go true u true v f = never f
-    go true u false v f = (eqb_true off at u, flag_inv s rd p.kind at next k a b (leb-false (length s) at v) f)
+    go true u false v f = (eqb-true off at u, flag_inv s rd p.kind at next k a b (leb-false (length s) at v) f)
     go false u y v f = never f
 
 pub child_skipped : (s : List ℕ) (rd : ℕ → Step) (p : Table) (i at next k a b : ℕ) → skip ≡ slot_at s p i → done next k a b ≡ read_child s rd p i at → (next ≡ at) × (k ≡ 0)
@@ -186,11 +186,11 @@ open_inv s kind at q f =
         table q ≡ cond a (cond b (table (dense_table at)) (no_table 13))
         (cond c (cond d (cond e (table (sparse_table kind at (le64 s at))) (no_table (table_fault s (at + 8) (le64 s at) 0))) (no_table 15)) (no_table 13)) →
         Open s kind at q
-    go true x true y c z d w e v g = let h : q ≡ dense_table at = cc in dense (eqb_true kind 1 x) (leb-true (at + 2048) (length s) y) h
+    go true x true y c z d w e v g = let h : q ≡ dense_table at = cc in dense (eqb-true kind 1 x) (leb-true (at + 2048) (length s) y) h
     go true x false y c z d w e v g = never_open g
     go false x b y true z true w true v g =
         let h : q ≡ sparse_table kind at (le64 s at) = cc in
-        sparse (eqb-false kind 1 x) (leb-true (at + 8) (length s) z) w (sym (eqb_true (table_fault s (at + 8) (le64 s at) 0) 0 v)) h
+        sparse (eqb-false kind 1 x) (leb-true (at + 8) (length s) z) w (sym (eqb-true (table_fault s (at + 8) (le64 s at) 0) 0 v)) h
     go false x b y true z true w false v g = never_open g
     go false x b y true z false w e v g = never_open g
     go false x b y false z d w e v g = never_open g
@@ -230,7 +230,7 @@ fault_at s base (suc k) i j f x y =
     go false true u c g q v ih = absurd (omega arith)
     go false false u true g q v ih = absurd (omega arith)
     go false false u false g true v ih =
-        subst (λ (n : ℕ). n ≤ find_byte s base (get_or s (base + n * 9) 0) n 0) (eqb_true i j v) (ltb-false (find_byte s base (get_or s (base + i * 9) 0) i 0) i u)
+        subst (λ (n : ℕ). n ≤ find_byte s base (get_or s (base + n * 9) 0) n 0) (eqb-true i j v) (ltb-false (find_byte s base (get_or s (base + i * 9) 0) i 0) i u)
     go false false u false g false v ih = let n = eqb-false i j v in ih g (omega arith)
 
 pub find_self : (s : List ℕ) (base n j : ℕ) → 0 ≡ table_fault s base n 0 → j < n → j ≡ find_byte s base (get_or s (base + j * 9) 0) n 0

@@ -7,7 +7,7 @@ use mathlib.Core.List.{List, [], ◌++◌, ◌∷◌}
 use mathlib.Core.Path.{◌∙◌, ◌≡◌, refl, subst, sym}
 use lib.Dec.{eqb}
 use lib.ListN.{get_or, length, length-append}
-use borrow.Author.Tests.{eq-eqb, eqb-false, eqb_true, ne_eqb}
+use borrow.Author.Tests.{eq-eqb, eqb-false, eqb-true, ne_eqb}
 use Rattle.words.proofs.Parts.{length_bytes64}
 use Rattle.words.specs.Words.{bytes64, le64}
 use Rattle.words.specs.Holding.{Holds}
@@ -64,7 +64,7 @@ found s base at j b all (x ∷ ks) k r h e = go (eqb x.byte b) refl e (λ f. fou
         (with_byte b ks ≡ k ∷ r → (i : ℕ) × (i ≡ find_byte s base b (length ks) (j + 1)) × (i < j + 1 + length ks) × (at + size_below b all ≡ le64 s (base + i * 9 + 1))) →
         (i : ℕ) × (i ≡ cond (eqb (get_or s (base + j * 9) 0) b) j (find_byte s base b (length ks) (j + 1))) × (i < j + suc (length ks)) × (at + size_below b all ≡ le64 s (base + i * 9 + 1))
     go true f g ih =
-        let y = eqb_true x.byte b f in
+        let y = eqb-true x.byte b f in
         let z : get_or s (base + j * 9) 0 ≡ b = h.0 ∙ y in
         (j, simp (eq-eqb _ _ z), omega arith, subst (λ (n : ℕ). at + size_below n all ≡ le64 s (base + j * 9 + 1)) y h.1)
     go false f g ih =

@@ -6,7 +6,7 @@ use mathlib.Core.List.{List, [], ◌++◌, ◌∷◌}
 use mathlib.Core.Path.{◌∙◌, ◌≡◌, ap, refl, subst, sym}
 use lib.Dec.{eqb, ltb}
 use lib.ListN.{get_or, length}
-use borrow.Author.Tests.{eqb-false, eqb_true, ltb-false, ltb-true}
+use borrow.Author.Tests.{eqb-false, eqb-true, ltb-false, ltb-true}
 use Rattle.words.proofs.Parts.{length_bytes64}
 use Rattle.words.specs.Words.{bytes64, le64}
 use Rattle.words.specs.Holding.{Holds}
@@ -42,7 +42,7 @@ found_child s T base (suc m) j b i e f x = go (eqb (get_or s (base + j * 9) 0) b
         (as_child (get_or s (base + j * 9) 0) (T (le64 s (base + j * 9 + 1) + 1)).lists (children_of (T (le64 s (base + j * 9 + 1) + 1)).children) ∷ with_byte b (children_of (forest_by T (sparse_entries s base m (j + 1)))))
         (with_byte b (children_of (forest_by T (sparse_entries s base m (j + 1))))) ≡ as_child b (T (le64 s (base + i * 9 + 1) + 1)).lists (children_of (T (le64 s (base + i * 9 + 1) + 1)).children) ∷ r)
     go true y g ih =
-        let w = eqb_true (get_or s (base + j * 9) 0) b y in
+        let w = eqb-true (get_or s (base + j * 9) 0) b y in
         (with_byte b (children_of (forest_by T (sparse_entries s base m (j + 1)))), rw (g, w) refl)
     go false y g ih =
         let w = ih g (omega arith) in
@@ -79,7 +79,7 @@ module _ (s : List ℕ) (all : AllBytes s) (d : ℕ) (T : ℕ → Node)
         both h k x l u = one_of (eqb x b) refl
           where
             one_of : (q : Bool) → eqb x b ≡ q → Seen x
-            one_of true v = subst Seen (sym (eqb_true x b v)) k
+            one_of true v = subst Seen (sym (eqb-true x b v)) k
             one_of false v = let n = eqb-false x b v in h x (omega arith) (omega arith)
 
         go : (q : Bool) → ltb (find_byte s p.base b N 0) N ≡ q → (next k a w : ℕ) → done next k a w ≡ read_child s (read_node s d) p b at →

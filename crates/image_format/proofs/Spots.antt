@@ -6,7 +6,7 @@ use mathlib.Core.List.{List, [], ◌++◌, ◌∷◌}
 use mathlib.Core.Path.{◌∙◌, ◌≡◌, ap, refl, subst, sym}
 use lib.Dec.{eqb}
 use lib.ListN.{get_or, length}
-use borrow.Author.Tests.{eq-eqb, eqb-false, eqb_true, ne_eqb}
+use borrow.Author.Tests.{eq-eqb, eqb-false, eqb-true, ne_eqb}
 use Rattle.words.proofs.Parts.{length_bytes64}
 use Rattle.words.specs.Words.{bytes64, le64}
 use Rattle.words.specs.Holding.{Holds}
@@ -66,14 +66,14 @@ module _ (s : List ℕ) (d start : ℕ) (all : List Child) (apart : Distinct [] 
           ((at' : ℕ) → at' ≡ start + size_below (b + 1) all → at' + children_size (ascending m (b + 1) all) ≤ length s →
           Holds s at' (children_bytes at' (ascending m (b + 1) all)) → b + 1 ≤ c → c < b + 1 + m → Spot c k) → Spot c k
       go true q (nobody r) f h ih =
-          let w = eqb_true c b q in
+          let w = eqb-true c b q in
           let o' : with_byte b all ≡ k ∷ [] = subst (λ (n : ℕ). with_byte n all ≡ k ∷ []) w o in
           absurd (clash (sym r ∙ o'))
         where
           clash : [] ≡ k ∷ [] → ⊥
           clash g = let z : ◌≡◌ {A = ℕ} 0 1 = cc in omega arith
       go true q (just k' r) f h ih =
-          let w = eqb_true c b q in
+          let w = eqb-true c b q in
           let f' : at + (1 + k.size + children_size (ascending m (b + 1) all)) ≤ length s = rw (subst (λ (n : ℕ). with_byte n all ≡ k ∷ []) w o) at f in
           let h' : Holds s at (1 ∷ (k.bytes (at + 1) ++ children_bytes (at + (1 + k.size)) (ascending m (b + 1) all))) = rw (subst (λ (n : ℕ). with_byte n all ≡ k ∷ []) w o) at h in
           let u : at ≡ start + size_below c all = rw w e in
@@ -178,7 +178,7 @@ spots_one (suc m) s d base b at (more x l under later) q w r c u f o h =
         Holds s (at + 1) (slots_bytes m (b + 1) (at + 1) (as_child x l (children_of under) ∷ children_of later)) → Spots s (dense_entries s base m (b + 1)) (more x l under later)) →
         Spots s (dense_entries s base (suc m) b) (more x l under later)
     go true e yes' no' =
-        let y = eqb_true x b e in
+        let y = eqb-true x b e in
         let ks = children_of later in
         let at' = at + (1 + node_size l (children_of under)) in
         let only : with_byte b (k ∷ ks) ≡ k ∷ [] = subst (λ (n : ℕ). with_byte n (k ∷ ks) ≡ k ∷ []) y (at_self [] k ks tt (rising_absent (x + 1) x ks (omega arith) u.1)) in

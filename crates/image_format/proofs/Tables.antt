@@ -8,7 +8,7 @@ use mathlib.Core.Option.{none}
 use mathlib.Core.Path.{◌≡◌, ap, refl, sym}
 use lib.Dec.{eqb, leb, ltb}
 use lib.ListN.{get_or, length}
-use borrow.Author.Tests.{eq-eqb, eqb-false, eqb_true, le-leb, le-ltb, leb-true, lt-leb, lt-ltb, ltb-false, ne_eqb}
+use borrow.Author.Tests.{eq-eqb, eqb-false, eqb-true, le-leb, le-ltb, leb-true, lt-leb, lt-ltb, ltb-false, ne_eqb}
 use Rattle.words.specs.Words.{le64}
 use Rattle.trie.specs.Trie.{entries}
 use Rattle.kinds.proofs.KindRule.{Fits, fits_view, one, three, two}
@@ -96,7 +96,7 @@ open_cases s kind at q false b true true true fa fb fc fd fe f =
     let g : q ≡ sparse_table kind at (le64 s at) = cc in
     let n = le64 s at in
     let h = leb-true (at + 8) (length s) fc in
-    let i = fault_none s (at + 8) n 0 (omega arith) (sym (eqb_true (table_fault s (at + 8) n 0) 0 fe)) in
+    let i = fault_none s (at + 8) n 0 (omega arith) (sym (eqb-true (table_fault s (at + 8) n 0) 0 fe)) in
     let j = range_most kind n (eqb-false kind 1 fa) fd in
     rw g (record { entries = omega arith; offsets = λ z. absurd (eqb-false kind 1 fa z); few = few_cases kind n; bytes = bytes_cases kind n; turns = turns_cases (eqb kind 3) n j; start = omega arith }, omega arith)
   where

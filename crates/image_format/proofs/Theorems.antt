@@ -7,7 +7,7 @@ use mathlib.Core.Path.{◌∙◌, ◌≡◌, ap, refl, subst, sym}
 use lib.Dec.{eqb, leb}
 use lib.ListN.{get_or, length, replicate}
 use lib.Seq.{ext_get_or}
-use borrow.Author.Tests.{eq-eqb, eqb-false, eqb_true, ne_eqb}
+use borrow.Author.Tests.{eq-eqb, eqb-false, eqb-true, ne_eqb}
 use Rattle.words.proofs.Parts.{length_bytes64}
 use Rattle.words.specs.Words.{bytes64, le64}
 use Rattle.words.specs.Holding.{Holds}
@@ -111,14 +111,14 @@ root_read s n e f = go (eqb (length s) 0) (eqb (get_or s 0 0) 0) refl f
         last : (b : Bool) → eqb next (length s) ≡ b → cond b (right n' e') (refused 15) ≡ right n e → (k : ℕ) × (done (length s) k n e ≡ done next c n' e')
         last false x y = refused_never y
         last true x y =
-            let p : next ≡ length s = eqb_true next (length s) x in
+            let p : next ≡ length s = eqb-true next (length s) x in
             let q : n' ≡ n = cc in
             let r : e' ≡ e = cc in
             (c, rw (p, q, r) refl)
 
     go : (a b : Bool) → eqb (get_or s 0 0) 0 ≡ b → to_the_end s (cond a (fault 13) (cond b (read_counts s 3 1) (read_node s 17 0))) ≡ right n e → RootRead s n e
     go true b x g = refused_never g
-    go false true x g = let w = ends (read_counts s 3 1) g in none_there (eqb_true (get_or s 0 0) 0 x) w.0 w.1
+    go false true x g = let w = ends (read_counts s 3 1) g in none_there (eqb-true (get_or s 0 0) 0 x) w.0 w.1
     go false false x g = let w = ends (read_node s 17 0) g in node_there (eqb-false (get_or s 0 0) 0 x) w.0 w.1
 
 -- a list of bytes is what it holds from its first byte to its end
@@ -143,7 +143,7 @@ counts_inv s a (suc m) at next k n e f = go (leb (at + 8) (length s)) (eqb (le64
     go true false x g ih = never g
     go true true x g ih =
         let r = ih g in
-        let z = eqb_true (le64 s at) 0 x in
+        let z = eqb-true (le64 s at) 0 x in
         let b : Holds s at (bytes64 0) = subst (λ (v : ℕ). Holds s at (bytes64 v)) z (holds_read s at a) in
         (holds_append s at 8 (bytes64 0) (zeros m) (length_bytes64 0) b r.0, omega (arith, r.1))
 

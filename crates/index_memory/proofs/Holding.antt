@@ -9,7 +9,7 @@ use mathlib.Core.List.{List, [], Memᴰ as Mem}
 use mathlib.Core.Option.{Option, none, some}
 use lib.ListN.{length, get_or}
 use lib.Dec.{eqb}
-use borrow.Author.Tests.{eqb_true, eq-eqb, ne_eqb}
+use borrow.Author.Tests.{eqb-true, eq-eqb, ne_eqb}
 use Rattle.words.specs.Holding.{Holds}
 use Rattle.words.proofs.Holding.{holds_ext, stands_holds, holds_stands}
 use Rattle.words.proofs.Parts.{get_or_sets_out}
@@ -115,8 +115,8 @@ module _ (m : List ℕ) (c : Capacity) (ps : List Piece) where
       let b : Bool = eqb h.nodes (nodes_tallied log) in
       let d : Bool = eqb h.entries (entries_tallied log) in
       let t' : (b && d) ≡ true = and_right a (b && d) t in
-      let n : h.nodes ≡ nodes_tallied log = eqb_true h.nodes (nodes_tallied log) (and_left b d t') in
-      let k : h.entries ≡ entries_tallied log = eqb_true h.entries (entries_tallied log) (and_right b d t') in
+      let n : h.nodes ≡ nodes_tallied log = eqb-true h.nodes (nodes_tallied log) (and_left b d t') in
+      let k : h.entries ≡ entries_tallied log = eqb-true h.entries (entries_tallied log) (and_right b d t') in
       let s : AllSound log = log_sound_is m h.payload 64 (open_room m h f z) (and_left a (b && d) t) in
       let o : (free log ≡ true) × (certified m h.capacity log ≡ true) = both (free log) (certified m h.capacity log) u in
       let held : Holds m (work_at h.capacity) (certificate log) = stands_holds m (work_at h.capacity) (certificate log) o.1 in
@@ -147,7 +147,7 @@ module _ (m : List ℕ) (c : Capacity) (ps : List Piece) where
       go : (o₁ : Bool) → header_right m ≡ o₁ → (o₂ : Bool) → eqb (header_at m).phase 0 ≡ o₂ → (o₃ : Bool) → (log_right m (header_at m) && order_right m (header_at m)) ≡ o₃
           → cond o₁ (cond o₂ (cond o₃ (opened (header_at m).capacity (log_in m (header_at m).payload 64)) broken) (finished_index m (header_at m))) broken ≡ opened c ps
           → OpenIs m c ps
-      go true r true p true t f = let b = both (log_right m (header_at m)) (order_right m (header_at m)) t in from_tests r (eqb_true (header_at m).phase 0 p) b.0 b.1 f
+      go true r true p true t f = let b = both (log_right m (header_at m)) (order_right m (header_at m)) t in from_tests r (eqb-true (header_at m).phase 0 p) b.0 b.1 f
       go true r true p false t f = absurd (let z : ◌≡◌ {A = ℕ} 0 1 = cc in omega arith)
       go true r false p o₃ t f = absurd (not_finished (check_image (image_part m (header_at m))) (header_at m) (image_part m (header_at m)) c ps f)
       go false r o₂ p o₃ t f = absurd (let z : ◌≡◌ {A = ℕ} 0 1 = cc in omega arith)

@@ -8,7 +8,7 @@ use mathlib.Core.Logic.{◌⊎◌, inl, inr}
 use mathlib.Core.Path.{◌∙◌, ◌≡◌, refl, sym}
 use lib.Dec.{eqb, leb}
 use lib.ListN.{get_or}
-use borrow.Author.Tests.{eqb_true, le-leb, leb-false, leb-true, lt-leb}
+use borrow.Author.Tests.{eqb-true, le-leb, leb-false, leb-true, lt-leb}
 use Rattle.kinds.specs.Kinds.{fits, kind_of, kinds}
 use Rattle.kinds.specs.declared.KindRange.{KindRange}
 use Rattle.kinds.specs.KindPromises.{SomeRange, OneRange}
@@ -78,9 +78,9 @@ fits_view k n e = go (eqb k 3) refl (eqb k 2) refl (eqb k 1) refl e
   where
     go : (p : Bool) → eqb k 3 ≡ p → (q : Bool) → eqb k 2 ≡ q → (r : Bool) → eqb k 1 ≡ r →
         cond p (leb 0 n && leb n 8) (cond q (leb 9 n && leb n 96) (cond r (leb 97 n && leb n 256) false)) ≡ true → Fits k n
-    go true x q y r z f = let h = both 0 n n 8 f in three (eqb_true k 3 x) h.1
-    go false x true y r z f = let h = both 9 n n 96 f in two (eqb_true k 2 y) h.0 h.1
-    go false x false y true z f = let h = both 97 n n 256 f in one (eqb_true k 1 z) h.0 h.1
+    go true x q y r z f = let h = both 0 n n 8 f in three (eqb-true k 3 x) h.1
+    go false x true y r z f = let h = both 9 n n 96 f in two (eqb-true k 2 y) h.0 h.1
+    go false x false y true z f = let h = both 97 n n 256 f in one (eqb-true k 1 z) h.0 h.1
     go false x false y false z f = let z : ◌≡◌ {A = ℕ} 0 1 = cc in absurd (omega arith)
 
 -- ── the rule ──

@@ -10,7 +10,7 @@ use mathlib.Core.List.{List, [], ◌∷◌, ◌++◌, append-nil, append_assoc}
 use lib.ListN.{length, get_or, set, length-set}
 use lib.Seq.{get_or-set_same, get_or-set_other}
 use lib.Dec.{eqb}
-use borrow.Author.Tests.{eqb_true, eqb-false}
+use borrow.Author.Tests.{eqb-true, eqb-false}
 use Rattle.definitions.specs.Location.{Location}
 use Rattle.definitions.proofs.Views.{lt_or_le}
 use Rattle.trie.specs.Test.{and_list}
@@ -107,7 +107,7 @@ added_lists s lists count at n h = go (eqb n 0) refl
 
     go : (o : Bool) → eqb n 0 ≡ o → lists_in s (cond o lists ys) (cond o count (count + 1)) ≡ lists_in s lists count ++ and_list (locations_in s n at) []
     go true e =
-        let z : n ≤ 0 = omega (arith, eqb_true n 0 e) in
+        let z : n ≤ 0 = omega (arith, eqb-true n 0 e) in
         rw (locations_none s n at z, append-nil)
     go false e =
         let z : 0 < n = lt_of_ne (eqb-false n 0 e) in

@@ -6,7 +6,7 @@ use mathlib.Core.Path.{◌≡◌, refl, sym, ap, ◌∙◌}
 use mathlib.Core.Bool.{Bool, true, false, ◌&&◌}
 use mathlib.Core.List.{List, [], ◌∷◌}
 use lib.Dec.{eqb, compare_is_eq}
-use borrow.Author.Tests.{lt-ltb, le-ltb, le-leb, lt-leb, eqb_true, eqb-false}
+use borrow.Author.Tests.{lt-ltb, le-ltb, le-leb, lt-leb, eqb-true, eqb-false}
 use Rattle.definitions.specs.Location.{Location, order, is_lt, location_at}
 use Rattle.definitions.specs.Calls.{last_number}
 use Rattle.definitions.proofs.Order.{location_path}
@@ -27,7 +27,7 @@ pub by_last : (l m : Location) → l.address ≡ m.address → l.created ≡ m.c
 by_last l m e f = go (eqb l.destroyed m.destroyed) refl
   where
     go : (o : Bool) → eqb l.destroyed m.destroyed ≡ o → o ≡ compare_is_eq (order l m)
-    go true g = sym (true_same l m (location_path e f (eqb_true l.destroyed m.destroyed g)))
+    go true g = sym (true_same l m (location_path e f (eqb-true l.destroyed m.destroyed g)))
     go false g = differ l m (λ h. eqb-false l.destroyed m.destroyed g (ap (λ (x : Location). x.destroyed) h))
 
 module _ (s : List ℕ) where

@@ -7,7 +7,7 @@ use mathlib.Core.List.{List}
 use mathlib.Core.Option.{Option, none, some}
 use lib.ListN.{length}
 use lib.Dec.{ltb, leb, eqb}
-use borrow.Author.Tests.{leb-true, eqb_true, le-leb, eq-eqb}
+use borrow.Author.Tests.{leb-true, eqb-true, le-leb, eq-eqb}
 use Rattle.words.specs.Words.{le64}
 use Rattle.definitions.specs.Calls.{Capacity, out_of_range, needed}
 use Rattle.definitions.proofs.Views.{Eq, eq, Lt, lt, Le, le}
@@ -108,8 +108,8 @@ module _ (m : List ℕ) (h : Header) where
         some_entries = b.0;
         few_entries = b.1;
         held = leb-true (needed c) (length m) (and_left t₃ s₄ e₃);
-        first_zero = eqb_true (le64 m 48) 0 (and_left t₄ s₅ e₄);
-        second_zero = eqb_true (le64 m 56) 0 (and_left t₅ s₆ e₅);
+        first_zero = eqb-true (le64 m 48) 0 (and_left t₄ s₅ e₄);
+        second_zero = eqb-true (le64 m 56) 0 (and_left t₅ s₆ e₅);
         phase = leb-true h.phase 1 (and_left t₆ s₇ e₆);
         nodes = leb-true h.nodes c.nodes (and_left t₇ s₈ e₇);
         entries = leb-true h.entries c.entries (and_left t₈ t₉ e₈);

@@ -8,7 +8,7 @@ use mathlib.Core.List.{List, [], ◌∷◌, ◌++◌, append-nil}
 use mathlib.Core.Option.{Option, none, some}
 use lib.ListN.{length, get_or}
 use lib.Dec.{eqb}
-use borrow.Author.Tests.{eq-eqb, eqb_true, ne_eqb}
+use borrow.Author.Tests.{eq-eqb, eqb-true, ne_eqb}
 use Rattle.words.specs.Words.{le64}
 use Rattle.definitions.proofs.Views.{Eq, eq}
 use Rattle.definitions.specs.Location.{Location, location_at, locations_in}
@@ -48,7 +48,7 @@ leaf_parts p e =
     let x = both (eqb p.children 0) _ e in
     let y = both (eqb p.chunk_count 0) _ x.1 in
     let z = both (eqb p.suffix_count 0) _ y.1 in
-    record { children = eqb_true _ _ x.0; chunks = eqb_true _ _ y.0; suffixes = eqb_true _ _ z.0; prefixes = eqb_true _ _ z.1 }
+    record { children = eqb-true _ _ x.0; chunks = eqb-true _ _ y.0; suffixes = eqb-true _ _ z.0; prefixes = eqb-true _ _ z.1 }
 
 -- a node has room for its counts
 pub laid_room : (s : List ℕ) (at : ℕ) → Laid s at → at + 33 ≤ length s

@@ -7,7 +7,7 @@ use mathlib.Core.List.{List}
 use mathlib.Core.Option.{Option, none, some}
 use lib.ListN.{length}
 use lib.Dec.{eqb}
-use borrow.Author.Tests.{eqb_true, eqb-false}
+use borrow.Author.Tests.{eqb-true, eqb-false}
 use Rattle.definitions.specs.Blocks.{Block}
 use Rattle.definitions.specs.BlockStream.{Read, block, nothing, refused, read_block}
 use Rattle.definitions.specs.Causes.{Cause, number, first_cause}
@@ -67,7 +67,7 @@ module _ (s : List ℕ) where
       by_answer : Behind → (kind : ℕ) (b : Block) (next : ℕ) → block kind b next ≡ read_block s at → BlockRead s at kind b next → (o : Bool) → eqb (record_memory m kind b).refusal 0 ≡ o
           → SinglyFrom s at m (cond o (behind 1 (record_from count s next (record_memory m kind b).memory)) (stopped (record_memory m kind b).refusal (record_memory m kind b).memory))
       by_answer ih kind b next e r true q =
-          singly_more s at m kind b next _ (sym e) (eqb_true (record_memory m kind b).refusal 0 q)
+          singly_more s at m kind b next _ (sym e) (eqb-true (record_memory m kind b).refusal 0 q)
           (ih next (record_memory m kind b).memory r.within (omega (arith, r.behind)))
       by_answer ih kind b next e r false q =
           let z = eqb-false (record_memory m kind b).refusal 0 q in

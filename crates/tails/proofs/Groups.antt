@@ -10,7 +10,7 @@ use mathlib.Core.List.Memᴰ.{not-nil}
 use mathlib.Core.List.Memᴰ.{tail as later}
 use mathlib.Core.List.{List, [], ◌∷◌, Memᴰ as Mem}
 use lib.Dec.{eqb}
-use borrow.Author.Tests.{eqb_true, eq-eqb, ne_eqb}
+use borrow.Author.Tests.{eqb-true, eq-eqb, ne_eqb}
 use Rattle.definitions.proofs.Views.{Eq, eq, lt_or_le}
 use Rattle.trie.specs.Build.{Rising}
 use Rattle.tails.specs.Tails.{Tail}
@@ -95,7 +95,7 @@ module _ (d : ℕ) (t : Tail) (ss : List Tail) where
     group_upto : (g : Group) → GroupOf (has d g.byte) ss g → byte_at d t ≤ g.byte
     group_upto g k =
         let m = keep_mem (has d g.byte) ss (subst (λ (x : List Tail). Mem k.earliest x) k.tails k.there) in
-        omega (arith, upto k.earliest m.listed, eqb_true (byte_at d k.earliest) g.byte m.passes)
+        omega (arith, upto k.earliest m.listed, eqb-true (byte_at d k.earliest) g.byte m.passes)
 
     into_grouped : (gs : List Group) → Grouped d ss gs → Grouped d (t ∷ ss) (into_group d t gs)
     into_grouped [] k = record { rising = ((λ c m. absurd (not-nil m)), tt); each = each; covers = covers }

@@ -10,7 +10,7 @@ use mathlib.Core.List.Memᴰ.{tail as later}
 use mathlib.Core.List.{List, [], ◌∷◌, Memᴰ as Mem}
 use lib.ListN.{length}
 use lib.Dec.{eqb}
-use borrow.Author.Tests.{eqb_true, eqb-false, eq-eqb, not-true}
+use borrow.Author.Tests.{eqb-true, eqb-false, eq-eqb, not-true}
 use Rattle.records.specs.Records.{Ordered}
 use Rattle.records.proofs.Order.{clash}
 use Rattle.tails.specs.Tails.{Tail, mark_of, tail_record, tail_records}
@@ -48,8 +48,8 @@ pub ends_is : (d : ℕ) (w : Bool) (t : Tail) → ends_as d w t ≡ true → (le
 ends_is d w t e = go (eqb (length t.entry.path) d) refl w t.entry.whole refl e
   where
     go : (o : Bool) → eqb (length t.entry.path) d ≡ o → (w v : Bool) → t.entry.whole ≡ v → ends_as d w t ≡ true → (length t.entry.path ≡ d) × (t.entry.whole ≡ w)
-    go true p true true q e = (eqb_true (length t.entry.path) d p, q)
-    go true p false false q e = (eqb_true (length t.entry.path) d p, q)
+    go true p true true q e = (eqb-true (length t.entry.path) d p, q)
+    go true p false false q e = (eqb-true (length t.entry.path) d p, q)
     go true p true false q e = clash (sym e ∙ rw (p, q))
     go true p false true q e = clash (sym e ∙ rw (p, q))
     go false p true v q e = clash (sym e ∙ rw p)
@@ -66,7 +66,7 @@ pub goes_is : (d b : ℕ) (t : Tail) → goes d b t ≡ true → (longer d t ≡
 goes_is d b t e = go (longer d t) (eqb (byte_at d t) b) refl refl e
   where
     go : (o₁ o₂ : Bool) → longer d t ≡ o₁ → eqb (byte_at d t) b ≡ o₂ → o₁ && o₂ ≡ true → (longer d t ≡ true) × (byte_at d t ≡ b)
-    go true true p q e = (p, eqb_true (byte_at d t) b q)
+    go true true p q e = (p, eqb-true (byte_at d t) b q)
     go true false p q e = clash (sym e)
     go false o₂ p q e = clash (sym e)
 

@@ -9,7 +9,7 @@ use mathlib.Core.List.{List, [], ◌∷◌, ◌++◌}
 use lib.ListN.{length, get_or, set, length-set}
 use lib.Seq.{sets, length-sets, get_or-set_same, ext_get_or}
 use lib.Dec.{eqb}
-use borrow.Author.Tests.{eqb_true, eq-eqb}
+use borrow.Author.Tests.{eqb-true, eq-eqb}
 use Rattle.words.specs.Words.{le_n, bytes_n, le64, bytes64}
 use Rattle.words.specs.Holding.{Holds, stands}
 use Rattle.words.proofs.Laws.{top}
@@ -76,7 +76,7 @@ stands_holds s at [] e = tt
 stands_holds s at (x ∷ xs) e = go (eqb (get_or s at 0) x) refl (stands_holds s (at + 1) xs) e
   where
     go : (o : Bool) → eqb (get_or s at 0) x ≡ o → (stands s (at + 1) xs ≡ true → Holds s (at + 1) xs) → (o && stands s (at + 1) xs) ≡ true → (get_or s at 0 ≡ x) × Holds s (at + 1) xs
-    go true q ih f = (eqb_true (get_or s at 0) x q, ih f)
+    go true q ih f = (eqb-true (get_or s at 0) x q, ih f)
     go false q ih f = absurd (let z : ◌≡◌ {A = ℕ} 0 1 = cc in omega arith)
 
 pub holds_stands : (s : List ℕ) (at : ℕ) (xs : List ℕ) → Holds s at xs → stands s at xs ≡ true

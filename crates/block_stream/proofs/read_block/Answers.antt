@@ -8,27 +8,27 @@ use Rattle.block_stream.proofs.read_block.Goals as goal
 pub returns-then-s-at : goal.returns-then-s-at
 returns-then-s-at c =
     let a = c.args in
-    (past a.s.now a.at (omega arith), tt)
+    record { means = past a.s.now a.at (omega arith); starts = tt }
 
 pub returns-then-left-eq0 : goal.returns-then-left-eq0
 returns-then-left-eq0 c =
     let a = c.args in
-    (at_end a.s.now a.at (omega arith), tt)
+    record { means = at_end a.s.now a.at (omega arith); starts = tt }
 
 pub returns-then-kind-gt-LAST_KIND : goal.returns-then-kind-gt-LAST_KIND
 returns-then-kind-gt-LAST_KIND c =
     let a = c.args in
-    (kind_over a.s.now a.at (omega arith) (omega arith), tt)
+    record { means = kind_over a.s.now a.at (omega arith) (omega arith); starts = tt }
 
 pub returns-then-left-lt-HEAD_SIZE : goal.returns-then-left-lt-HEAD_SIZE
 returns-then-left-lt-HEAD_SIZE c =
     let a = c.args in
-    (cut_field a.s.now a.at (omega arith) (omega arith) (omega arith), tt)
+    record { means = cut_field a.s.now a.at (omega arith) (omega arith) (omega arith); starts = tt }
 
 pub returns-then-left-n : goal.returns-then-left-n
 returns-then-left-n c =
     let a = c.args in
-    (cut_data a.s.now a.at (omega arith) (omega arith) (omega arith) (omega arith), tt)
+    record { means = cut_data a.s.now a.at (omega arith) (omega arith) (omega arith) (omega arith); starts = tt }
 
 pub returns : goal.returns
 returns c =
@@ -39,4 +39,4 @@ returns c =
     let a = c.args in
     let l : Location = record { address = b.result; created = e.result; destroyed = d.result } in
     let f = found a.s.now a.at (omega arith) (omega arith) (omega arith) l n.result in
-    (f b.ensures n.ensures e.ensures d.ensures (omega arith), refl)
+    record { means = f b.ensures n.ensures e.ensures d.ensures (omega arith); starts = refl }

@@ -3,7 +3,6 @@ use Prim.Native.Nat.{◌-◌}
 use native.Mathlib.Omega.{arith}
 use mathlib.Core.Path.{sym, ◌∙◌}
 use mathlib.Core.Bool.{true}
-use borrow.Author.Tests.{not-true, not-false}
 use Rattle.certificate.specs.Entries.{entry_right}
 use Rattle.certificate.proofs.All.{all_start, all_next, all_fails, all_done}
 use Rattle.certificate.proofs.entries_right.Goals as goal
@@ -17,12 +16,12 @@ entry_right-requires c = (c.requires.0, c.requires.1, omega (arith, c.requires.2
 pub returns-then-not-entry_right : goal.returns-then-not-entry_right
 returns-then-not-entry_right c =
     let a = c.args in
-    sym (all_fails (entry_right a.mem.now a.base a.pieces) a.n c.loop-i.i (omega arith) (sym c.entry_right.ensures ∙ not-true _ c.if-not-entry_right.true))
+    sym (all_fails (entry_right a.mem.now a.base a.pieces) a.n c.loop-i.i (omega arith) (sym c.entry_right.ensures ∙ c.if-not-entry_right.true))
 
 pub loop-i-preserved : goal.loop-i-preserved
 loop-i-preserved c =
     let a = c.args in
-    (omega arith, all_next (entry_right a.mem.now a.base a.pieces) c.loop-i.i c.loop-i.invariant.1 (sym c.entry_right.ensures ∙ not-false _ c.if-not-entry_right.false))
+    (omega arith, all_next (entry_right a.mem.now a.base a.pieces) c.loop-i.i c.loop-i.invariant.1 (sym c.entry_right.ensures ∙ c.if-not-entry_right.false))
 
 pub returns : goal.returns
 returns c =

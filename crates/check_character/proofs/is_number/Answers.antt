@@ -2,7 +2,6 @@
 use native.Mathlib.Omega.{arith}
 use mathlib.Core.Path.{sym, ◌∙◌}
 use lib.ListN.{length-take}
-use borrow.Author.Tests.{not-true, not-false}
 use Rattle.check_character.proofs.Characters.{right_length, right_off, right_so}
 use Rattle.check_character.proofs.is_number.Goals as goal
 
@@ -13,12 +12,12 @@ pub slice_bounds-number-end : goal.slice_bounds-number-end
 slice_bounds-number-end c = simp length-take (omega arith)
 
 pub returns-then-not-are_characters : goal.returns-then-not-are_characters
-returns-then-not-are_characters c = right_off c.args.typed.now c.if-typed-ne-TYPED_SIZE.false (sym c.are_characters.ensures ∙ not-true _ c.if-not-are_characters.true)
+returns-then-not-are_characters c = right_off c.args.typed.now c.if-typed-ne-TYPED_SIZE.false (sym c.are_characters.ensures ∙ c.if-not-are_characters.true)
 
 pub sum_of-requires : goal.sum_of-requires
-sum_of-requires c = (simp length-take (omega arith), sym c.are_characters.ensures ∙ not-false _ c.if-not-are_characters.false)
+sum_of-requires c = (simp length-take (omega arith), sym c.are_characters.ensures ∙ c.if-not-are_characters.false)
 
 pub returns : goal.returns
 returns c =
-    right_so c.args.typed.now c.if-typed-ne-TYPED_SIZE.false (sym c.are_characters.ensures ∙ not-false _ c.if-not-are_characters.false)
+    right_so c.args.typed.now c.if-typed-ne-TYPED_SIZE.false (sym c.are_characters.ensures ∙ c.if-not-are_characters.false)
     c.value_of.result c.sum_of.result c.check_of.result c.value_of.ensures c.sum_of.ensures c.check_of.ensures

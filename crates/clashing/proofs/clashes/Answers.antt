@@ -4,7 +4,7 @@ use native.Mathlib.Omega.{arith}
 use mathlib.Core.Path.{◌≡◌, sym, ◌∙◌}
 use mathlib.Core.Bool.{true}
 use lib.ListN.{get_or}
-use borrow.Author.Tests.{eqb_true, eqb-false}
+use borrow.Author.Tests.{eqb-true, eqb-false}
 use Rattle.location.specs.Plain.{plain}
 use Rattle.memory_header.specs.Answers.{header_of}
 use Rattle.lined_locations.specs.declared.Line.{Line}
@@ -74,7 +74,7 @@ begun c = record {
 pub returns-then-n-eq0 : goal.returns-then-n-eq0
 returns-then-n-eq0 c =
     let a = c.args in
-    says_none a.mem.now (header_of a.h) (plain a.x) a.n (omega (arith, eqb_true))
+    says_none a.mem.now (header_of a.h) (plain a.x) a.n (omega (arith, eqb-true))
 
 pub first_from-from-requires : goal.first_from-from-requires
 first_from-from-requires c = {- place record c.before used whole -} ((inside c.before).within, omega arith, (inside c.before).lined)

@@ -1,6 +1,5 @@
 -- `fields::is_single_before_child` meets its contract. Assumes nothing.
 use native.Mathlib.Omega.{arith}
-use borrow.Author.Tests.{not-false}
 use Rattle.fields.proofs.Singles.{by_test, not_so}
 use Rattle.fields.proofs.is_single_before_child.Goals as goal
 
@@ -14,4 +13,4 @@ pub returns-then-get64-flag : goal.returns-then-get64-flag
 returns-then-get64-flag c = not_so
 
 pub returns : goal.returns
-returns c = by_test _ 1 λ f. record { within = omega arith; head = c.is_single_without_lists.ensures (not-false _ c.if-not-is_single_without_lists.false); offset = omega arith; flag = f }
+returns c = by_test _ 1 λ f. record { within = omega arith; head = c.is_single_without_lists.ensures (c.if-not-is_single_without_lists.false); offset = omega arith; flag = f }

@@ -11,7 +11,7 @@ expand-n-requires c =
 pub sort-requires : goal.sort-requires
 sort-requires c =
     let r = c.expand-n in
-    (omega arith, omega (arith, c.requires.room, r.ensures.count, r.auto.0))
+    (omega arith, omega (arith, c.requires.room, r.ensures.count, r.auto.mem))
 
 pub returns : goal.returns
 returns c =

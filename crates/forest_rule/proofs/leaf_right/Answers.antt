@@ -1,7 +1,6 @@
 -- `forest_rule::leaf_right` meets its contract: the prefix of a leaf against the lists of its front. Assumes nothing.
 use native.Mathlib.Omega.{arith}
 use mathlib.Core.Path.{◌∙◌, ap, sym}
-use borrow.Author.Tests.{not-false}
 use Rattle.image_walk.specs.Answers.{entry_of_answer}
 use Rattle.single_runs.proofs.RunLaws.{leaf_parts, leaf_chunks, leaf_prefixes, leaf_says, leaf_valid, not_so, only_laid}
 use Rattle.forest_rule.proofs.leaf_right.Goals as goal
@@ -29,12 +28,13 @@ returns-then-f-ne0 c = λ e. not_so (sym c.no_leaf-then-f-ne0.ensures.0 ∙ e)
 
 pub add_front-n-requires : goal.add_front-n-requires
 add_front-n-requires c =
-    let a = c.args in
-    let p = c.requires in
-    let m = c.node_at-c in
-    let n = c.node_at-f in
-    let k = leaf_chunks a.s.now a.table a.other _ _ (ap entry_of_answer (sym c.slot-1.given.1) ∙ c.slot_in-slot.ensures) (ap entry_of_answer (sym c.front-1.given.1) ∙ c.slot_in-front.ensures) m.result n.result m.ensures n.ensures p.1 in
-    (omega (arith, p.2), omega (arith, k.0, c.well-formed.0), omega (arith, k.1, c.well-formed.0))
+    {- no step well-formed at Start (['', '']) -}
+    let a = c.before.before.before.before.before.before.before.before.before.before.before.before.before.before.before.before.before.before.args in
+    let p = c.before.before.before.before.before.before.before.before.before.before.before.before.before.before.before.before.before.before.requires in
+    let m = c.before.before.before.before.before.before.node_at in
+    let n = c.before.before.before.node-at2 in
+    let k = leaf_chunks a.s.now a.table a.other _ _ (ap entry_of_answer (sym c.before.before.before.before.before.before.before.before.before.before.before.before.before.slot.given.1) ∙ c.before.before.before.before.before.before.before.before.before.before.before.before.before.before.before.slot-in.ensures) (ap entry_of_answer (sym c.before.before.before.before.before.before.before.before.before.front.given.1) ∙ c.before.before.before.before.before.before.before.before.before.before.before.slot-in2.ensures) m.result n.result m.ensures n.ensures p.1 in
+    (omega (arith, p.2), omega (arith, k.0, c.before.before.before.before.before.before.before.before.before.before.before.before.before.before.before.before.before.before.well-formed.0), omega (arith, k.1, c.before.before.before.before.before.before.before.before.before.before.before.before.before.before.before.before.before.before.well-formed.0))
 
 pub is_union-requires : goal.is_union-requires
 is_union-requires c =
@@ -53,4 +53,4 @@ returns c =
     let n = c.node_at-f in
     let d = c.add_front-n in
     let u = c.is_union in
-    λ _. leaf_says a.s.now a.table a.other _ _ (ap entry_of_answer (sym c.slot-1.given.1) ∙ c.slot_in-slot.ensures) (ap entry_of_answer (sym c.front-1.given.1) ∙ c.slot_in-front.ensures) m.result n.result m.ensures n.ensures a.lists.now (omega (arith, p.2)) c.if-byte-b.false (leaf_parts _ (sym c.is_leaf.ensures ∙ not-false _ c.if-not-is_leaf.false)) c.if-f-ne0.false u.result (rw (d.ensures.0, d.ensures.1) at u.ensures.says)
+    λ _. leaf_says a.s.now a.table a.other _ _ (ap entry_of_answer (sym c.slot-1.given.1) ∙ c.slot_in-slot.ensures) (ap entry_of_answer (sym c.front-1.given.1) ∙ c.slot_in-front.ensures) m.result n.result m.ensures n.ensures a.lists.now (omega (arith, p.2)) c.if-byte-b.false (leaf_parts _ (sym c.is_leaf.ensures ∙ c.if-not-is_leaf.false)) c.if-f-ne0.false u.result (rw (d.ensures.0, d.ensures.1) at u.ensures.says)

@@ -7,4 +7,4 @@ use Rattle.helmapricot.proofs.helmapricot_finish.Goals as goal
 pub returns : goal.returns
 returns c =
     let r = c.finish in
-    (c.outcome_number.ensures ∙ ap outcome_number r.ensures.answer ∙ outcome_back _, r.ensures.memory)
+    record { answer = c.outcome_number.ensures ∙ ap outcome_number r.ensures.answer ∙ outcome_back _; memory = r.ensures.memory }

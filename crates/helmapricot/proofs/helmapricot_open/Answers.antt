@@ -8,4 +8,4 @@ pub returns : goal.returns
 returns c =
     {- place record c.before.before.before used whole -}
     let r = c.before.before.before.«open» in
-    (c.outcome-number.ensures ∙ ap outcome_number r.ensures.0 ∙ outcome_back _, r.ensures.1)
+    record { answer = c.outcome-number.ensures ∙ ap outcome_number r.ensures.0 ∙ outcome_back _; memory = r.ensures.1 }

@@ -35,21 +35,18 @@ returns-in-Block c =
     let xs = a.fields.now in
     let b = g.0.0 in
     let e = subst (λ (x : Answer). read_of a.s.now x ≡ read_block a.s.now a.at) g.1 f.ensures.means in
-    let n = data_length (block_part a.s.now a.at f.result b g.1 f.ensures.means f.ensures.starts) in (
-      ap stream_number e,
-      c.put_fields.ensures ∙ ap (λ (k : ℕ). sets xs 0 (1 ∷ b.kind ∷ b.address ∷ k ∷ b.created_at ∷ b.destroyed_at ∷ b.next ∷ [])) n ∙ ap (λ (x : Read). with_fields x xs) e,
-    )
+    let n = data_length (block_part a.s.now a.at f.result b g.1 f.ensures.means f.ensures.starts) in record { answer = ap stream_number e; fields = c.put_fields.ensures ∙ ap (λ (k : ℕ). sets xs 0 (1 ∷ b.kind ∷ b.address ∷ k ∷ b.created_at ∷ b.destroyed_at ∷ b.next ∷ [])) n ∙ ap (λ (x : Read). with_fields x xs) e }
 
 pub returns-in-End : goal.returns-in-End
 returns-in-End c =
     let f = c.read_block in
     let a = c.args in
     let e = subst (λ (x : Answer). read_of a.s.now x ≡ read_block a.s.now a.at) c.enum_told-1.given.1 f.ensures.means in
-    (ap stream_number e, ap (λ (x : Read). with_fields x a.fields.now) e)
+    record { answer = ap stream_number e; fields = ap (λ (x : Read). with_fields x a.fields.now) e }
 
 pub returns-in-Refused : goal.returns-in-Refused
 returns-in-Refused c =
     let f = c.read_block in
     let a = c.args in
     let e = subst (λ (x : Answer). read_of a.s.now x ≡ read_block a.s.now a.at) c.n-1.given.1 f.ensures.means in
-    (ap stream_number e, ap (λ (x : Read). with_fields x a.fields.now) e)
+    record { answer = ap stream_number e; fields = ap (λ (x : Read). with_fields x a.fields.now) e }

@@ -13,4 +13,4 @@ returns c =
     let a = c.before.before.before.before.before.before.before.before.args in
     let r = c.before.before.before.«record» in
     let e = ap (λ (l : Location). record_memory a.mem.now a.kind (record { bytes = a.«data».now; at = l })) c.before.before.before.before.before.new.ensures in
-    (c.recorded-number.ensures ∙ ap recorded_number r.ensures.0 ∙ recorded_back _ ∙ ap (λ (d : Done). d.refusal) e, r.ensures.1 ∙ ap (λ (d : Done). d.memory) e)
+    record { answer = c.recorded-number.ensures ∙ ap recorded_number r.ensures.0 ∙ recorded_back _ ∙ ap (λ (d : Done). d.refusal) e; memory = r.ensures.1 ∙ ap (λ (d : Done). d.memory) e }

@@ -12,7 +12,7 @@ put_whole-n-requires c =
 pub close_list-kept-requires : goal.close_list-kept-requires
 close_list-kept-requires c =
     let asks = single_whole_asks _ _ _ _ c.requires.0 (λ j. omega (arith, c.slice_known-1.given j)) c.requires.1 in
-    omega (arith, c.requires.0, c.put_whole-n.ensures.count, c.put_whole-n.auto.0)
+    omega (arith, c.requires.0, c.put_whole-n.ensures.count, c.put_whole-n.auto.mem)
 
 pub behind_list-requires : goal.behind_list-requires
 behind_list-requires c =

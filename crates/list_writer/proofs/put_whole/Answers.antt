@@ -13,9 +13,9 @@ put_tail_location-requires c =
 pub returns-then-get64-eq1 : goal.returns-then-get64-eq1
 returns-then-get64-eq1 c =
     let e = is_whole _ _ _ c.get64.ensures c.if-get64-eq1.true in
-    (rw e refl, rw e c.put_tail_location.ensures)
+    record { count = rw e refl; bytes = rw e c.put_tail_location.ensures }
 
 pub returns : goal.returns
 returns c =
     let e = not_whole _ _ _ c.get64.ensures c.if-get64-eq1.false in
-    (rw e (omega arith), rw e refl)
+    record { count = rw e (omega arith); bytes = rw e refl }

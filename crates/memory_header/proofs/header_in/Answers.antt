@@ -1,7 +1,6 @@
 -- `memory_header::header_in` meets its contract: at each answer the tests that led there say whether the header is sound. Assumes nothing.
 use native.Mathlib.Omega.{arith}
 use mathlib.Core.Path.{sym, ◌∙◌}
-use borrow.Author.Tests.{not-true, not-false}
 use Rattle.memory_header.proofs.HeaderFacts.{in_range, heading_none, nodes_out, entries_out}
 use Rattle.memory_header.proofs.header_in.Goals as goal
 
@@ -13,17 +12,17 @@ returns-then-mem-lt-HEADER_SIZE c =
 pub returns-then-not-is_capacity : goal.returns-then-not-is_capacity
 returns-then-not-is_capacity c =
     let m = c.args.mem.now in
-    nodes_out m c.get64-nodes.result c.is_capacity.result c.get64-nodes.ensures c.is_capacity.ensures (not-true _ c.if-not-is_capacity.true)
+    nodes_out m c.get64-nodes.result c.is_capacity.result c.get64-nodes.ensures c.is_capacity.ensures (c.if-not-is_capacity.true)
 
 pub returns-then-not-is_capacity-2 : goal.returns-then-not-is_capacity-2
 returns-then-not-is_capacity-2 c =
     let m = c.args.mem.now in
-    entries_out m c.get64-entries.result c.is_capacity-2.result c.get64-entries.ensures c.is_capacity-2.ensures (not-true _ c.if-not-is_capacity-2.true)
+    entries_out m c.get64-entries.result c.is_capacity-2.result c.get64-entries.ensures c.is_capacity-2.ensures (c.if-not-is_capacity-2.true)
 
 pub needed-requires : goal.needed-requires
 needed-requires c =
-    let a = in_range c.get64-nodes.result (sym c.is_capacity.ensures ∙ not-false _ c.if-not-is_capacity.false) in
-    let b = in_range c.get64-entries.result (sym c.is_capacity-2.ensures ∙ not-false _ c.if-not-is_capacity-2.false) in
+    let a = in_range c.get64-nodes.result (sym c.is_capacity.ensures ∙ c.if-not-is_capacity.false) in
+    let b = in_range c.get64-entries.result (sym c.is_capacity-2.ensures ∙ c.if-not-is_capacity-2.false) in
     (a.1, b.1)
 
 pub returns-then-mem-needed : goal.returns-then-mem-needed
@@ -43,8 +42,8 @@ returns-then-get64-ne0-2 c =
 
 pub header_within-requires : goal.header_within-requires
 header_within-requires c =
-    let a = in_range c.get64-nodes.result (sym c.is_capacity.ensures ∙ not-false _ c.if-not-is_capacity.false) in
-    let b = in_range c.get64-entries.result (sym c.is_capacity-2.ensures ∙ not-false _ c.if-not-is_capacity-2.false) in
+    let a = in_range c.get64-nodes.result (sym c.is_capacity.ensures ∙ c.if-not-is_capacity.false) in
+    let b = in_range c.get64-entries.result (sym c.is_capacity-2.ensures ∙ c.if-not-is_capacity-2.false) in
     record {
       nodes_there = c.get64-nodes.ensures;
       entries_there = c.get64-entries.ensures;

@@ -1,7 +1,6 @@
 -- `memory_header::open` meets its contract: at each answer the tests that led there say whether the memory holds the capacity. Assumes nothing.
 use native.Mathlib.Omega.{arith}
 use mathlib.Core.Path.{sym, ◌∙◌}
-use borrow.Author.Tests.{not-true, not-false}
 use Rattle.definitions.specs.Calls.{Capacity}
 use Rattle.memory_header.specs.Layout.{Room}
 use Rattle.memory_header.proofs.Opening.{open_refused, open_taken}
@@ -11,17 +10,17 @@ use Rattle.memory_header.proofs.open.Goals as goal
 pub returns-then-not-is_capacity : goal.returns-then-not-is_capacity
 returns-then-not-is_capacity c =
     open_refused c.args.mem.now (record { nodes = c.args.nodes; entries = c.args.entries })
-    (λ f. not_in_range c.args.nodes (sym c.is_capacity.ensures ∙ not-true _ c.if-not-is_capacity.true) f.some-nodes f.few-nodes)
+    (λ f. not_in_range c.args.nodes (sym c.is_capacity.ensures ∙ c.if-not-is_capacity.true) f.some-nodes f.few-nodes)
 
 pub returns-then-not-is_capacity-2 : goal.returns-then-not-is_capacity-2
 returns-then-not-is_capacity-2 c =
     open_refused c.args.mem.now (record { nodes = c.args.nodes; entries = c.args.entries })
-    (λ f. not_in_range c.args.entries (sym c.is_capacity-2.ensures ∙ not-true _ c.if-not-is_capacity-2.true) f.some-entries f.few-entries)
+    (λ f. not_in_range c.args.entries (sym c.is_capacity-2.ensures ∙ c.if-not-is_capacity-2.true) f.some-entries f.few-entries)
 
 pub needed-requires : goal.needed-requires
 needed-requires c =
-    let a = in_range c.args.nodes (sym c.is_capacity.ensures ∙ not-false _ c.if-not-is_capacity.false) in
-    let b = in_range c.args.entries (sym c.is_capacity-2.ensures ∙ not-false _ c.if-not-is_capacity-2.false) in
+    let a = in_range c.args.nodes (sym c.is_capacity.ensures ∙ c.if-not-is_capacity.false) in
+    let b = in_range c.args.entries (sym c.is_capacity-2.ensures ∙ c.if-not-is_capacity-2.false) in
     (a.1, b.1)
 
 pub returns-then-mem-needed : goal.returns-then-mem-needed
@@ -31,10 +30,10 @@ returns-then-mem-needed c =
 
 pub returns : goal.returns
 returns c =
-    let a = in_range c.args.nodes (sym c.is_capacity.ensures ∙ not-false _ c.if-not-is_capacity.false) in
-    let b = in_range c.args.entries (sym c.is_capacity-2.ensures ∙ not-false _ c.if-not-is_capacity-2.false) in
+    let a = in_range c.args.nodes (sym c.is_capacity.ensures ∙ c.if-not-is_capacity.false) in
+    let b = in_range c.args.entries (sym c.is_capacity-2.ensures ∙ c.if-not-is_capacity-2.false) in
     let m = c.args.mem.now in
     let cap : Capacity = record { nodes = c.args.nodes; entries = c.args.entries } in
     let o : Room m cap = record { some_nodes = a.0; few_nodes = a.1; some_entries = b.0; few_entries = b.1; held = omega (arith, c.needed.ensures, c.if-mem-needed.false) } in
     let f = open_taken m cap o in
-    (f.0, c.put_header.ensures ∙ f.1)
+    record { answer = f.0; memory = c.put_header.ensures ∙ f.1 }

@@ -3,7 +3,6 @@ use native.Mathlib.Omega.{arith}
 use Prim.Native.Nat.{ℕ}
 use mathlib.Core.Path.{sym, ap, ◌∙◌}
 use lib.ListN.{length, length-take}
-use borrow.Author.Tests.{not-true, not-false}
 use Rattle.row_buffer.specs.Answer.{refused, finding_of}
 use Rattle.finding.proofs.FindCall.{none_finds}
 use Rattle.check_character.proofs.Detecting.{right_view}
@@ -13,18 +12,18 @@ use Rattle.number_finding.proofs.find_number.Goals as goal
 pub returns-then-not-is_number : goal.returns-then-not-is_number
 returns-then-not-is_number c =
     let a = c.args in
-    let wrong = sym c.is_number.ensures ∙ not-true _ c.if-not-is_number.true in
+    let wrong = sym c.is_number.ensures ∙ c.if-not-is_number.true in
     none_finds a.scratch.now _ (wrong_is_refused a.mem.now a.typed.now (length a.scratch.now) a.room wrong)
     (c.no_rows.ensures ∙ ap (λ (n : ℕ). finding_of (refused n)) c.wrong_number.ensures)
 
 pub slice_bounds-find-end : goal.slice_bounds-find-end
 slice_bounds-find-end c =
     let a = c.args in
-    let t = right_view a.typed.now (sym c.is_number.ensures ∙ not-false _ c.if-not-is_number.false) in
+    let t = right_view a.typed.now (sym c.is_number.ensures ∙ c.if-not-is_number.false) in
     simp length-take (omega (arith, t.length-14))
 
 pub returns : goal.returns
 returns c =
     let a = c.args in
-    let is_right = sym c.is_number.ensures ∙ not-false _ c.if-not-is_number.false in
+    let is_right = sym c.is_number.ensures ∙ c.if-not-is_number.false in
     right_finds a.mem.now a.typed.now a.scratch.now a.room is_right c.find.ensures

@@ -4,7 +4,7 @@ use Prim.Native.Nat.{◌+◌, ◌-◌, ◌*◌}
 use mathlib.Core.Path.{refl, sym, ◌∙◌}
 use mathlib.Core.Bool.{true}
 use lib.ListN.{get_or}
-use borrow.Author.Tests.{not-true, not-false, ltb-false}
+use borrow.Author.Tests.{ltb-false}
 use Rattle.numerals.proofs.Steps.{digit_tells, digits_out, digits_end, digits_over, digits_on}
 use Rattle.definitions.specs.Calls.{last_number}
 use Rattle.numerals.proofs.read_digits.Goals as goal
@@ -15,24 +15,24 @@ loop-at-init c = (omega arith, refl)
 pub returns-then-not-digit : goal.returns-then-not-digit
 returns-then-not-digit c =
     let a = c.args in
-    let d = sym c.digit.ensures ∙ not-true _ c.if-not-digit.true in
+    let d = sym c.digit.ensures ∙ c.if-not-digit.true in
     c.ended.ensures ∙ digits_end a.line.now c.loop-at.at c.loop-at.x c.loop-at-test.true d ∙ c.loop-at.invariant.1
 
 pub overflow_sub-b : goal.overflow_sub-b
 overflow_sub-b c =
     let a = c.args in
-    (digit_tells (get_or a.line.now c.loop-at.at 0) true (sym c.digit.ensures ∙ not-false _ c.if-not-digit.false)).0
+    (digit_tells (get_or a.line.now c.loop-at.at 0) true (sym c.digit.ensures ∙ c.if-not-digit.false)).0
 
 pub too_large-requires : goal.too_large-requires
 too_large-requires c =
     let a = c.args in
-    let k = digit_tells (get_or a.line.now c.loop-at.at 0) true (sym c.digit.ensures ∙ not-false _ c.if-not-digit.false) in
+    let k = digit_tells (get_or a.line.now c.loop-at.at 0) true (sym c.digit.ensures ∙ c.if-not-digit.false) in
     omega (arith, c.wide-d.ensures.0)
 
 pub returns-then-too_large : goal.returns-then-too_large
 returns-then-too_large c =
     let a = c.args in
-    let d = sym c.digit.ensures ∙ not-false _ c.if-not-digit.false in
+    let d = sym c.digit.ensures ∙ c.if-not-digit.false in
     let w = c.wide-d in
     digits_over a.line.now c.loop-at.at c.loop-at.x (omega arith) d w.result w.ensures.0 (sym c.too_large.ensures ∙ c.if-too_large.true)
     ∙ c.loop-at.invariant.1
@@ -52,7 +52,7 @@ overflow_add-x c =
 pub loop-at-preserved : goal.loop-at-preserved
 loop-at-preserved c =
     let a = c.args in
-    let d = sym c.digit.ensures ∙ not-false _ c.if-not-digit.false in
+    let d = sym c.digit.ensures ∙ c.if-not-digit.false in
     let w = c.wide-d in
     let o = sym c.too_large.ensures ∙ c.if-too_large.false in
     (ltb-false _ _ o, sym (digits_on a.line.now c.loop-at.at c.loop-at.x (omega arith) d w.result w.ensures.0 o) ∙ c.loop-at.invariant.1)

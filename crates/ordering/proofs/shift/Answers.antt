@@ -14,13 +14,13 @@ loop-k-init c =
 pub loop-k-preserved : goal.loop-k-preserved
 loop-k-preserved c =
     let a = c.args in
-    let inv = c.loop.invariant in
-    let k = c.loop.k in
+    let inv = c.loop-k.invariant in
+    let k = c.loop-k.k in
     let bytes : (j : ℕ) → get_or a.mem.now j 0 < 256 = λ j. omega (arith, c.slice_known-1.given j) in (
       omega (arith, c.loop-k-test.true),
       omega (arith, inv.1),
-      c.put_entry.auto.0 ∙ inv.2,
-      moved_turn a.mem.now bytes a.base (k - 1) k a.upto a.by (omega (arith, c.loop-k-test.true)) (omega (arith, c.loop-k-test.true, inv.1)) c.requires.1 c.loop.mem c.put_entry.new.mem c.get64-number.result c.get64-end.result inv.3 c.get64-number.ensures c.get64-end.ensures c.put_entry.ensures,
+      c.put_entry.auto.mem ∙ inv.2,
+      moved_turn a.mem.now bytes a.base (k - 1) k a.upto a.by (omega (arith, c.loop-k-test.true)) (omega (arith, c.loop-k-test.true, inv.1)) c.requires.1 c.loop-k.mem c.put_entry.new.mem c.get64-number.result c.get64-end.result inv.3 c.get64-number.ensures c.get64-end.ensures c.put_entry.ensures,
     )
 
 pub returns : goal.returns

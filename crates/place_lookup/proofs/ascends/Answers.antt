@@ -2,7 +2,6 @@
 use Prim.Native.Nat.{◌-◌}
 use native.Mathlib.Omega.{arith}
 use mathlib.Core.Path.{sym, ◌∙◌}
-use borrow.Author.Tests.{not-true, not-false}
 use Rattle.place_lookup.proofs.Order.{ascends_none, ascends_one, ascends_on, ascends_no, ascends_all}
 use Rattle.place_lookup.proofs.ascends.Goals as goal
 
@@ -16,10 +15,10 @@ pub before-requires : goal.before-requires
 before-requires c = tt
 
 pub returns-then-not-before : goal.returns-then-not-before
-returns-then-not-before c = ascends_no _ _ _ c.loop-i.invariant.0 c.location_at-l.ensures c.location_at-m.ensures _ c.loop-i-test.true (sym c.before-in-loop-i.ensures ∙ not-true _ c.if-not-before.true)
+returns-then-not-before c = ascends_no _ _ _ c.loop-i.invariant.0 c.location_at-l.ensures c.location_at-m.ensures _ c.loop-i-test.true (sym c.before-in-loop-i.ensures ∙ c.if-not-before.true)
 
 pub loop-i-preserved : goal.loop-i-preserved
-loop-i-preserved c = (omega arith, omega arith, ascends_on _ _ _ c.loop-i.invariant.0 c.location_at-l.ensures c.location_at-m.ensures c.loop-i.invariant.2 (sym c.before-in-loop-i.ensures ∙ not-false _ c.if-not-before.false))
+loop-i-preserved c = (omega arith, omega arith, ascends_on _ _ _ c.loop-i.invariant.0 c.location_at-l.ensures c.location_at-m.ensures c.loop-i.invariant.2 (sym c.before-in-loop-i.ensures ∙ c.if-not-before.false))
 
 pub returns : goal.returns
 returns c = ascends_all _ _ _ _ c.loop-i.invariant.1 c.loop-i-test.false c.loop-i.invariant.2

@@ -19,7 +19,7 @@ pub slice_bounds-write_part-end-in-loop-p : goal.slice_bounds-write_part-end-in-
 slice_bounds-write_part-end-in-loop-p c = simp length-take (omega (arith, c.answer_lines-s.ensures.holds.within))
 
 pub returns-then-not-write_part : goal.returns-then-not-write_part
-returns-then-not-write_part c = (λ e. absurd (let z : ◌≡◌ {A = ℕ} 0 1 = cc in omega arith), omega arith)
+returns-then-not-write_part c = record { takes_part = λ e. absurd (let z : ◌≡◌ {A = ℕ} 0 1 = cc in omega arith); kept_bound = omega arith }
 
 pub loop-p-smaller : goal.loop-p-smaller
 loop-p-smaller c = omega (arith, c.answer_lines-s.ensures.goes_on (omega arith))
@@ -35,4 +35,4 @@ pub returns : goal.returns
 returns c =
     let a = c.args in
     let l = c.loop-p in
-    ((λ _. reached_end a.mem.now a.line.now a.n a.input.now l.p l.mem l.line l.auto (omega arith) l.invariant.0), omega arith)
+    record { takes_part = (λ _. reached_end a.mem.now a.line.now a.n a.input.now l.p l.mem l.line l.auto (omega arith) l.invariant.0); kept_bound = omega arith }

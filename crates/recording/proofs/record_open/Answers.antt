@@ -13,23 +13,23 @@ pub filled-count-requires : goal.filled-count-requires
 filled-count-requires c = log_asked _ _ c.requires.0 c.requires.1
 
 pub enter-requires : goal.enter-requires
-enter-requires c = (pending _ _ c.requires.0 c.requires.1 (λ j. omega (arith, c.slice-known.given j)), c.filled-count.ensures)
+enter-requires c = (pending _ _ c.requires.0 c.requires.1 (λ j. omega (arith, c.slice_known-1.given j)), c.filled-count.ensures)
 
 pub put_header-requires : goal.put_header-requires
 put_header-requires c =
-    let p = pending _ _ c.requires.0 c.requires.1 (λ j. omega (arith, c.slice-known.given j)) in
-    omega (arith, header_room _ _ p, c.enter.auto.0)
+    let p = pending _ _ c.requires.0 c.requires.1 (λ j. omega (arith, c.slice_known-1.given j)) in
+    omega (arith, header_room _ _ p, c.enter.auto.mem)
 
 pub returns-in-Counted : goal.returns-in-Counted
 returns-in-Counted c =
     let g = c.counted-1.given in
     let b : Block = record { bytes = c.args.«data».now; at = plain c.args.l } in
-    taken_by _ _ c.requires.0 c.requires.1 (λ j. omega (arith, c.slice-known.given j)) _ b (header_of g.0.0) c.enter.new.mem c.put_header.new.mem
+    taken_by _ _ c.requires.0 c.requires.1 (λ j. omega (arith, c.slice_known-1.given j)) _ b (header_of g.0.0) c.enter.new.mem c.put_header.new.mem
     (sym (ap verdict_of g.1) ∙ c.enter.ensures.verdict, c.enter.ensures.memory.0) c.put_header.ensures
 
 pub returns-in-Refused : goal.returns-in-Refused
 returns-in-Refused c =
     let g = c.n-1.given in
     let b : Block = record { bytes = c.args.«data».now; at = plain c.args.l } in
-    refused_by _ _ c.requires.0 c.requires.1 (λ j. omega (arith, c.slice-known.given j)) _ b g.0.0 c.enter.new.mem
+    refused_by _ _ c.requires.0 c.requires.1 (λ j. omega (arith, c.slice_known-1.given j)) _ b g.0.0 c.enter.new.mem
     (sym (ap verdict_of g.1) ∙ c.enter.ensures.verdict, c.enter.ensures.memory.0)

@@ -7,7 +7,7 @@ pub put_text-requires : goal.put_text-requires
 put_text-requires c =
     let t = c.put_text-a in
     let d = c.put_decimal-b in
-    omega (arith, c.requires, t.ensures.next, t.auto.0, written_room c.args.n d.ensures, d.auto.0)
+    omega (arith, c.requires, t.ensures.next, t.auto.out, written_room c.args.n d.ensures, d.auto.out)
 
 pub returns : goal.returns
 returns c = written_both (written_both c.put_text-a.ensures c.put_decimal-b.ensures) c.put_text.ensures

@@ -8,14 +8,14 @@ pub put_text-c-requires : goal.put_text-c-requires
 put_text-c-requires c =
     let t = c.put_text-a in
     let d = c.put_decimal-b in
-    omega (arith, c.requires, t.ensures.next, t.auto.0, written_room c.args.address d.ensures, d.auto.0)
+    omega (arith, c.requires, t.ensures.next, t.auto.out, written_room c.args.address d.ensures, d.auto.out)
 
 pub put_decimal-d-requires : goal.put_decimal-d-requires
 put_decimal-d-requires c =
     let t = c.put_text-a in
     let d = c.put_decimal-b in
     let u = c.put_text-c in
-    omega (arith, c.requires, t.ensures.next, t.auto.0, written_room c.args.address d.ensures, d.auto.0, u.ensures.next, u.auto.0)
+    omega (arith, c.requires, t.ensures.next, t.auto.out, written_room c.args.address d.ensures, d.auto.out, u.ensures.next, u.auto.out)
 
 pub put_count-requires : goal.put_count-requires
 put_count-requires c =
@@ -27,13 +27,13 @@ put_count-requires c =
       arith,
       c.requires,
       t.ensures.next,
-      t.auto.0,
+      t.auto.out,
       written_room c.args.address d.ensures,
-      d.auto.0,
+      d.auto.out,
       u.ensures.next,
-      u.auto.0,
+      u.auto.out,
       written_room c.args.created e.ensures,
-      e.auto.0,
+      e.auto.out,
     )
 
 pub returns : goal.returns

@@ -73,4 +73,4 @@ pub loop-left-preserved : goal.loop-left-preserved
 loop-left-preserved c = writing_turn c.loop-left.invariant _ c.loop-left-test.true c.row_end-k.ensures _ c.put_row.ensures
 
 pub returns : goal.returns
-returns c = (counted c.loop-left.invariant c.loop-left-test.false, written c.loop-left.invariant c.loop-left-test.false)
+returns c = record { count = counted c.loop-left.invariant c.loop-left-test.false; bytes = written c.loop-left.invariant c.loop-left-test.false }

@@ -24,4 +24,4 @@ returns c =
     let a = c.args in
     let l = c.loop-i in
     let w = c.put_end.ensures in
-    (written_same (places_end a.scratch.now l.i a.n (omega arith)) (written_both l.invariant.0 w), omega (arith, w.next, length_end a.n))
+    record { written = written_same (places_end a.scratch.now l.i a.n (omega arith)) (written_both l.invariant.0 w); upper_bound = omega (arith, w.next, length_end a.n) }

@@ -17,7 +17,7 @@ returns-in-Refused c =
     let x = sym (ap layout_of (sym c.n-1.given.1) ∙ c.check.ensures) in
     let k = image_refusal a.s.now n x in
     let e = fault_over (header_of a.h).capacity a.mem.now a.s.now n k ∙ load_as a.mem.now a.s.now _ _ c.requires x in
-    (refused_as n (fault_some k) ∙ ap (λ (d : Done). outcome_as d.refusal) e, ap (λ (d : Done). d.memory) e)
+    record { answer = refused_as n (fault_some k) ∙ ap (λ (d : Done). outcome_as d.refusal) e; memory = ap (λ (d : Done). d.memory) e }
 
 pub returns-in-Right : goal.returns-in-Right
 returns-in-Right c = c.load_right.ensures

@@ -1,7 +1,6 @@
 -- `single_runs::goes_on` meets its contract. Assumes nothing.
 use native.Mathlib.Omega.{arith}
 use mathlib.Core.Path.{sym, ◌∙◌}
-use borrow.Author.Tests.{not-false}
 use Rattle.trie.proofs.Union.{same_true}
 use Rattle.single_runs.proofs.RunLaws.{not_so}
 use Rattle.single_runs.proofs.SingleLaws.{single_table}
@@ -14,7 +13,7 @@ pub returns-then-not-has_single_with_suffix : goal.returns-then-not-has_single_w
 returns-then-not-has_single_with_suffix c = not_so
 
 pub is_at-requires : goal.is_at-requires
-is_at-requires c = let x = c.has_single_with_suffix.ensures (not-false _ c.if-not-has_single_with_suffix.false) in omega (arith, x.room)
+is_at-requires c = let x = c.has_single_with_suffix.ensures (c.if-not-has_single_with_suffix.false) in omega (arith, x.room)
 
 pub returns : goal.returns
-returns c = λ e. (c.has_single_with_suffix.ensures (not-false _ c.if-not-has_single_with_suffix.false), sym c.location_at.ensures ∙ sym (same_true _ _ (sym c.is_at.ensures ∙ e)))
+returns c = λ e. (c.has_single_with_suffix.ensures (c.if-not-has_single_with_suffix.false), sym c.location_at.ensures ∙ sym (same_true _ _ (sym c.is_at.ensures ∙ e)))

@@ -28,7 +28,7 @@ loop-mem-preserved c =
     let long = goes_on c.loop-mem.mem c.args.work c.args.i c.loop-mem.k c.goes_on.ensures c.loop-mem-test.true in
     let deep : 16 - k ≡ suc (16 - (k + 1)) = omega (arith, inv.0.depth, single_short inv.0.held) in
     let w = c.put_single-end.ensures in
-    (next_asked inv.0 long deep w, (λ s r v. inv.1 s r (single_on inv.0 long deep w v)), c.put_single-end.auto.0 ∙ inv.2)
+    (next_asked inv.0 long deep w, (λ s r v. inv.1 s r (single_on inv.0 long deep w v)), c.put_single-end.auto.mem ∙ inv.2)
 
 pub put_leaf-requires : goal.put_leaf-requires
 put_leaf-requires c = (single_head c.loop-mem.invariant.0, omega (arith, single_long c.loop-mem.invariant.0, goes_not c.loop-mem.mem c.args.work c.args.i c.loop-mem.k c.goes_on.ensures c.loop-mem-test.false))

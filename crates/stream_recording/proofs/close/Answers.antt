@@ -4,7 +4,7 @@ use borrow.Author.Tests.{eq-eqb, ne_eqb}
 use Rattle.stream_recording.proofs.close.Goals as goal
 
 pub returns-then-p-eq0 : goal.returns-then-p-eq0
-returns-then-p-eq0 c = (search rules, rw (eq-eqb c.args.p.number 0 c.if-p-eq0.true))
+returns-then-p-eq0 c = record { memory = search rules; answer = rw (eq-eqb c.args.p.number 0 c.if-p-eq0.true) }
 
 pub returns : goal.returns
-returns c = (search rules, rw (ne_eqb c.args.p.number 0 c.if-p-eq0.false))
+returns c = record { memory = search rules; answer = rw (ne_eqb c.args.p.number 0 c.if-p-eq0.false) }

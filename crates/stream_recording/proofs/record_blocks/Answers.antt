@@ -17,7 +17,7 @@ filled-filled-requires c = log_asked _ _ c.requires.0 c.requires.1
 pub loop-p-init : goal.loop-p-init
 loop-p-init c =
     let m = c.args.mem.now in
-    let bytes : (k : ℕ) → get_or m k 0 < 256 = λ j. omega (arith, c.slice-known.given j) in
+    let bytes : (k : ℕ) → get_or m k 0 < 256 = λ j. omega (arith, c.slice_known-1.given j) in
     (going_start c.args.stream.now m (header_of c.args.h) (pending m _ c.requires.0 c.requires.1 bytes) (standing m _ c.requires.0 c.requires.1 bytes), c.filled-filled.ensures)
 
 pub record_next-p-requires : goal.record_next-p-requires
@@ -38,7 +38,7 @@ loop-p-preserved c =
     let g = c.loop-p.invariant in
     let a = c.args in
     let bytes : (k : ℕ) → get_or a.stream.now k 0 < 256 = λ j. omega (arith, c.shared_slice_known-1.given j) in
-    (going_on a.stream.now a.mem.now bytes _ _ g.0 c.loop-p-test.true c.record_next-p.new.mem (progress_of c.record_next-p.result) c.record_next-p.ensures.progress c.record_next-p.ensures.memory.0 c.record_next-p.auto.0, c.record_next-p.ensures.memory.1)
+    (going_on a.stream.now a.mem.now bytes _ _ g.0 c.loop-p-test.true c.record_next-p.new.mem (progress_of c.record_next-p.result) c.record_next-p.ensures.progress c.record_next-p.ensures.memory.0 c.record_next-p.auto.mem, c.record_next-p.ensures.memory.1)
 
 pub close-requires : goal.close-requires
 close-requires c = header_room _ _ c.loop-p.invariant.0.pending
@@ -48,4 +48,4 @@ returns c =
     let a = c.args in
     let g = c.loop-p.invariant.0 in
     let d = going_end a.stream.now a.mem.now _ _ g c.loop-p-test.false ∙ stream_as a.mem.now a.stream.now _ c.requires.1 in
-    (c.close.ensures.answer ∙ ap streamed_for d, c.close.ensures.memory ∙ ap (λ (x : StreamDone). x.memory) d)
+    record { answer = c.close.ensures.answer ∙ ap streamed_for d; memory = c.close.ensures.memory ∙ ap (λ (x : StreamDone). x.memory) d }

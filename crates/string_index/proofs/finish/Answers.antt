@@ -16,18 +16,18 @@ returns-in-Broken c =
     let m = c.args.mem.now in
     let w = subst (Inspects m) c.enum_told-1.given.1 c.inspect.ensures in
     let e = finish_as m _ w.holds in
-    (ap (λ (d : Done). outcome_as d.refusal) e, ap (λ (d : Done). d.memory) e)
+    record { answer = ap (λ (d : Done). outcome_as d.refusal) e; memory = ap (λ (d : Done). d.memory) e }
 
 pub returns-in-Open : goal.returns-in-Open
 returns-in-Open c =
     let m = c.args.mem.now in
     let w = subst (Inspects m) c.h-1.given.1 c.inspect.ensures in
     let e = finish_as m _ w.holds in
-    (ap (λ (d : Done). outcome_as d.refusal) e, c.finish_open.ensures ∙ ap (λ (d : Done). d.memory) e)
+    record { answer = ap (λ (d : Done). outcome_as d.refusal) e; memory = c.finish_open.ensures ∙ ap (λ (d : Done). d.memory) e }
 
 pub returns-in-Finished : goal.returns-in-Finished
 returns-in-Finished c =
     let m = c.args.mem.now in
     let w = subst (Inspects m) c.enum_told-in-Finished-1.given.1 c.inspect.ensures in
     let e = finish_as m _ w.holds in
-    (ap (λ (d : Done). outcome_as d.refusal) e, ap (λ (d : Done). d.memory) e)
+    record { answer = ap (λ (d : Done). outcome_as d.refusal) e; memory = ap (λ (d : Done). d.memory) e }

@@ -24,14 +24,14 @@ returns-in-Broken c =
     let a = c.args in
     let w = subst (Inspects a.mem.now) c.enum_told-1.given.1 c.inspect.ensures in
     let e = load_broken a.mem.now a.image.now w.holds in
-    (ap (λ (d : Done). outcome_as d.refusal) e, ap (λ (d : Done). d.memory) e)
+    record { answer = ap (λ (d : Done). outcome_as d.refusal) e; memory = ap (λ (d : Done). d.memory) e }
 
 pub returns-in-Open : goal.returns-in-Open
 returns-in-Open c =
     let r = c.load_into in
-    (r.ensures.answer, r.ensures.memory)
+    record { answer = r.ensures.answer; memory = r.ensures.memory }
 
 pub returns-in-Finished : goal.returns-in-Finished
 returns-in-Finished c =
     let r = c.load_into-in-Finished in
-    (r.ensures.answer, r.ensures.memory)
+    record { answer = r.ensures.answer; memory = r.ensures.memory }

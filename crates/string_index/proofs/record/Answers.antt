@@ -17,16 +17,16 @@ returns-in-Broken c =
     let a = c.args in
     let w = subst (Inspects a.mem.now) c.enum_told-1.given.1 c.inspect.ensures in
     let e = record_as a.mem.now a.kind (record { bytes = a.«data».now; at = plain a.l }) _ w.holds in
-    (ap (λ (d : Done). recorded_as d.refusal) e, ap (λ (d : Done). d.memory) e)
+    record { answer = ap (λ (d : Done). recorded_as d.refusal) e; memory = ap (λ (d : Done). d.memory) e }
 
 pub returns-in-Open : goal.returns-in-Open
 returns-in-Open c =
     let r = c.record_open in
-    (r.ensures.answer, r.ensures.memory)
+    record { answer = r.ensures.answer; memory = r.ensures.memory }
 
 pub returns-in-Finished : goal.returns-in-Finished
 returns-in-Finished c =
     let a = c.args in
     let w = subst (Inspects a.mem.now) c.enum_told-in-Finished-1.given.1 c.inspect.ensures in
     let e = record_as a.mem.now a.kind (record { bytes = a.«data».now; at = plain a.l }) _ w.holds in
-    (ap (λ (d : Done). recorded_as d.refusal) e, ap (λ (d : Done). d.memory) e)
+    record { answer = ap (λ (d : Done). recorded_as d.refusal) e; memory = ap (λ (d : Done). d.memory) e }

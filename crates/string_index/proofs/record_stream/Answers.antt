@@ -16,16 +16,16 @@ returns-in-Broken c =
     let a = c.args in
     let w = subst (Inspects a.mem.now) c.enum_told-1.given.1 c.inspect.ensures in
     let e = stream_as a.mem.now a.stream.now _ w.holds in
-    (ap streamed_for e, ap (λ (d : StreamDone). d.memory) e)
+    record { answer = ap streamed_for e; memory = ap (λ (d : StreamDone). d.memory) e }
 
 pub returns-in-Open : goal.returns-in-Open
 returns-in-Open c =
     let r = c.record_blocks in
-    (r.ensures.answer, r.ensures.memory)
+    record { answer = r.ensures.answer; memory = r.ensures.memory }
 
 pub returns-in-Finished : goal.returns-in-Finished
 returns-in-Finished c =
     let a = c.args in
     let w = subst (Inspects a.mem.now) c.enum_told-in-Finished-1.given.1 c.inspect.ensures in
     let e = stream_as a.mem.now a.stream.now _ w.holds in
-    (ap streamed_for e, ap (λ (d : StreamDone). d.memory) e)
+    record { answer = ap streamed_for e; memory = ap (λ (d : StreamDone). d.memory) e }

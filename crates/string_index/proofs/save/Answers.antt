@@ -17,16 +17,16 @@ returns-in-Broken c =
     let a = c.args in
     let w = subst (Inspects a.mem.now) c.enum_told-1.given.1 c.inspect.ensures in
     let e = save_as a.mem.now a.out.now _ w.holds in
-    (ap saved_for e, ap (λ (f : Saving). f.buffer) e)
+    record { answer = ap saved_for e; buffer = ap (λ (f : Saving). f.buffer) e }
 
 pub returns-in-Open : goal.returns-in-Open
 returns-in-Open c =
     let a = c.args in
     let w = subst (Inspects a.mem.now) c.enum_told-in-Open-1.given.1 c.inspect.ensures in
     let e = save_as a.mem.now a.out.now _ w.holds in
-    (ap saved_for e, ap (λ (f : Saving). f.buffer) e)
+    record { answer = ap saved_for e; buffer = ap (λ (f : Saving). f.buffer) e }
 
 pub returns-in-Finished : goal.returns-in-Finished
 returns-in-Finished c =
     let r = c.save_finished in
-    (r.ensures.answer, r.ensures.buffer)
+    record { answer = r.ensures.answer; buffer = r.ensures.buffer }

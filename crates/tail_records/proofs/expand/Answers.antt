@@ -17,4 +17,4 @@ pub loop-j-preserved : goal.loop-j-preserved
 loop-j-preserved c = expanding_turn _ _ _ c.requires.0 c.requires.1 c.requires.2 c.loop-j.invariant _ _ c.loop-j-test.true c.put_tails-t.ensures.count c.put_tails-t.ensures.bytes
 
 pub returns : goal.returns
-returns c = (expanding_count _ _ _ c.requires.0 c.requires.1 c.requires.2 c.loop-j.invariant c.loop-j-test.false, expanding_done _ _ _ c.requires.0 c.requires.1 c.requires.2 c.loop-j.invariant c.loop-j-test.false)
+returns c = record { count = expanding_count _ _ _ c.requires.0 c.requires.1 c.requires.2 c.loop-j.invariant c.loop-j-test.false; bytes = expanding_done _ _ _ c.requires.0 c.requires.1 c.requires.2 c.loop-j.invariant c.loop-j-test.false }

@@ -11,7 +11,7 @@ use Rattle.tail_records.proofs.put_tails.Goals as goal
 pub loop-i-init : goal.loop-i-init
 loop-i-init c =
     let p = c.requires in
-    putting_start (piece_read _ _ _ _ _ _ p.0 (omega arith) c.get64.ensures c.location_at-l.ensures refl c.copy.ensures) p.2
+    putting_start (piece_read _ _ _ _ _ _ p.0 (omega arith) c.get64-m.ensures c.location_at-l.ensures refl c.copy.ensures) p.2
 
 pub overflow_mul-t : goal.overflow_mul-t
 overflow_mul-t c = {- place record c used whole -} omega (arith, (add-put-tail c).ranges)
@@ -47,4 +47,4 @@ overflow_add-result c = {- place record c.before.before.before.before.before use
 pub returns : goal.returns
 returns c =
     let w = c.loop-i.invariant in
-    (putting_count w c.loop-i-test.false, putting_done w _ c.loop-i-test.false c.put_tail-2.ensures)
+    record { count = putting_count w c.loop-i-test.false; bytes = putting_done w _ c.loop-i-test.false c.put_tail-2.ensures }

@@ -9,7 +9,7 @@ use Rattle.test_image_vectors.proofs.judge_damaged.Goals as goal
 pub returns-then-len-index : goal.returns-then-len-index
 returns-then-len-index c =
     let g = c.args in
-    (damaged_none g.bytes.now g.start g.len g.index g.byte _ c.if-len-index.true c.judge.ensures, refl)
+    record { value = damaged_none g.bytes.now g.start g.len g.index g.byte _ c.if-len-index.true c.judge.ensures; bytes_unchanged = refl }
 
 pub bounds-bytes-i-3 : goal.bounds-bytes-i-3
 bounds-bytes-i-3 c = simp length-set (omega arith)
@@ -17,4 +17,4 @@ bounds-bytes-i-3 c = simp length-set (omega arith)
 pub returns : goal.returns
 returns c =
     let g = c.args in
-    (damaged_one g.bytes.now g.start g.len g.index g.byte _ c.if-len-index.false c.judge-said.ensures, put_back g.bytes.now (g.start + g.index) g.byte)
+    record { value = damaged_one g.bytes.now g.start g.len g.index g.byte _ c.if-len-index.false c.judge-said.ensures; bytes_unchanged = put_back g.bytes.now (g.start + g.index) g.byte }

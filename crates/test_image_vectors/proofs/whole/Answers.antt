@@ -7,4 +7,4 @@ pub returns : goal.returns
 returns c =
     let g = c.args in
     let n = c.at_most-len in
-    (whole_leads g.bytes.now g.c g.parts c.get64-n.result n.result c.judge_image-said.result c.get64-n.ensures n.ensures c.judge_image-said.ensures, (omega arith, omega arith, omega arith))
+    record { value = whole_leads g.bytes.now g.c g.parts c.get64-n.result n.result c.judge_image-said.result c.get64-n.ensures n.ensures c.judge_image-said.ensures; at_lt_at = (omega arith, omega arith, omega arith) }

@@ -33,4 +33,4 @@ returns c =
     let w = c.put_text.ensures in
     let v = c.put_text-at.ensures in
     let d = written_same (hex_all s l.i (omega arith)) l.invariant.0 in
-    (written_both (written_both v (moved d (omega (arith, v.next)))) w, omega (arith, w.next))
+    record { written = written_both (written_both v (moved d (omega (arith, v.next)))) w; upper_bound = omega (arith, w.next) }

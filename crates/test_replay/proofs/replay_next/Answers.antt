@@ -35,13 +35,13 @@ returns-then-write_all c =
     let k = c.line_end-e in
     let g = c.args in
     let w = ended g.input.now g.p k.result (omega arith) k.ensures in
-    (next_taken g.input.now g.p k.result k.ensures c.replay_line-at.ensures, omega (arith, w.from, w.within))
+    record { replays_next = next_taken g.input.now g.p k.result k.ensures c.replay_line-at.ensures; lower_bound = omega (arith, w.from, w.within) }
 
 pub returns : goal.returns
 returns c =
     let k = c.line_end-e in
     let g = c.args in
-    (next_end g.input.now g.p k.result k.ensures c.replay_line-at.ensures, omega arith)
+    record { replays_next = next_end g.input.now g.p k.result k.ensures c.replay_line-at.ensures; lower_bound = omega arith }
 
 -- part-replay-line-start : goal.slice-bounds-replay-line-start
 -- part-replay-line-start c =

@@ -15,4 +15,4 @@ pub loop-next-preserved : goal.loop-next-preserved
 loop-next-preserved c =
     let a = c.args in
     let w = subst (Onward a.stream.now c.loop-next.at) c.next-1.given.1 c.record_next.ensures in
-    omega (arith, w, c.record_next.auto.0)
+    omega (arith, w, c.record_next.auto.mem)
