@@ -27,6 +27,7 @@ free_numbers ps = ((λ e. to ps ((free_is ps).0 e)), λ g. (free_is ps).1 (fro p
     to (p ∷ ps) g (suc i) (suc j) h k = to ps g.1 i j (le_of_suc-le-suc h) (le_of_suc-le-suc k)
 
     with_each : (p : Piece) (ps : List Piece) → ((j : ℕ) → j < length ps → conflicting p (nth ps j) ≡ false) → (r : Piece) → Mem r ps → conflicting p r ≡ false
+    with_each p [] g r x'' = elim x'' [ ]
     with_each p (x ∷ ps) g r (here e) = subst (λ (y : Piece). conflicting p y ≡ false) (sym e) (g 0 (omega arith))
     with_each p (x ∷ ps) g r (later m) = with_each p ps (λ j h. g (suc j) (omega arith)) r m
 

@@ -23,6 +23,7 @@ pub record At {A : Type 0} (xs : List A) (d x : A) : Type 0 where
   pub is : get_or xs index d ≡ x
 
 pub member_at : {A : Type 0} (xs : List A) (d x : A) → Mem x xs → At xs d x
+member_at {A = A} [] d x x3 = elim x3 [ ]
 member_at (y ∷ xs) d x (here e) = record { index = 0; inside = omega arith; is = sym e }
 member_at {A} (y ∷ xs) d x (later m) = on (member_at xs d x m)
   where

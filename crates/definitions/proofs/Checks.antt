@@ -33,6 +33,7 @@ fields s at (later (here e)) = here e
 fields s at (later (later (here e))) = here e
 fields s at (later (later (later (here e)))) = here e
 fields s at (later (later (later (later (here e))))) = here e
+fields {c = c} s at (later (later (later (later (later (later x24)))))) = elim x24 [ ]
 fields s at (later (later (later (later (later (here e)))))) = here e
 
 pub checks_in_order : ChecksInOrder

@@ -85,6 +85,7 @@ free_consistent ps = ((λ e. to ps ((free_is ps).0 e)), λ c. (free_is ps).1 (fr
     fro (p ∷ ps) c = ((λ r m. (apart_is p r).1 (c.0 r m)), fro ps c.1)
 
 mem_pieces : {p : Piece} (bs : List Block) (b : Block) → Mem b bs → Mem p (pieces b) → Mem p (pieces_of bs)
+mem_pieces {p = p} [] b x'' k = elim x'' [ ]
 mem_pieces {p} (r ∷ bs) b (here e) k = append_left (pieces_of bs) (subst (λ (y : Block). Mem p (pieces y)) e k)
 mem_pieces (r ∷ bs) b (later m) k = append_right (pieces r) (mem_pieces bs b m k)
 

@@ -149,6 +149,7 @@ pub record FromBlock (bs : List Block) (p : Piece) : Type 0 where
   pub piece : PieceOf block.at block.bytes p
 
 pub pieces_mem : {p : Piece} (bs : List Block) → Mem p (pieces_of bs) → FromBlock bs p
+pieces_mem {p = p} [] h = elim h [ ]
 pieces_mem {p} (b ∷ bs) h = go (pieces_mem bs) (append_cases (pieces b) h)
   where
     on : FromBlock bs p → FromBlock (b ∷ bs) p
@@ -164,6 +165,7 @@ pieces_added [] b = append-nil (pieces b)
 pieces_added (x ∷ bs) b = ap (λ (ps : List Piece). pieces x ++ ps) (pieces_added bs b) ∙ sym (append_assoc (pieces x) (pieces_of bs) (pieces b))
 
 mem_pieces : {p : Piece} (bs : List Block) (b : Block) → Mem b bs → Mem p (pieces b) → Mem p (pieces_of bs)
+mem_pieces {p = p} [] b x'' k = elim x'' [ ]
 mem_pieces {p} (r ∷ bs) b (here e) k = append_left (pieces_of bs) (subst (λ (y : Block). Mem p (pieces y)) e k)
 mem_pieces (r ∷ bs) b (later m) k = append_right (pieces r) (mem_pieces bs b m k)
 

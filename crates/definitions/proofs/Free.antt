@@ -37,6 +37,7 @@ with_one p (r ∷ rs) e = go (with_one p rs) (either (conflicting p r) (conflict
     go ih (inr h) = on (ih h)
 
 pub one_with : (p x : Piece) (rs : List Piece) → Mem x rs → conflicting p x ≡ true → conflicts_with p rs ≡ true
+one_with p x [] x3 h = elim x3 [ ]
 one_with p x (r ∷ rs) (here e) h = or_left (conflicts_with p rs) (subst (λ (y : Piece). conflicting p y ≡ true) e h)
 one_with p x (r ∷ rs) (later m) h = or_right (conflicting p r) (one_with p x rs m h)
 

@@ -39,6 +39,7 @@ abbrev pub Unique : List Piece → Type 0
 Unique ps = (p p' : Piece) → Mem p ps → Mem p' ps → (a t : ℕ) → Covers p a t → Covers p' a t → p ≡ p'
 
 pub consistent_unique : (ps : List Piece) → Consistent ps → Unique ps
+consistent_unique [] c p p' x5 _ a t h k = elim x5 [ ]
 consistent_unique (r ∷ ps) c p p' (here e) (here f) a t h k = e ∙ sym f
 consistent_unique (r ∷ ps) c p p' (here e) (later f) a t h k = absurd (c.0 p' f a t (subst (λ (x : Piece). Covers x a t) e h) k)
 consistent_unique (r ∷ ps) c p p' (later e) (here f) a t h k = absurd (c.0 p e a t (subst (λ (x : Piece). Covers x a t) f k) h)

@@ -29,6 +29,7 @@ pub record Joined (l : Location) (e : ℕ) (ms : List Location) (x : Location) :
   pub is : x ≡ common l next
 
 pub joins_mem : {x : Location} (l : Location) (e : ℕ) (ms : List Location) → Mem x (joins l e ms) → Joined l e ms x
+joins_mem {x = x} l e [] h = elim h [ ]
 joins_mem {x} l e (m ∷ ms) h = go (eqb m.address e && meets l m) (join l e m) (joins_mem l e ms) h
   where
     on : Joined l e ms x → Joined l e (m ∷ ms) x
@@ -43,6 +44,7 @@ joins_mem {x} l e (m ∷ ms) h = go (eqb m.address e && meets l m) (join l e m) 
     go false j ih h = on (ih h)
 
 pub mem_joins : (l : Location) (e : ℕ) (ms : List Location) (n : Location) → Mem n ms → Join true l e n → Mem (common l n) (joins l e ms)
+mem_joins l e [] n h j = elim h [ ]
 mem_joins l e (m ∷ ms) n h j = go (eqb m.address e && meets l m) (join l e m) (mem_joins l e ms n) (split h)
   where
     go : (o : Bool) → Join o l e m → (Mem n ms → Join true l e n → Mem (common l n) (joins l e ms)) → (n ≡ m) ⊎ Mem n ms → Mem (common l n) (cond o (common l m ∷ joins l e ms) (joins l e ms))
@@ -68,6 +70,7 @@ pub record ByPiece (ps : List Piece) (q : List ℕ) (ts : List (List Location)) 
   pub by : Mem x (by_piece piece q ts)
 
 pub by_pieces_mem : {x : Location} (ps : List Piece) (q : List ℕ) (ts : List (List Location)) → Mem x (by_pieces ps q ts) → ByPiece ps q ts x
+by_pieces_mem {x = x} [] q ts h = elim h [ ]
 by_pieces_mem {x} (p ∷ ps) q ts h = go (by_pieces_mem ps q ts) (append_cases (by_piece p q ts) h)
   where
     on : ByPiece ps q ts x → ByPiece (p ∷ ps) q ts x
@@ -78,6 +81,7 @@ by_pieces_mem {x} (p ∷ ps) q ts h = go (by_pieces_mem ps q ts) (append_cases (
     go ih (inr k) = on (ih k)
 
 pub mem_by_pieces : {x : Location} (ps : List Piece) (q : List ℕ) (ts : List (List Location)) (p : Piece) → Mem p ps → Mem x (by_piece p q ts) → Mem x (by_pieces ps q ts)
+mem_by_pieces {x = x} [] q ts p x3 k = elim x3 [ ]
 mem_by_pieces {x} (r ∷ ps) q ts p (here e) k = append_left (by_pieces ps q ts) (subst (λ (y : Piece). Mem x (by_piece y q ts)) e k)
 mem_by_pieces (r ∷ ps) q ts p (later h) k = append_right (by_piece r q ts) (mem_by_pieces ps q ts p h k)
 

@@ -124,10 +124,12 @@ insert_old {x} l (m ∷ ms) h = go (order l m) (insert_old l ms) h
     go Ordering.gt ih h = third ih (split h)
 
 pub mem_normal : {x : Location} (ls : List Location) → Mem x ls → Mem x (normal ls)
+mem_normal [] x'' = elim x'' [ ]
 mem_normal (l ∷ ls) (here e) = cast e (insert_new l (normal ls))
 mem_normal (l ∷ ls) (later h) = insert_old l (normal ls) (mem_normal ls h)
 
 pub normal_mem : {x : Location} (ls : List Location) → Mem x (normal ls) → Mem x ls
+normal_mem {x = x} [] h = elim h [ ]
 normal_mem {x} (l ∷ ls) h = go (normal_mem ls) (insert_mem l (normal ls) h)
   where
     go : (Mem x (normal ls) → Mem x ls) → (x ≡ l) ⊎ Mem x (normal ls) → Mem x (l ∷ ls)

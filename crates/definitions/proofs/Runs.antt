@@ -18,6 +18,7 @@ use Rattle.definitions.proofs.Views.{lt_or_le}
 use Rattle.definitions.proofs.Combine.{Here, At, Spread}
 
 pub spread_some : (R : Location → Location → Type 0) (ls : List Location) → Spread R ls → {x : Location} → Mem x ls → x.created < x.destroyed
+spread_some R [] s x4 = elim x4 [ ]
 spread_some R (l ∷ ls) s (here e) = subst (λ (y : Location). y.created < y.destroyed) (sym e) s.0
 spread_some R (l ∷ ls) s (later h) = spread_some R ls s.2 h
 
@@ -27,6 +28,7 @@ spread_sorted R (l ∷ ls) s = (s.1, spread_sorted R ls s.2)
 
 -- of two members one is before the other, or they are the same
 pub spread_cases : (R : Location → Location → Type 0) (ls : List Location) → Spread R ls → {x y : Location} → Mem x ls → Mem y ls → (x ≡ y) ⊎ (R x y ⊎ R y x)
+spread_cases R [] s {x = x} {y = y} x5 _ = elim x5 [ ]
 spread_cases R (l ∷ ls) s (here e) (here f) = inl (e ∙ sym f)
 spread_cases R (l ∷ ls) s {x} {y} (here e) (later k) = inr (inl (subst (λ (z : Location). R z y) (sym e) (s.1 y k)))
 spread_cases R (l ∷ ls) s {x} {y} (later h) (here f) = inr (inr (subst (λ (z : Location). R z x) (sym f) (s.1 x h)))

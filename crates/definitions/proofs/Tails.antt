@@ -43,6 +43,7 @@ record TailOf (l : Location) (cs : List ℕ) (x : Piece) : Type 0 where
   is : x ≡ tail_at l cs skip
 
 tails_of_mem : {x : Piece} (l : Location) (cs : List ℕ) → Mem x (tails_of l cs) → TailOf l cs x
+tails_of_mem {x = x} l [] x'' = elim x'' [ ]
 tails_of_mem l (c ∷ cs) (here e) = record { skip = 0; inside = omega arith; is = e ∙ sym (tail_zero l (c ∷ cs)) }
 tails_of_mem {x} l (c ∷ cs) (later h) = go (tails_of_mem (moved l 1) cs h)
   where
@@ -57,6 +58,7 @@ pub record Tail (ps : List Piece) (x : Piece) : Type 0 where
   pub is : x ≡ tail_at piece.at piece.bytes skip
 
 pub tails_mem : {x : Piece} (ps : List Piece) → Mem x (tails ps) → Tail ps x
+tails_mem {x = x} [] h = elim h [ ]
 tails_mem {x} (p ∷ ps) h = go (tails_mem ps) (append_cases (tails_of p.at p.bytes) h)
   where
     one : TailOf p.at p.bytes x → Tail (p ∷ ps) x
@@ -70,6 +72,7 @@ tails_mem {x} (p ∷ ps) h = go (tails_mem ps) (append_cases (tails_of p.at p.by
     go ih (inr k) = on (ih k)
 
 pub mem_tails : (ps : List Piece) (p : Piece) → Mem p ps → (k : ℕ) → k < length p.bytes → Mem (tail_at p.at p.bytes k) (tails ps)
+mem_tails [] p x'' k h = elim x'' [ ]
 mem_tails (r ∷ ps) p (here e) k h = append_left (tails ps) (subst (λ (y : Piece). Mem (tail_at p.at p.bytes k) (tails_of y.at y.bytes)) e (mem_tails_of p.at p.bytes k h))
 mem_tails (r ∷ ps) p (later m) k h = append_right (tails_of r.at r.bytes) (mem_tails ps p m k h)
 

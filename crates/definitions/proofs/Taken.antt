@@ -122,6 +122,7 @@ stay_finished c s (k ∷ ks) e = stay_finished c (after c s k) ks (stays_finishe
 
 -- a recording with a finish in it is finished
 pub finished_recording : (c : Capacity) (s : Recorded) (ks : List Call) → Finished ks → (after_all c s ks).finished ≡ true
+finished_recording c s [] x' = elim x' [ ]
 finished_recording c s (k ∷ ks) (here e) = stay_finished c (after c s k) ks (subst (λ (x : Call). (after c s x).finished ≡ true) e refl)
 finished_recording c s (k ∷ ks) (later h) = finished_recording c (after c s k) ks h
 

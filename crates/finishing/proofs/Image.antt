@@ -81,6 +81,7 @@ sorted_trie (p ∷ ps) (t ∷ ts) s e k = finished_node (p ∷ ps) (omega arith)
 -- ── an open index ──
 
 byte_of : (bs : List ℕ) → Bytes bs → (b : ℕ) → Mem b bs → b < 256
+byte_of [] f b x'' = elim x'' [ ]
 byte_of (c ∷ bs) f b (here e) = subst (λ (x : ℕ). x < 256) (sym e) (f 0)
 byte_of (c ∷ bs) f b (later m) = byte_of bs (λ k. f (suc k)) b m
 

@@ -24,6 +24,7 @@ use Rattle.finishing.specs.Steps.{tail_count, TailsAsked, TailsSorted}
 
 -- a record of a tail has seven numbers
 seven : {r : List ℕ} (ts : List Tail) → Mem r (tail_records ts) → length r ≡ 7
+seven {r = r} mathlib.Core.List.[] x' = elim x' [ ]
 seven (t ∷ ts) (here e) = ap length e
 seven (t ∷ ts) (later m) = seven ts m
 

@@ -8,7 +8,7 @@ use lib.Dec.{T as Holds}
 use lib.ListN.{length}
 use seplogic.Ra.Ura.{Ura}
 use seplogic.Ra.TreeShare.{full_share}
-use mir.Syntax.{Name, Ty, Local, Fn, Body, local, value_local, ty_struct, ty_ref, ty_int, ty_unit, tcons, tnil, named, erased, imm, mut, w8, w64, place, field, deref, copy, rv_opd, addr_of, aggregate, seq, assign, call, return}
+use mir.Syntax.{named, Ty, Local, Fn, Body, local, value_local, ty_struct, ty_ref, ty_int, ty_unit, tcons, tnil, named, erased, imm, mut, w8, w64, place, field, deref, copy, rv_opd, addr_of, aggregate, seq, assign, call, return}
 use mir.Val.{Val, WT, has_ty, vint}
 use base.Logic.{SProp, ent, sep, emp, via, id⊢, fst∗, ex_e, snd∗, emp∗, mono_l, mono_r, comm∗}
 use base.Fml.{Lft, Share, GName, Fml, ftrue, fat, flft}
@@ -83,7 +83,7 @@ slice t = ty_struct (38 ∷ 91 ∷ 93 ∷ []) (tcons t (tcons (ty_int w64) tnil)
 abbrev value : Ty → Local
 value t = local t value_local
 
-abbrev pub body : Name → Body
+abbrev pub body : named → Body
 body engine =
     seq (assign (place 6 []) (addr_of (place 3 (field 0 ∷ deref (ty_int w8) ∷ [])))) (
     seq (assign (place 7 []) (aggregate (copy (place 6 []) ∷ copy (place 3 (field 1 ∷ [])) ∷ []))) (
@@ -96,7 +96,7 @@ body engine =
     seq (call #rows·put-rows (copy (place 11 []) ∷ copy (place 13 []) ∷ copy (place 5 (field 1 ∷ [])) ∷ []) (place 9 [])) (
     seq (call #handing-over·answer-of (copy (place 5 []) ∷ []) (place 0 [])) return)))))))))
 
-abbrev pub function : Name → Fn
+abbrev pub function : named → Fn
 function engine = record {
   lifetimes = 4;
   outlives = [];
@@ -134,7 +134,7 @@ ended = record {
 -- the engine's name; what it ensures of memory, query, scratch before, the room, scratch afterwards and what it found, as its own
 -- contract has it and as a fact; what the call ensures, as its own contract has it, and that the one gives the other
 pub record Engine {M : Type 1} (𝓤 : Ura M) : Type 2 where
-  pub name : Name
+  pub name : named
   pub Says : List ℕ → List ℕ → List ℕ → ℕ → List ℕ → Finding → SProp 𝓤
   pub Found : List ℕ → List ℕ → List ℕ → ℕ → List ℕ → Finding → Type 0
   pub meant : (m q x : List ℕ) (room : ℕ) (s : List ℕ) (h : Finding) → ent 𝓤 (Says m q x room s h) (fact 𝓤 (Found m q x room s h))

@@ -3,7 +3,7 @@ use Prim.Native.Nat.{ℕ, ◌≤◌}
 use mathlib.Core.Path.{◌≡◌}
 use mathlib.Core.List.{List}
 use lib.ListN.{length}
-use mir.Syntax.{Name}
+use mir.Syntax.{named}
 use seplogic.Ra.Ura.{Ura}
 use base.Logic.{sep, emp, id⊢}
 use contract.Monad.{fact, fact_i}
@@ -20,7 +20,7 @@ use Rattle.handing_over.proofs.HandsOver.{Engine, beside, together}
 
 -- the engine's name, what it finds, what is handed over, and that this is what was found
 pub record Searches : Type 0 where
-  pub name : Name
+  pub name : named
   pub finds : List ℕ → List ℕ → ℕ → ℕ → RowsFound
   pub hands : List ℕ → List ℕ → ℕ → List Row → Found
   pub fit : (m q : List ℕ) (scratch room : ℕ) → length (finds m q scratch room).rows ≤ room

@@ -5,7 +5,7 @@ use Prim.Native.Nat.{ℕ, ◌<◌, ◌^◌}
 use mathlib.Core.List.{[], ◌∷◌}
 use lib.Dec.{T as Holds}
 use seplogic.Ra.Ura.{Ura}
-use mir.Syntax.{Name, Ty, Local, Fn, local, value_local, memory_slot, ty_ref, ty_int, ty_unit, erased, mut, w64, place, copy, rv_opd, addr_of, seq, assign, call, return}
+use mir.Syntax.{named, Ty, Local, Fn, local, value_local, memory_slot, ty_ref, ty_int, ty_unit, erased, mut, w64, place, copy, rv_opd, addr_of, seq, assign, call, return}
 use mir.Val.{Val, WT, has_ty, vint}
 use base.Logic.{SProp, ent, sep, emp, id⊢}
 use base.Fml.{Fml, ftrue}
@@ -69,7 +69,7 @@ module _ {M : Type 1} (𝓤 : Ura M) where
 abbrev value : Ty → Local
 value t = local t value_local
 
-abbrev pub function : Name → Fn
+abbrev pub function : named → Fn
 function name = record {
   lifetimes = 0;
   outlives = [];
@@ -124,7 +124,7 @@ module _ {M : Type 1} {𝓤 : Ura M} (𝓛 : Logic 𝓤) (c : Change 𝓤) where
         qed 𝓛 (‵ ftrue ∷ ‵ own ∷ []) ∵ suffices ! _ (ends_at 𝓛 ended stayed clauses ((tt, tt, tt, a, words (lends 𝓤 c).takes a), tt) (word h') h' (tt, (tt, (tt, (tt, tt)))) (tt, (tt, (tt, (tt, tt))))) $ says ! refl $
         frame ! $ owned ! Row (Is Row) (header.makes 𝓛) h' _ is' $ move ! (1 ∷ 0 ∷ []) $ done !
 
-    module _ (C : Calls 𝓤 H) (Λ : Loops 𝓤 H) (fm : FmC 𝓤 H 𝓛.laws C) (name : Name) (known_in : Triple 𝓤 (C #tally_in) (by_value 𝓛 (takes_out 𝓤))) (known : Triple 𝓤 (C name) (lent 𝓤 c 𝓛))
+    module _ (C : Calls 𝓤 H) (Λ : Loops 𝓤 H) (fm : FmC 𝓤 H 𝓛.laws C) (name : named) (known_in : Triple 𝓤 (C #tally_in) (by_value 𝓛 (takes_out 𝓤))) (known : Triple 𝓤 (C name) (lent 𝓤 c 𝓛))
         (known-with : Triple 𝓤 (C #with_tally) (by_value 𝓛 (puts_back 𝓤))) (is : Is Row h (word h ∷ [])) (n-fits : n < 2 ^ 64) (e-fits : e < 2 ^ 64) (p-fits : p < 2 ^ 64) where
       walk : ent 𝓤 (sep 𝓤 (sep 𝓤 (emp 𝓤) (sem 𝓛 own)) (c.Asks t₀ n e)) (WpFn 𝓤 H C Λ (function name) (word h ∷ vint w64 n ∷ vint w64 e ∷ vint w64 p ∷ []) Post)
       walk =
@@ -149,7 +149,7 @@ module _ {M : Type 1} {𝓤 : Ura M} (𝓛 : Logic 𝓤) (c : Change 𝓤) where
           move ! (16 ∷ 17 ∷ []) $ free1 ! $ move ! (14 ∷ 15 ∷ []) $ free1 ! $ move ! (12 ∷ 13 ∷ []) $ free1 ! $ move ! (10 ∷ 11 ∷ []) $ free1 ! $ move ! (8 ∷ 9 ∷ []) $ free1 ! $ move ! (0 ∷ 7 ∷ []) $ free1 ! $
           move ! (4 ∷ 5 ∷ []) $ free1 ! $ move ! (2 ∷ 3 ∷ []) $ free1 ! $ free1 ! $ free0 ! $ by ! (exits is')))))))))))))
 
-  module _ (name : Name) where
+  module _ (name : named) where
     walks : (C : Calls 𝓤 H) (Λ : Loops 𝓤 H) → FmC 𝓤 H 𝓛.laws C → Triple 𝓤 (C #tally_in) (by_value 𝓛 (takes_out 𝓤)) → Triple 𝓤 (C name) (lent 𝓤 c 𝓛) → Triple 𝓤 (C #with_tally) (by_value 𝓛 (puts_back 𝓤))
         → Walks 𝓛 ended stayed (WpFn 𝓤 H C Λ (function name)) clauses
     walks C Λ fm known_in known known-with = walked 𝓛 ended stayed clauses (WpFn 𝓤 H C Λ (function name))

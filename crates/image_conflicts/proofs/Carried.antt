@@ -63,6 +63,7 @@ right fs d b h below behind e = record {
 -- ── chunks end at a number ──
 
 pass_ending : (m : ℕ) (ls : List Location) → all_pass m ls ≡ true → Ending m ls
+pass_ending m [] e x x3 = elim x3 [ ]
 pass_ending m (l ∷ ls) e x (here q) = subst (λ (y : Location). y.address + m ≤ last_number) (sym q) (leb-true (l.address + m) last_number (and_left (leb (l.address + m) last_number) (all_pass m ls) (and_right (ltb l.created l.destroyed) (leb (l.address + m) last_number && all_pass m ls) e)))
 pass_ending m (l ∷ ls) e x (later k) = pass_ending m ls (and_right (leb (l.address + m) last_number) (all_pass m ls) (and_right (ltb l.created l.destroyed) (leb (l.address + m) last_number && all_pass m ls) e)) x k
 

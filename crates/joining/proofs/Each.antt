@@ -28,6 +28,7 @@ pub record Pair (k : ℕ) (ls ms : List Location) (x : Location) : Type 0 where
   pub is : x ≡ common left right
 
 pub joins_each_mem : {x : Location} (k : ℕ) (ls ms : List Location) → Mem x (joins_each k ls ms) → Pair k ls ms x
+joins_each_mem {x = x} k [] ms h = elim h [ ]
 joins_each_mem {x} k (l ∷ ls) ms h = go (joins_each_mem k ls ms) (append_cases (joins l (l.address + k) ms) h)
   where
     on : Pair k ls ms x → Pair k (l ∷ ls) ms x
@@ -40,6 +41,7 @@ joins_each_mem {x} k (l ∷ ls) ms h = go (joins_each_mem k ls ms) (append_cases
     go ih (inr j) = on (ih j)
 
 mem_joins_of : {x : Location} (k : ℕ) (ls ms : List Location) (l : Location) → Mem l ls → Mem x (joins l (l.address + k) ms) → Mem x (joins_each k ls ms)
+mem_joins_of {x = x} k [] ms l x3 h = elim x3 [ ]
 mem_joins_of {x} k (m ∷ ls) ms l (here e) h = append_left (joins_each k ls ms) (subst (λ (y : Location). Mem x (joins y (y.address + k) ms)) e h)
 mem_joins_of k (m ∷ ls) ms l (later j) h = append_right (joins m (m.address + k) ms) (mem_joins_of k ls ms l j h)
 

@@ -37,6 +37,7 @@ module _ (key : ℕ) where
   -- as many as are below stand in front, and these are below
   pub front_below : (xs ys : List Location) → below_count key (xs ++ ys) ≡ length xs → (l : Location) → Mem l xs → l.address < key
   unfolding below_count
+  front_below [] ys e l h = elim h [ ]
   front_below (x ∷ xs) ys e l h = go (ltb x.address key) (lt x.address key) (front_below xs ys) e h
     where
       go : (o : Bool) → Lt o x.address key → (below_count key (xs ++ ys) ≡ length xs → (m : Location) → Mem m xs → m.address < key)
@@ -47,6 +48,7 @@ module _ (key : ℕ) where
 
   first_from : (ys : List Location) → Sorted Less ys → below_count key ys ≡ 0 → From key ys
   unfolding below_count
+  first_from [] s e l h = elim h [ ]
   first_from (y ∷ ys) s e l h = go (ltb y.address key) (lt y.address key) e
     where
       go : (o : Bool) → Lt o y.address key → cond o (suc (below_count key ys)) 0 ≡ 0 → key ≤ l.address

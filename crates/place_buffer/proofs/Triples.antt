@@ -29,6 +29,7 @@ length_triples [] = refl
 length_triples (l ∷ ls) = ap suc (length_triples ls)
 
 pub mem_triples : {l : Location} (ls : List Location) → Mem l ls → Mem (triple l) (triples ls)
+mem_triples {l = l} [] x' = elim x' [ ]
 mem_triples (l ∷ ls) (here e) = here (ap triple e)
 mem_triples (l ∷ ls) (later h) = later (mem_triples ls h)
 

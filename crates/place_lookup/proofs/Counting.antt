@@ -23,6 +23,7 @@ use Rattle.definitions.proofs.Locations.{length_locations, locations_snoc, locat
 
 -- the last of an ascending list is none of those before it
 last_new : (xs : List Location) (l : Location) → Sorted Less (xs ++ (l ∷ [])) → Mem l xs → ⊥
+last_new [] l s x'' = elim x'' [ ]
 last_new (x ∷ xs) l s (here e) = less_irrefl (s.0 l (append_right xs (here refl))) (sym e)
 last_new (x ∷ xs) l s (later h) = last_new xs l s.1 h
 

@@ -91,6 +91,7 @@ pub record From (r : List ℕ) (ls : List Location) : Type 0 where
   pub is : r ≡ triple place
 
 pub triples_mem : {r : List ℕ} (ls : List Location) → Mem r (triples ls) → From r ls
+triples_mem {r = r} [] x' = elim x' [ ]
 triples_mem (l ∷ ls) (here e) = record { place = l; listed = here refl; is = e }
 triples_mem (l ∷ ls) (later h) =
     let f = triples_mem ls h in

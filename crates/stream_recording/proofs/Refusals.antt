@@ -67,6 +67,7 @@ record_refused m kind b = go (first_cause (record_checks s kind b)) _ _ refl
         by_kind true v = v
         by_kind false (here v) = here v
         by_kind false (later (here v)) = later (here v)
+        by_kind false (later (later (later x13))) = elim x13 [ ]
         by_kind false (later (later (here v))) = later (later (here v))
 
     go : (o : Option Cause) (x y : List ℕ) → first_cause (record_checks s kind b) ≡ o

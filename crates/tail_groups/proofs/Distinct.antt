@@ -132,6 +132,7 @@ apart_once a (t ∷ ts) d = go (eqb t.arrival a) (eq t.arrival a) (apart_once a 
 
 present : (a : ℕ) (ts : List Tail) (u : Tail) → Mem u ts → u.arrival ≡ a → 1 ≤ sum_of (arrived a) (tail_records ts)
 unfolding sum_of
+present a [] u x'' p = elim x'' [ ]
 present a (t ∷ ts) u (here e) p = rw (eq-eqb t.arrival a (ap (λ (v : Tail). v.arrival) (sym e) ∙ p)) (omega arith)
 present a (t ∷ ts) u (later m) p = omega (arith, present a ts u m p)
 

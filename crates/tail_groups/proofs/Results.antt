@@ -110,6 +110,7 @@ log_valid s (suc n) p b w h e m = go (append_cases (entered (piece_in s p)) m) (
     go (inr k) ih = ih k
 
 numbered_valid : (n : ℕ) (es : List Entry) → n + length es ≤ 2 ^ 64 → ((e : Entry) → Mem e es → ValidEntry e) → (t : Tail) → Mem t (numbered n es) → ValidTail t
+numbered_valid n [] h v t x3 = elim x3 [ ]
 numbered_valid n (e ∷ es) h v t (here p) =
     let x = v e (here refl) in
     subst ValidTail (sym p) (record { short = x.short; bytes = x.bytes; location = x.location; arrival = omega arith })

@@ -127,5 +127,6 @@ pub valid_fits : {r : List ℕ} → ValidRecord r → Fits 7 r
 valid_fits {r} v = subst (Fits 7) (sym v.same) (tail_fits (tail_of_record r) v.tail)
 
 pub tails_valid : (ts : List Tail) → ((t : Tail) → Mem t ts → ValidTail t) → (r : List ℕ) → Mem r (tail_records ts) → ValidRecord r
+tails_valid [] v r x'' = elim x'' [ ]
 tails_valid (t ∷ ts) v r (here e) = subst ValidRecord (sym e) (tail_valid t (v t (here refl)))
 tails_valid (t ∷ ts) v r (later m) = tails_valid ts (λ u n. v u (later n)) r m

@@ -91,6 +91,7 @@ mem_or_not b (c ∷ cs) = go (eqb b c) (eq b c) (mem_or_not b cs)
     go false e (inr n) = inr (λ m. neither e n (split m))
 
 arrived_again : (b : ℕ) (cs : List ℕ) → Mem b cs → arrived b cs ≡ cs
+arrived_again b [] m = elim m [ ]
 arrived_again b (c ∷ cs) m = go (eqb c b) (eq c b) (arrived_again b cs) (split m)
   where
     go : (o : Bool) → Eq o c b → (Mem b cs → arrived b cs ≡ cs) → (b ≡ c) ⊎ Mem b cs → cond o (c ∷ cs) (c ∷ arrived b cs) ≡ c ∷ cs

@@ -48,6 +48,7 @@ mem_arrive {x} g (h ∷ hs) m = go (leb g.first h.first) (mem_arrive g hs) m
     go false ih (inr k) = put ih (split k)
 
 pub by_arrival_mem : {x : Group} (gs : List Group) → Mem x (by_arrival gs) → Mem x gs
+by_arrival_mem {x = x} [] m = elim m [ ]
 by_arrival_mem {x} (g ∷ gs) m = go (by_arrival_mem gs) (arrive_mem g (by_arrival gs) m)
   where
     go : (Mem x (by_arrival gs) → Mem x gs) → (x ≡ g) ⊎ Mem x (by_arrival gs) → Mem x (g ∷ gs)
@@ -55,6 +56,7 @@ by_arrival_mem {x} (g ∷ gs) m = go (by_arrival_mem gs) (arrive_mem g (by_arriv
     go ih (inr k) = later (ih k)
 
 pub mem_by_arrival : {x : Group} (gs : List Group) → Mem x gs → Mem x (by_arrival gs)
+mem_by_arrival [] x'' = elim x'' [ ]
 mem_by_arrival (g ∷ gs) (here e) = mem_arrive g (by_arrival gs) (inl e)
 mem_by_arrival (g ∷ gs) (later m) = mem_arrive g (by_arrival gs) (inr (mem_by_arrival gs m))
 

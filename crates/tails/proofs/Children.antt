@@ -53,6 +53,7 @@ length_ascending (b ∷ bs) = length_by_byte b (ascending bs) ∙ ap suc (length
 -- ── the children of a run ──
 
 arrival_injective : (ts : List Tail) → Pairs Earlier ts → (t s : Tail) → Mem t ts → Mem s ts → t.arrival ≡ s.arrival → t ≡ s
+arrival_injective [] p t s x4 _ h = elim x4 [ ]
 arrival_injective (u ∷ ts) p t s (here e) (here f) h = e ∙ sym f
 arrival_injective (u ∷ ts) p t s (here e) (later m) h = absurd (omega (arith, p.0 s m, ap (λ (x : Tail). x.arrival) e))
 arrival_injective (u ∷ ts) p t s (later m) (here f) h = absurd (omega (arith, p.0 t m, ap (λ (x : Tail). x.arrival) f))
@@ -73,6 +74,7 @@ module _ (d : ℕ) (ts us : List Tail) (run-d : Run d ts) (same : SameTails ts u
   byte_to b m = go (byte_goes d ts run-d m)
     where
       entry_there : (t : Tail) (vs : List Tail) → Mem t vs → (e : Entry) × Mem e (entries_from (suc d) vs)
+      entry_there t [] x' = elim x' [ ]
       entry_there t (v ∷ vs) (here q) = (_, here refl)
       entry_there t (v ∷ vs) (later q) =
           let k = entry_there t vs q in
@@ -87,6 +89,7 @@ module _ (d : ℕ) (ts us : List Tail) (run-d : Run d ts) (same : SameTails ts u
   byte_fro b m = go (arrivals_mem [] es m)
     where
       tail_there : (e : Entry) (vs : List Tail) → Mem e (entries_from (suc d) vs) → (t : Tail) × Mem t vs
+      tail_there e [] x' = elim x' [ ]
       tail_there e (v ∷ vs) (here q) = (v, here refl)
       tail_there e (v ∷ vs) (later q) =
           let k = tail_there e vs q in

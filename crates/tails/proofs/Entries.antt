@@ -76,6 +76,7 @@ gather_below d (t ∷ ts) l = go (eqb (length t.entry.path) d) (front d t.entry.
 -- ── the same tails give the same lists ──
 
 location_mem : {l : Location} (ts : List Tail) → Mem l (locations_of ts) → (t : Tail) × Mem t ts × (l ≡ t.entry.at)
+location_mem {l = l} [] x' = elim x' [ ]
 location_mem (t ∷ ts) (here e) = (t, here refl, e)
 location_mem {l} (t ∷ ts) (later m) = on (location_mem ts m)
   where
@@ -83,6 +84,7 @@ location_mem {l} (t ∷ ts) (later m) = on (location_mem ts m)
     on k = (k.0, later k.1, k.2)
 
 mem_location : {l : Location} (ts : List Tail) (t : Tail) → Mem t ts → l ≡ t.entry.at → Mem l (locations_of ts)
+mem_location {l = l} [] t x'' f = elim x'' [ ]
 mem_location (s ∷ ts) t (here e) f = here (f ∙ ap (λ (x : Tail). x.entry.at) e)
 mem_location (s ∷ ts) t (later m) f = later (mem_location ts t m f)
 

@@ -107,6 +107,7 @@ mem_insert {x} t (s ∷ ss) m = go (lex_lt (tail_record s) (tail_record t)) (mem
     go false ih (inr k) = later k
 
 sort_mem : {x : Tail} (ts : List Tail) → Mem x (sort_tails ts) → Mem x ts
+sort_mem {x = x} [] m = elim m [ ]
 sort_mem {x} (t ∷ ts) m = go (sort_mem ts) (insert_mem t (sort_tails ts) m)
   where
     go : (Mem x (sort_tails ts) → Mem x ts) → (x ≡ t) ⊎ Mem x (sort_tails ts) → Mem x (t ∷ ts)
@@ -114,6 +115,7 @@ sort_mem {x} (t ∷ ts) m = go (sort_mem ts) (insert_mem t (sort_tails ts) m)
     go ih (inr k) = later (ih k)
 
 mem_sort : {x : Tail} (ts : List Tail) → Mem x ts → Mem x (sort_tails ts)
+mem_sort [] x'' = elim x'' [ ]
 mem_sort (t ∷ ts) (here e) = mem_insert t (sort_tails ts) (inl e)
 mem_sort (t ∷ ts) (later m) = mem_insert t (sort_tails ts) (inr (mem_sort ts m))
 

@@ -47,6 +47,7 @@ node_by_arrival (suc n) d ts us r s p =
 -- ── entries numbered from 0 ──
 
 pub numbered_from : {t : Tail} (n : ℕ) (es : List Entry) → Mem t (numbered n es) → n ≤ t.arrival
+numbered_from {t = t} n [] x' = elim x' [ ]
 numbered_from n (e ∷ es) (here f) = omega (arith, ap (λ (x : Tail). x.arrival) f)
 numbered_from n (e ∷ es) (later m) = omega (arith, numbered_from (suc n) es m)
 
@@ -59,6 +60,7 @@ numbered_entries n [] = refl
 numbered_entries n (e ∷ es) = rw (numbered_entries (suc n) es)
 
 pub numbered_mem : {t : Tail} (n : ℕ) (es : List Entry) → Mem t (numbered n es) → Mem t.entry es
+numbered_mem {t = t} n [] x' = elim x' [ ]
 numbered_mem n (e ∷ es) (here f) = here (λ i. (f i).entry)
 numbered_mem n (e ∷ es) (later m) = later (numbered_mem (suc n) es m)
 

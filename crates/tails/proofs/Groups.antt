@@ -20,6 +20,7 @@ use Rattle.tails.proofs.Keep.{keep, keep_mem, mem_keep, pairs_keep, keep_none, k
 use Rattle.tails.proofs.Runs.{longer, goes, goes_is, below_here, bytes_upto, run_goes}
 
 pub mem_bytes : {g : Group} (gs : List Group) → Mem g gs → Mem g.byte (bytes_of gs)
+mem_bytes {g = g} [] x' = elim x' [ ]
 mem_bytes (h ∷ gs) (here e) = here (λ i. (e i).byte)
 mem_bytes (h ∷ gs) (later m) = later (mem_bytes gs m)
 
@@ -153,6 +154,7 @@ groups_grouped d (t ∷ ss) p = into_grouped d t ss p.0 (groups d ss) (groups_gr
 -- ── the groups of a run ──
 
 pub bytes_mem : {b : ℕ} (gs : List Group) → Mem b (bytes_of gs) → (g : Group) × Mem g gs × (b ≡ g.byte)
+bytes_mem {b = b} [] x' = elim x' [ ]
 bytes_mem (g ∷ gs) (here e) = (g, here refl, e)
 bytes_mem {b} (g ∷ gs) (later m) = on (bytes_mem gs m)
   where

@@ -1,7 +1,7 @@
 -- Bytes as a number, highest first: its size, its bytes, and what the order of two such numbers tells of their bytes.
 -- Assumes nothing.
 use Prim.Native.Nat.{ℕ, zero, suc, ◌+◌, ◌-◌, ◌*◌, ◌/◌, ◌%◌, ◌^◌, ◌≤◌, ◌<◌}
-use native.Mathlib.Nat.{not-suc-le-zero, add_mul, mul_assoc, suc-mul, mul-le-mul_right, mul-add-div_right, mul-add-mod_self_right, div-eq_of_lt, pow-suc}
+use native.Mathlib.Nat.{not-suc-le-zero, add-mul, mul_assoc, suc-mul, mul-le-mul_right, mul-add-div_right, mul-add-mod_self_right, div-eq_of_lt, pow-suc}
 use native.Mathlib.Omega.{arith}
 use mathlib.Core.Path.{◌≡◌, refl, sym, ap, ◌∙◌}
 use mathlib.Core.Logic.{◌⊎◌, inl, inr}
@@ -37,7 +37,7 @@ high_from (suc n) bs x =
     let r : List ℕ = drop 1 bs in
     let p : high n r (x * 256 + b) ≡ (x * 256 + b) * top n + high n r 0 = high_from n r (x * 256 + b) in
     let q : high n r (0 * 256 + b) ≡ (0 * 256 + b) * top n + high n r 0 = high_from n r (0 * 256 + b) in
-    omega (arith, high_step n bs x, high_step n bs 0, add_mul (x * 256) b (top n), add_mul (0 * 256) b (top n), mul_assoc x 256 (top n), mul_assoc 0 256 (top n))
+    omega (arith, high_step n bs x, high_step n bs 0, add-mul (x * 256) b (top n), add-mul (0 * 256) b (top n), mul_assoc x 256 (top n), mul_assoc 0 256 (top n))
 
 high_cons : (n : ℕ) (bs : List ℕ) → high (suc n) bs 0 ≡ get_or bs 0 0 * top n + high n (drop 1 bs) 0
 high_cons n bs =

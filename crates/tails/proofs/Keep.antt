@@ -22,6 +22,7 @@ pub record Kept (f : Tail → Bool) (ts : List Tail) (x : Tail) : Type 0 where
   pub passes : f x ≡ true
 
 pub keep_mem : {x : Tail} (f : Tail → Bool) (ts : List Tail) → Mem x (keep f ts) → Kept f ts x
+keep_mem {x = x} f [] h = elim h [ ]
 keep_mem {x} f (t ∷ ts) h = go (f t) refl (keep_mem f ts) h
   where
     on : Kept f ts x → Kept f (t ∷ ts) x
@@ -33,6 +34,7 @@ keep_mem {x} f (t ∷ ts) h = go (f t) refl (keep_mem f ts) h
     go false e ih k = on (ih k)
 
 pub mem_keep : {x : Tail} (f : Tail → Bool) (ts : List Tail) → Mem x ts → f x ≡ true → Mem x (keep f ts)
+mem_keep {x = x} f [] x3 e = elim x3 [ ]
 mem_keep f (t ∷ ts) (here k) e =
     let p : f t ≡ true = sym (ap f k) ∙ e in
     rw p (here k)

@@ -23,6 +23,7 @@ use Rattle.tails.proofs.Keep.{keep, Kept, keep_mem, pairs_keep, pairs_map, keep_
 -- ── order ──
 
 mem_record : {t : Tail} (ts : List Tail) → Mem t ts → Mem (tail_record t) (tail_records ts)
+mem_record {t = t} [] x' = elim x' [ ]
 mem_record (s ∷ ts) (here e) = here (ap tail_record e)
 mem_record (s ∷ ts) (later m) = later (mem_record ts m)
 

@@ -6,7 +6,7 @@ use mathlib.Core.List.{List, [], ◌∷◌}
 use lib.Dec.{T as Holds}
 use seplogic.Ra.Ura.{Ura}
 use seplogic.Ra.TreeShare.{full_share}
-use mir.Syntax.{Name, Place, Opd as Operand, Body as Code, seq, call, named, w64, ty_unit}
+use mir.Syntax.{named, Place, Opd as Operand, Body as Code, seq, call, named, w64, ty_unit}
 use mir.Val.{Val, WT, has_ty, vunit, vint, vptr}
 use base.Logic.{ent, sep, guard, id⊢}
 use base.Fml.{GName, Fml, ftrue, fsep, fat, flft, fres, flent}
@@ -76,7 +76,7 @@ module _ {M : Type 1} {𝓤 : Ura M} (𝓛 : Logic 𝓤) (c : Change 𝓤) (l : 
       -- [the last value; …; the token and the result]
       move ! (2 ∷ []) $ split ! $ move ! (1 ∷ []) $ feq_l ! (λ is. at_once ! $ check ! (ap only is) $ split ! $ keep ! (0 ∷ 2 ∷ []) $ done !))))
 
-module _ {M : Type 1} {𝓤 : Ura M} {𝓛 : Logic 𝓤} {K : Type 0} {Γ : List (Item 𝓤)} {E : Env 𝓤 𝓛.H} {C : Calls 𝓤 𝓛.H} {Λ : Loops 𝓤 𝓛.H} {q : Post 𝓤 𝓛.H} {f : Name} {xs : List Operand} {d : Place} {rest : Code} where
+module _ {M : Type 1} {𝓤 : Ura M} {𝓛 : Logic 𝓤} {K : Type 0} {Γ : List (Item 𝓤)} {E : Env 𝓤 𝓛.H} {C : Calls 𝓤 𝓛.H} {Λ : Loops 𝓤 𝓛.H} {q : Post 𝓤 𝓛.H} {f : named} {xs : List Operand} {d : Place} {rest : Code} where
   open 𝓛 use {H}
 
   pub lend_call : K → FmC 𝓤 H 𝓛.laws C → (c : Change 𝓤) → Triple 𝓤 (C f) (lent 𝓤 c 𝓛) → (l : ℕ) (h : Tally) (n e : ℕ) → Is R h (mach h ∷ []) → n < 2 ^ 64 → e < 2 ^ 64

@@ -5,7 +5,7 @@ use Prim.Native.Nat.{ℕ, ◌<◌, ◌^◌}
 use mathlib.Core.List.{[], ◌∷◌, List}
 use seplogic.Ra.Ura.{Ura}
 use seplogic.Ra.TreeShare.{full_share}
-use mir.Syntax.{Name, Fn, local, value_local, ty_ref, ty_int, ty_unit, named, mut, w64, place, deref, copy, opd_unit, rv_opd, seq, assign, call, return}
+use mir.Syntax.{named, Fn, local, value_local, ty_ref, ty_int, ty_unit, named, mut, w64, place, deref, copy, opd_unit, rv_opd, seq, assign, call, return}
 use mir.Val.{Val, vunit, vint, vptr}
 use base.Logic.{SProp, ent, sep}
 use base.Fml.{GName, Lft, Share, Fml, ftrue, flft, fobs, fbor}
@@ -35,7 +35,7 @@ use Rattle.tally.proofs.ValueCall.{by_value, value_call}
 use Rattle.tally.proofs.Change.{tally, R, mach, typed, Change, changed, clauses, lent}
 
 -- the MIR, with the name of the function that is called for a parameter
-abbrev pub function : Name → Fn
+abbrev pub function : named → Fn
 function name = record {
   lifetimes = 1;
   outlives = [];
@@ -76,7 +76,7 @@ module _ {M : Type 1} {𝓤 : Ura M} (𝓛 : Logic 𝓤) (c : Change 𝓤) (κ :
       suffices ! _ (ends_at 𝓛 ended stayed (clauses 𝓤 c) (((κ, tt), (q, tt), tt, x, at), tt) vunit tt (h', (tt, (tt, tt))) (tt, (tt, (tt, tt)))) $ says ! refl $ move ! (2 ∷ 3 ∷ []) $ join ! $ frame ! $
       feq_i ! (List Val) (vptr b o ∷ []) (vptr b o ∷ []) refl $ fjoin3 ! $ fjoin ! $ feq_i ! (List Val) (vunit ∷ []) (vunit ∷ []) refl $ move ! (1 ∷ 0 ∷ []) $ done !
 
-  module _ (C : Calls 𝓤 H) (Λ : Loops 𝓤 H) (fm : FmC 𝓤 H 𝓛.laws C) (name : Name) (known : Triple 𝓤 (C name) (by_value 𝓛 (changed 𝓤 c))) (n-fits : n < 2 ^ 64) (e-fits : e < 2 ^ 64) where
+  module _ (C : Calls 𝓤 H) (Λ : Loops 𝓤 H) (fm : FmC 𝓤 H 𝓛.laws C) (name : named) (known : Triple 𝓤 (C name) (by_value 𝓛 (changed 𝓤 c))) (n-fits : n < 2 ^ 64) (e-fits : e < 2 ^ 64) where
     walk : ent 𝓤 (sep 𝓤 (on_entry 𝓛 signature (κ, tt) (q, tt) x at) (c.Asks h n e)) (WpFn 𝓤 H C Λ (function name) (vptr b o ∷ vint w64 n ∷ vint w64 e ∷ []) Post)
     walk =
         qed 𝓛 (((‵ (flft κ q) ⊛ ‵ ftrue) ⊛ ‵ (owns (MutRef (named 0) κ R ∷ usize ∷ usize ∷ []) x at)) ∷ raw (c.Asks h n e) ∷ []) ∵ split ! $ enter ! C Λ (function name) (vptr b o ∷ vint w64 n ∷ vint w64 e ∷ []) _ $
@@ -99,7 +99,7 @@ module _ {M : Type 1} {𝓤 : Ura M} (𝓛 : Logic 𝓤) (c : Change 𝓤) (κ :
         move ! (15 ∷ 16 ∷ []) $ free1 ! $ move ! (13 ∷ 14 ∷ []) $ free1 ! $ move ! (11 ∷ 12 ∷ []) $ free1 ! $ move ! (9 ∷ 10 ∷ []) $ free1 ! $ move ! (7 ∷ 8 ∷ []) $ free1 ! $ move ! (5 ∷ 6 ∷ []) $ free1 ! $ free0 ! $
         by ! exits)))))))))
 
-module _ {M : Type 1} {𝓤 : Ura M} (𝓛 : Logic 𝓤) (c : Change 𝓤) (name : Name) where
+module _ {M : Type 1} {𝓤 : Ura M} (𝓛 : Logic 𝓤) (c : Change 𝓤) (name : named) where
   open 𝓛 use {H}
 
   walks : (C : Calls 𝓤 H) (Λ : Loops 𝓤 H) → FmC 𝓤 H 𝓛.laws C → Triple 𝓤 (C name) (by_value 𝓛 (changed 𝓤 c)) → Walks 𝓛 ended stayed (WpFn 𝓤 H C Λ (function name)) (clauses 𝓤 c)

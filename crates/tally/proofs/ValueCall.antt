@@ -3,7 +3,7 @@
 use mathlib.Core.Path.{◌≡◌, refl, sym, ap, subst}
 use mathlib.Core.List.{List, [], ◌∷◌}
 use seplogic.Ra.Ura.{Ura}
-use mir.Syntax.{Name, Place, Opd as Operand, Body as Code, seq, call, w64}
+use mir.Syntax.{named, Place, Opd as Operand, Body as Code, seq, call, w64}
 use mir.Val.{Val, vint}
 use base.Logic.{SProp, ent, emp, snd∗, ex_e, id⊢}
 use base.Fml.{ftrue}
@@ -97,7 +97,7 @@ module _ {M : Type 1} {𝓤 : Ura M} (𝓛 : Logic 𝓤) (g : Function 𝓤) whe
     said : (r : g.result.row.Denot) → ent 𝓤 (ensured 𝓛 ended clauses tt a tt r) (fact 𝓤 (r ≡ g.answer a))
     said r = ex_e 𝓤 _ (λ ws. snd∗ 𝓤 (sem 𝓛 (lasts ended tt a ws)) (fact 𝓤 (r ≡ g.answer a)))
 
-module _ {M : Type 1} {𝓤 : Ura M} {𝓛 : Logic 𝓤} {K : Type 0} {Γ : List (Item 𝓤)} {E : Env 𝓤 𝓛.H} {C : Calls 𝓤 𝓛.H} {Λ : Loops 𝓤 𝓛.H} {q : Post 𝓤 𝓛.H} {f : Name} {xs : List Operand} {d : Place} {rest : Code} where
+module _ {M : Type 1} {𝓤 : Ura M} {𝓛 : Logic 𝓤} {K : Type 0} {Γ : List (Item 𝓤)} {E : Env 𝓤 𝓛.H} {C : Calls 𝓤 𝓛.H} {Λ : Loops 𝓤 𝓛.H} {q : Post 𝓤 𝓛.H} {f : named} {xs : List Operand} {d : Place} {rest : Code} where
   open 𝓛 use {H}
 
   pub value_call : K → FmC 𝓤 H 𝓛.laws C → (g : Function 𝓤) → Triple 𝓤 (C f) (by_value 𝓛 g) → (a : Denots (rows g.takes)) → Fit g.takes a

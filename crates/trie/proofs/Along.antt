@@ -49,6 +49,7 @@ pub record Beyond (ps : List Piece) (path : List ℕ) (x : Location) : Type 0 wh
   pub is : x ≡ piece.at
 
 joins_each_mem : {x : Location} (n : ℕ) (ls ms : List Location) → Mem x (joins_each n ls ms) → (l : Location) × Mem l ls × Mem x (joins l (l.address + n) ms)
+joins_each_mem {x = x} n [] ms h = elim h [ ]
 joins_each_mem {x} n (l ∷ ls) ms h = go (joins_each_mem n ls ms) (append_cases (joins l (l.address + n) ms) h)
   where
     Found : List Location → Type 0
@@ -59,6 +60,7 @@ joins_each_mem {x} n (l ∷ ls) ms h = go (joins_each_mem n ls ms) (append_cases
     go ih (inr k) = let f = ih k in (f.0, later f.1, f.2)
 
 mem_joins_each : {x : Location} (n : ℕ) (ls ms : List Location) (l : Location) → Mem l ls → Mem x (joins l (l.address + n) ms) → Mem x (joins_each n ls ms)
+mem_joins_each {x = x} n [] ms l x3 h = elim x3 [ ]
 mem_joins_each {x} n (k ∷ ls) ms l (here e) h = append_left (joins_each n ls ms) (subst (λ (y : Location). Mem x (joins y (y.address + n) ms)) e h)
 mem_joins_each n (k ∷ ls) ms l (later m) h = append_right (joins k (k.address + n) ms) (mem_joins_each n ls ms l m h)
 
@@ -110,6 +112,7 @@ module _ (ps : List Piece) (ended beyond : List ℕ → List Location) (at_end :
 
   -- nothing is joined at the root: the places of the whole query are not there yet
   none_joined : {x : Location} (n : ℕ) (ls : List Location) → Mem x (joins_each n ls []) → ⊥
+  none_joined n [] h = elim h [ ]
   none_joined n (l ∷ ls) h = none_joined n ls h
 
   from_root : {x : Location} (b : ℕ) (q : List ℕ) (ts : List (List Location)) → Mem x (along ended beyond [] (b ∷ q) ([] ∷ ts)) → Mem x (along ended beyond (b ∷ []) q ts)

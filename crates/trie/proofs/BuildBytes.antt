@@ -103,6 +103,7 @@ mem_by_byte {x} b (c ∷ cs) h = go (leb b c) (mem_by_byte b cs) h
     go false ih (inr k) = put ih (split k)
 
 pub ascending_mem : {x : ℕ} (bs : List ℕ) → Mem x (ascending bs) → Mem x bs
+ascending_mem {x = x} [] h = elim h [ ]
 ascending_mem {x} (b ∷ bs) h = go (ascending_mem bs) (by_byte_mem b (ascending bs) h)
   where
     go : (Mem x (ascending bs) → Mem x bs) → (x ≡ b) ⊎ Mem x (ascending bs) → Mem x (b ∷ bs)
@@ -110,6 +111,7 @@ ascending_mem {x} (b ∷ bs) h = go (ascending_mem bs) (by_byte_mem b (ascending
     go ih (inr k) = later (ih k)
 
 pub mem_ascending : {x : ℕ} (bs : List ℕ) → Mem x bs → Mem x (ascending bs)
+mem_ascending [] x'' = elim x'' [ ]
 mem_ascending (b ∷ bs) (here e) = mem_by_byte b (ascending bs) (inl e)
 mem_ascending (b ∷ bs) (later h) = mem_by_byte b (ascending bs) (inr (mem_ascending bs h))
 

@@ -70,6 +70,7 @@ mem_parts k (b ∷ c ∷ bs) (suc (suc i)) f t = later (cast (entry_path refl (s
 -- ── a log ──
 
 mem_all : {e : Entry} (ps : List Piece) (p : Piece) → Mem p ps → Mem e (entered p) → Mem e (entered_all ps)
+mem_all {e = e} [] p x'' h = elim x'' [ ]
 mem_all {e} (r ∷ ps) p (here f) h = append_left (entered_all ps) (subst (λ (y : Piece). Mem e (entered y)) f h)
 mem_all (r ∷ ps) p (later m) h = append_right (entered r) (mem_all ps p m h)
 

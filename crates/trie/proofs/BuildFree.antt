@@ -33,6 +33,7 @@ use Rattle.trie.proofs.BuildRule.{apart_build}
 
 -- of pieces free of conflicts, two that differ do not conflict
 differ : (ps : List Piece) → Free ps → (p r : Piece) → Mem p ps → Mem r ps → (p ≡ r → ⊥) → conflicting p r ≡ false
+differ [] g p r x4 _ n = elim x4 [ ]
 differ (x ∷ ps) g p r (here e) (here f) n = absurd (n (e ∙ sym f))
 differ (x ∷ ps) g p r (here e) (later k) n = subst (λ (y : Piece). conflicting y r ≡ false) (sym e) (g.0 r k)
 differ (x ∷ ps) g p r (later m) (here f) n = is_false (conflicting p r) (λ h. not_both (subst (λ (y : Piece). conflicting y p ≡ false) (sym f) (g.0 p m)) (shares_sym p r h))

@@ -33,6 +33,7 @@ record Source (f : List ℕ → Bool → Location → List Location) (es : List 
   gives : Mem l (f entry.path entry.whole entry.at)
 
 gather_mem : {l : Location} (f : List ℕ → Bool → Location → List Location) (es : List Entry) → Mem l (gather f es) → Source f es l
+gather_mem {l = l} f [] h = elim h [ ]
 gather_mem {l} f (e ∷ es) h = go (gather_mem f es) (append_cases (f e.path e.whole e.at) h)
   where
     on : Source f es l → Source f (e ∷ es) l
@@ -43,6 +44,7 @@ gather_mem {l} f (e ∷ es) h = go (gather_mem f es) (append_cases (f e.path e.w
     go ih (inr k) = on (ih k)
 
 mem_gather : {l : Location} (f : List ℕ → Bool → Location → List Location) (es : List Entry) (e : Entry) → Mem e es → Mem l (f e.path e.whole e.at) → Mem l (gather f es)
+mem_gather {l = l} f [] e x'' h = elim x'' [ ]
 mem_gather {l} f (x ∷ es) e (here k) h = append_left (gather f es) (subst (λ (y : Entry). Mem l (f y.path y.whole y.at)) k h)
 mem_gather f (x ∷ es) e (later k) h = append_right (f x.path x.whole x.at) (mem_gather f es e k h)
 

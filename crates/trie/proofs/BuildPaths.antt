@@ -61,6 +61,7 @@ behind_byte_mem {x} b (c ∷ path) e h = go (eqb c b) (eq c b) h
     go false f h = absurd (not-nil h)
 
 pub behind_mem : {x : Entry} (b : ℕ) (es : List Entry) → Mem x (behind b es) → Mem (put (b ∷ []) x) es
+behind_mem {x = x} b [] h = elim h [ ]
 behind_mem {x} b (e ∷ es) h = go (behind_mem b es) (append_cases (behind_byte b e.path e) h)
   where
     go : (Mem x (behind b es) → Mem (put (b ∷ []) x) es) → Mem x (behind_byte b e.path e) ⊎ Mem x (behind b es) → Mem (put (b ∷ []) x) (e ∷ es)
@@ -71,6 +72,7 @@ here_behind : (x : Entry) (b : ℕ) → Mem x (behind_byte b (b ∷ x.path) x)
 here_behind x b = rw (eq-eqb b b refl) (here refl)
 
 pub mem_behind : {x : Entry} (b : ℕ) (es : List Entry) → Mem (put (b ∷ []) x) es → Mem x (behind b es)
+mem_behind {x = x} b [] x'' = elim x'' [ ]
 mem_behind {x} b (e ∷ es) (here f) = append_left (behind b es) (subst (λ (y : Entry). Mem x (behind_byte b y.path y)) f (here_behind x b))
 mem_behind b (e ∷ es) (later h) = append_right (behind_byte b e.path e) (mem_behind b es h)
 
@@ -169,6 +171,7 @@ mem_onward b es h = mem_kept (arrivals [] es) (mem_arrivals b [] es h)
 -- ── the child for a byte ──
 
 pub child_in : (f : List Entry → Node) (bs : List ℕ) (es : List Entry) (b : ℕ) → Mem b bs → child (grow f bs es) b ≡ some (f (behind b es))
+child_in f [] es b h = elim h [ ]
 child_in f (c ∷ bs) es b h = go (eqb c b) (eq c b) (child_in f bs es b) (split h)
   where
     go : (o : Bool) → Eq o c b → (Mem b bs → child (grow f bs es) b ≡ some (f (behind b es))) → (b ≡ c) ⊎ Mem b bs → cond o (some (f (behind c es))) (child (grow f bs es) b) ≡ some (f (behind b es))

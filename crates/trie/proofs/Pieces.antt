@@ -21,12 +21,14 @@ use Rattle.trie.proofs.Stands.{Stands, stands_map, stands_none, stands_first, st
 -- ── pieces ──
 
 pub here_mem : {p : Piece} (path : List ℕ) (ls : List Location) → Mem p (pieces_here path ls) → (p.bytes ≡ path) × Mem p.at ls
+here_mem {p = p} path [] x' = elim x' [ ]
 here_mem path (l ∷ ls) (here e) = (ap (λ (x : Piece). x.bytes) e, here (ap (λ (x : Piece). x.at) e))
 here_mem path (l ∷ ls) (behind h) =
     let k = here_mem path ls h in
     (k.0, behind k.1)
 
 pub mem_here : {p : Piece} (path : List ℕ) (ls : List Location) → p.bytes ≡ path → Mem p.at ls → Mem p (pieces_here path ls)
+mem_here {p = p} path [] e x'' = elim x'' [ ]
 mem_here path (l ∷ ls) e (here f) = here (λ i. record { bytes = e i; at = f i })
 mem_here path (l ∷ ls) e (behind h) = behind (mem_here path ls e h)
 

@@ -224,6 +224,7 @@ module _ (n : Node) (short : (path : List ℕ) → IsNode n path → length path
   child_within (more b k under rest) g h a = and_true (h b (record { lists = k; children = under }) (child_first b k under rest)) (child_within rest g (λ x c e. h x c (child_later b k under rest a.0 x c e)) a.2)
 
   each_within : (fs : List Node) (g : Forest) → fronts_within fs g ≡ true → (f : Node) → Mem f fs → within f.children g ≡ true
+  each_within [] g e f x'' = elim x'' [ ]
   each_within (x ∷ fs) g e f (here i) = subst (λ (y : Node). within y.children g ≡ true) (sym i) (both (within x.children g) (fronts_within fs g) e).0
   each_within (x ∷ fs) g e f (later h) = each_within fs g (both (within x.children g) (fronts_within fs g) e).1 f h
 

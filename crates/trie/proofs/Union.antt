@@ -94,6 +94,7 @@ in_and {m} (l ∷ ls) lss = (in_cases, out)
 -- ── stepping over a location ──
 
 over_mem : {m : Location} (key : Location) (ls : List Location) → Mem m (step_over key ls) → Mem m ls
+over_mem {m = m} key [] h = elim h [ ]
 over_mem {m} key (l ∷ ls) h = go (compare_is_eq (order l key)) h
   where
     go : (o : Bool) → Mem m (cond o ls (l ∷ ls)) → Mem m (l ∷ ls)
@@ -101,6 +102,7 @@ over_mem {m} key (l ∷ ls) h = go (compare_is_eq (order l key)) h
     go false h = h
 
 mem_over : {m : Location} (key : Location) (ls : List Location) → Mem m ls → (m ≡ key) ⊎ Mem m (step_over key ls)
+mem_over {m = m} key [] h = elim h [ ]
 mem_over {m} key (l ∷ ls) h = go (compare_is_eq (order l key)) (same l key) (split h)
   where
     go : (o : Bool) → Same o l key → (m ≡ l) ⊎ Mem m ls → (m ≡ key) ⊎ Mem m (cond o ls (l ∷ ls))
@@ -212,6 +214,7 @@ over_sorted key (l ∷ ls) s = go (compare_is_eq (order l key))
     go false = s
 
 over_all_sorted : (key : Location) (lss : List (List Location)) → AllSorted lss → AllSorted (step_over_all key lss)
+over_all_sorted key [] s ls x'' = elim x'' [ ]
 over_all_sorted key (ks ∷ lss) s ls (here e) = subst (Sorted Less) (sym e) (over_sorted key ks (s ks (here refl)))
 over_all_sorted key (ks ∷ lss) s ls (later h) = over_all_sorted key lss (λ x k. s x (later k)) ls h
 
@@ -220,10 +223,12 @@ less_back back k m h = record { by_address = omega (arith, h.by_address); by_cre
 
 -- where no member of a sorted list comes before key, key stands in front or not at all
 in_front : (key : Location) (ls : List Location) → Sorted Less ls → ((m : Location) → Mem m ls → Less m key → ⊥) → Mem key ls → begins key ls ≡ true
+in_front key [] s f x3 = elim x3 [ ]
 in_front key (l ∷ ls) s f (here e) = true_same l key (sym e)
 in_front key (l ∷ ls) s f (later h) = absurd (f l (here refl) (s.0 key h))
 
 gone : (key : Location) (ls : List Location) → Sorted Less ls → ((m : Location) → Mem m ls → Less m key → ⊥) → Mem key (step_over key ls) → ⊥
+gone key [] s f h = elim h [ ]
 gone key (l ∷ ls) s f h = go (compare_is_eq (order l key)) (same l key) h
   where
     go : (o : Bool) → Same o l key → Mem key (cond o ls (l ∷ ls)) → ⊥

@@ -46,7 +46,7 @@ children_right-requires c =
     let n = c.node_at-root in
     let f = c.root_fronts-count in
     let v = c.node_right in
-    root_asked a.s.now h n.result n.ensures f.new.fronts f.result v.new.lists f.ensures (omega (arith, f.auto.1.1.1.0)) (omega (arith, v.auto.1.1.1.0))
+    root_asked a.s.now h n.result n.ensures f.new.fronts f.result v.new.lists f.ensures (omega (arith, f.auto.fronts.1.1.0)) (omega (arith, v.auto.fronts.1.1.0))
 
 pub returns : goal.returns
 returns c =
