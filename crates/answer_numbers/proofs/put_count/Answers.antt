@@ -10,11 +10,11 @@ use Rattle.answer_numbers.proofs.put_count.Goals as goal
 pub returns-in-Rows : goal.returns-in-Rows
 returns-in-Rows c =
     let cs : List ℕ = c.args.count.now in
-    let e = sym c.a-1.given.1 in
+    let e = sym c.in-Rows.is in
     (ap answer_number e, ap (λ (x : Answer). count_after x cs) e)
 
 pub returns-in-Refused : goal.returns-in-Refused
 returns-in-Refused c =
     let cs : List ℕ = c.args.count.now in
-    let e = sym c.a-in-Refused-1.given.1 in
+    let e = sym c.in-Refused.is in
     (ap answer_number e, ap (λ (x : Answer). count_after x cs) e)

@@ -10,11 +10,11 @@ use Rattle.answer_numbers.proofs.put_taken.Goals as goal
 pub returns-in-All : goal.returns-in-All
 returns-in-All c =
     let xs : List ℕ = c.args.taken.now in
-    let e = sym c.r-1.given.1 in
+    let e = sym c.in-All.is in
     (ap streamed_number e, ap (λ (x : Streamed). set xs 0 (streamed_taken x)) e)
 
 pub returns-in-Stopped : goal.returns-in-Stopped
 returns-in-Stopped c =
     let xs : List ℕ = c.args.taken.now in
-    let e = sym c.r-in-Stopped-1.given.1 in
+    let e = sym c.in-Stopped.is in
     (ap streamed_number e, ap (λ (x : Streamed). set xs 0 (streamed_taken x)) e)

@@ -11,4 +11,4 @@ returns-then-n-eq0 c =
 pub returns : goal.returns
 returns c =
     let a = c.args in
-    kept_same a.mem.now c.keep-k.ensures.keeps-them c.answer_kept.ensures
+    kept_same a.mem.now c.keep-k.ensures.keeps_them c.answer_kept.ensures

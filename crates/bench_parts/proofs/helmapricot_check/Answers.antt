@@ -20,17 +20,17 @@ not-by-rule : (s : List ℕ) (k e : ℕ) → right k e ≡ read_image s → (o :
 not-by-rule s k e q o r z = sym (rw (sym q, sym r ∙ z) refl)
 
 pub index_rule-requires : goal.index_rule-requires
-index_rule-requires c = record { nodes = _; entries = _; read = sym (ap layout_of (sym c.enum_told-1.given.1) ∙ c.read_image.ensures) }
+index_rule-requires c = record { nodes = _; entries = _; read = sym (ap layout_of (sym c.in-Right.is) ∙ c.read_image.ensures) }
 
 pub returns-then-index_rule : goal.returns-then-index_rule
 returns-then-index_rule c =
     let r = c.index_rule in
-    by-rule c.args.img.now _ _ (ap layout_of (sym c.enum_told-1.given.1) ∙ c.read_image.ensures) r.result r.ensures c.if-index_rule.true
+    by-rule c.args.img.now _ _ (ap layout_of (sym c.in-Right.is) ∙ c.read_image.ensures) r.result r.ensures c.if-index_rule.true
 
 pub returns-in-Refused : goal.returns-in-Refused
-returns-in-Refused c = by_layout c.args.img.now _ (ap layout_of (sym c.n-1.given.1) ∙ c.read_image.ensures)
+returns-in-Refused c = by_layout c.args.img.now _ (ap layout_of (sym c.in-Refused.is) ∙ c.read_image.ensures)
 
 pub returns-else-index_rule : goal.returns-else-index_rule
 returns-else-index_rule c =
     let r = c.index_rule in
-    not-by-rule c.args.img.now _ _ (ap layout_of (sym c.enum_told-1.given.1) ∙ c.read_image.ensures) r.result r.ensures c.if-index_rule.false
+    not-by-rule c.args.img.now _ _ (ap layout_of (sym c.in-Right.is) ∙ c.read_image.ensures) r.result r.ensures c.if-index_rule.false

@@ -3,7 +3,7 @@ use Prim.Native.Nat.{ℕ, ◌-◌}
 use native.Mathlib.Omega.{arith}
 use mathlib.Core.Path.{◌≡◌, ap, subst}
 use mathlib.Core.Bool.{Bool}
-use borrow.Author.Tests.{leb-true, not-true, not-false}
+use borrow.Author.Tests.{leb-true}
 use Rattle.definitions.specs.Location.{Location}
 use Rattle.lined_locations.specs.Line.{location_of}
 use Rattle.certificate.specs.Entries.{piece_end}
@@ -18,7 +18,7 @@ pub reach-end-requires : goal.reach-end-requires
 reach-end-requires c = (c.requires.0, omega (arith, c.requires.1.low), c.requires.1.high)
 
 pub loop-g-init : goal.loop-g-init
-loop-g-init c = (omega arith, c.requires.1.high, λ w. omega (arith, w.from-other, w.upto-other))
+loop-g-init c = (omega arith, c.requires.1.high, λ w. omega (arith, w.from_other, w.upto_other))
 
 pub location-l-requires : goal.location-l-requires
 location-l-requires c = (c.requires.0.within, c.loop-g-test.true)
@@ -41,7 +41,7 @@ returns-then-not-pair_apart c =
     let l = location_of a.mem.now a.v in
     let h = c.group_end-h.result in
     group_met a.v.count l c.requires.0.lined (piece_end a.mem.now a.v) a.i a.e c.loop-g.g h c.loop-g.invariant.0 c.group_end-h.ensures.high
-    (subst (λ (o : Bool). Apart o l (piece_end a.mem.now a.v) a.i a.e c.loop-g.g h) (not-true c.pair_apart.result c.if-not-pair_apart.true) c.pair_apart.ensures)
+    (subst (λ (o : Bool). Apart o l (piece_end a.mem.now a.v) a.i a.e c.loop-g.g h) c.if-not-pair_apart.true c.pair_apart.ensures)
 
 pub loop-g-smaller : goal.loop-g-smaller
 loop-g-smaller c = omega (arith, c.group_end-h.ensures.low, c.loop-g-test.true)
@@ -54,7 +54,7 @@ loop-g-preserved c =
       omega (arith, c.loop-g.invariant.0, c.group_end-h.ensures.low),
       c.group_end-h.ensures.high,
       group_on a.v.count l c.requires.0.lined (piece_end a.mem.now a.v) a.i a.e c.loop-g.g c.loop-g.invariant.2 h
-          (subst (λ (o : Bool). Apart o l (piece_end a.mem.now a.v) a.i a.e c.loop-g.g h) (not-false c.pair_apart.result c.if-not-pair_apart.false) c.pair_apart.ensures),
+          (subst (λ (o : Bool). Apart o l (piece_end a.mem.now a.v) a.i a.e c.loop-g.g h) c.if-not-pair_apart.false c.pair_apart.ensures),
     )
 
 pub returns : goal.returns

@@ -3,7 +3,6 @@ use Prim.Native.Nat.{◌-◌}
 use native.Mathlib.Omega.{arith}
 use mathlib.Core.Path.{sym, subst, ◌∙◌}
 use mathlib.Core.Bool.{Bool, true, not}
-use borrow.Author.Tests.{not-true, not-false}
 use Rattle.definitions.proofs.Tests.{negated}
 use Rattle.lined_locations.specs.Line.{location_of}
 use Rattle.certificate.specs.Entries.{piece_end, lives_inside}
@@ -31,7 +30,7 @@ returns-then-not-group_apart c =
     let v = c.args.v in
     let e = c.group_end-e.result in
     none_met m v c.requires c.loop-i.i e c.group_end-e.ensures
-    (subst (λ (o : Bool). Apart o (location_of m v) (piece_end m v) c.loop-i.i e e v.count) (not-true c.group_apart.result c.if-not-group_apart.true) c.group_apart.ensures)
+    (subst (λ (o : Bool). Apart o (location_of m v) (piece_end m v) c.loop-i.i e e v.count) c.if-not-group_apart.true c.group_apart.ensures)
 
 pub loop-i-smaller-then-next_inside : goal.loop-i-smaller-then-next_inside
 loop-i-smaller-then-next_inside c = omega (arith, c.group_end-e.ensures.low, c.loop-i-test.true)
@@ -43,7 +42,7 @@ loop-i-preserved-then-next_inside c =
     let e = c.group_end-e.result in (
       c.group_end-e.ensures.high,
       none_on m v c.requires c.loop-i.i e c.group_end-e.ensures c.loop-i.invariant.1
-          (subst (λ (o : Bool). Apart o (location_of m v) (piece_end m v) c.loop-i.i e e v.count) (not-false c.group_apart.result c.if-not-group_apart.false) c.group_apart.ensures),
+          (subst (λ (o : Bool). Apart o (location_of m v) (piece_end m v) c.loop-i.i e e v.count) c.if-not-group_apart.false c.group_apart.ensures),
     )
 
 pub overflow_add-i : goal.overflow_add-i

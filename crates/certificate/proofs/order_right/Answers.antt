@@ -26,32 +26,32 @@ pub returns-then-not-entries_right : goal.returns-then-not-entries_right
 returns-then-not-entries_right c =
     entries_wrong c.args.mem.now (λ j. omega (arith, c.shared_slice_known-1.given j)) (header_of c.args.h) c.requires.0 c.requires.1 c.requires.2
     c.certificate_at-base.result c.filled-count.result c.certificate_at-base.ensures c.filled-count.ensures
-    c.entries_right.result c.entries_right.ensures (c.if-not-entries_right.true)
+    c.entries_right.result c.entries_right.ensures c.if-not-entries_right.true
 
 pub in_line-requires : goal.in_line-requires
 in_line-requires c =
     within c.args.mem.now (λ j. omega (arith, c.shared_slice_known-1.given j)) (header_of c.args.h) c.requires.0 c.requires.1 c.requires.2
     c.certificate_at-base.result c.filled-count.result c.certificate_at-base.ensures c.filled-count.ensures
-    c.entries_right.result c.entries_right.ensures (c.if-not-entries_right.false)
+    c.entries_right.result c.entries_right.ensures c.if-not-entries_right.false
 
 pub returns-then-not-in_line : goal.returns-then-not-in_line
 returns-then-not-in_line c =
     line_wrong c.args.mem.now (λ j. omega (arith, c.shared_slice_known-1.given j)) (header_of c.args.h) c.requires.0 c.requires.1 c.requires.2
     c.certificate_at-base.result c.filled-count.result c.certificate_at-base.ensures c.filled-count.ensures
-    c.entries_right.result c.entries_right.ensures (c.if-not-entries_right.false)
-    c.in_line.result c.in_line.ensures (c.if-not-in_line.true)
+    c.entries_right.result c.entries_right.ensures c.if-not-entries_right.false
+    c.in_line.result c.in_line.ensures c.if-not-in_line.true
 
 pub none_inside-requires : goal.none_inside-requires
 none_inside-requires c =
     inside c.args.mem.now (λ j. omega (arith, c.shared_slice_known-1.given j)) (header_of c.args.h) c.requires.0 c.requires.1 c.requires.2
     c.certificate_at-base.result c.filled-count.result c.certificate_at-base.ensures c.filled-count.ensures
-    c.entries_right.result c.entries_right.ensures (c.if-not-entries_right.false)
-    c.in_line.result c.in_line.ensures (c.if-not-in_line.false)
+    c.entries_right.result c.entries_right.ensures c.if-not-entries_right.false
+    c.in_line.result c.in_line.ensures c.if-not-in_line.false
 
 pub returns : goal.returns
 returns c =
     none_decides c.args.mem.now (λ j. omega (arith, c.shared_slice_known-1.given j)) (header_of c.args.h) c.requires.0 c.requires.1 c.requires.2
     c.certificate_at-base.result c.filled-count.result c.certificate_at-base.ensures c.filled-count.ensures
-    c.entries_right.result c.entries_right.ensures (c.if-not-entries_right.false)
-    c.in_line.result c.in_line.ensures (c.if-not-in_line.false)
+    c.entries_right.result c.entries_right.ensures c.if-not-entries_right.false
+    c.in_line.result c.in_line.ensures c.if-not-in_line.false
     c.none_inside.result c.none_inside.ensures

@@ -76,5 +76,5 @@ loop-j-preserved c =
 pub returns : goal.returns
 returns c =
     let a = c.args in
-    let z : c.loop-j.j ≡ a.e = omega (arith, c.loop-j.invariant.upto-end) in
+    let z : c.loop-j.j ≡ a.e = omega (arith, c.loop-j.invariant.upto_end) in
     subst (λ (j : ℕ). Meeting (location_of a.mem.now a.v) (piece_end a.mem.now a.v) a.i j a.g a.h → ⊥) z c.loop-j.invariant.none

@@ -23,10 +23,10 @@ take_both-r-requires c =
     (prefixes_within c.loop-node.invariant.parts there, chunks_within c.loop-node.invariant.parts there, (followed_taken c.loop-node.invariant start).valid)
 
 pub node_at-node-requires-in-loop-node : goal.node_at-node-requires-in-loop-node
-node_at-node-requires-in-loop-node c = standing_laid (follow_stands c.loop-node.invariant c.loop-node-test.true (ap entry_of_answer (sym c.slot-1.given.1) ∙ c.slot_in-slot.ensures) c.requires.0)
+node_at-node-requires-in-loop-node c = standing_laid (follow_stands c.loop-node.invariant c.loop-node-test.true (ap entry_of_answer (sym c.in-Taken.is) ∙ c.slot_in-slot.ensures) c.requires.0)
 
 pub overflow_sub-rest : goal.overflow_sub-rest
-overflow_sub-rest c = follow_level c.loop-node.invariant c.loop-node-test.true (ap entry_of_answer (sym c.slot-1.given.1) ∙ c.slot_in-slot.ensures) c.requires.0
+overflow_sub-rest c = follow_level c.loop-node.invariant c.loop-node-test.true (ap entry_of_answer (sym c.in-Taken.is) ∙ c.slot_in-slot.ensures) c.requires.0
 
 pub loop-node-smaller : goal.loop-node-smaller
 loop-node-smaller c =
@@ -36,5 +36,5 @@ loop-node-smaller c =
 
 pub loop-node-preserved : goal.loop-node-preserved
 loop-node-preserved c =
-    follow_next c.loop-node.invariant c.loop-node-test.true (ap entry_of_answer (sym c.slot-1.given.1) ∙ c.slot_in-slot.ensures) c.node_at-node-in-loop-node.ensures
+    follow_next c.loop-node.invariant c.loop-node-test.true (ap entry_of_answer (sym c.in-Taken.is) ∙ c.slot_in-slot.ensures) c.node_at-node-in-loop-node.ensures
     c.take_both-r.ensures

@@ -37,14 +37,14 @@ pub returns-in_default : goal.returns-in_default
 returns-in_default c =
     let args = c.args in
     let turn = c.loop-j in
-    let e = ap child_of_answer (sym c.enum_told-1.given.1) ∙ c.child_of.ensures in
+    let e = ap child_of_answer (sym c.in_default.is) ∙ c.child_of.ensures in
     progress_none args.img.now turn.invariant.3 (child_nothing turn.invariant.2 _ (path_next args.q.now args.i turn.j turn.invariant.0 turn.invariant.1) e)
 
 pub node_at-n-requires-in-loop-j : goal.node_at-n-requires-in-loop-j
 node_at-n-requires-in-loop-j c =
     let args = c.args in
     let turn = c.loop-j in
-    let e = ap child_of_answer (sym c.at-1.given.1) ∙ c.child_of.ensures in
+    let e = ap child_of_answer (sym c.in-At.is) ∙ c.child_of.ensures in
     laid_found (child_found turn.invariant.2 _ (path_next args.q.now args.i turn.j turn.invariant.0 turn.invariant.1) e)
 
 pub overflow_add-j-in-loop-j : goal.overflow_add-j-in-loop-j
@@ -54,7 +54,7 @@ pub join_behind-r-requires : goal.join_behind-r-requires
 join_behind-r-requires c =
     let args = c.args in
     let turn = c.loop-j in
-    let e = ap child_of_answer (sym c.at-1.given.1) ∙ c.child_of.ensures in
+    let e = ap child_of_answer (sym c.in-At.is) ∙ c.child_of.ensures in
     let w = child_found turn.invariant.2 _ (path_next args.q.now args.i turn.j turn.invariant.0 turn.invariant.1) e in
     let t = turn.invariant.3.taken in
     ((walked_ending (walked_at (take (turn.j + 1 - args.i) (drop args.i args.q.now)) c.node_at-n-in-loop-j.ensures w) c.requires.0).listed, c.requires.2, omega arith, omega arith, laid_taken args.i c.requires.3 t, t.valid, t.same_base)
@@ -63,7 +63,7 @@ pub loop-j-preserved : goal.loop-j-preserved
 loop-j-preserved c =
     let args = c.args in
     let turn = c.loop-j in
-    let e = ap child_of_answer (sym c.at-1.given.1) ∙ c.child_of.ensures in
+    let e = ap child_of_answer (sym c.in-At.is) ∙ c.child_of.ensures in
     let w = child_found turn.invariant.2 _ (path_next args.q.now args.i turn.j turn.invariant.0 turn.invariant.1) e in
     let stands = walked_at (take (turn.j + 1 - args.i) (drop args.i args.q.now)) c.node_at-n-in-loop-j.ensures w in
     let more : turn.j + 1 - args.i + 1 ≡ turn.j + 1 + 1 - args.i = omega arith in
@@ -78,19 +78,19 @@ pub returns-in_default-child_of : goal.returns-in_default-child_of
 returns-in_default-child_of c =
     let args = c.args in
     let turn = c.loop-j in
-    let e = ap child_of_answer (sym c.enum_told-in_default-child_of-1.given.1) ∙ c.child_of-2.ensures in
+    let e = ap child_of_answer (sym c.in_default-child_of.is) ∙ c.child_of-2.ensures in
     progress_none args.img.now turn.invariant.3 (child_nothing turn.invariant.2 _ (path_next args.q.now args.i turn.j turn.invariant.0 turn.invariant.1) e)
 
 pub find_beyond-requires : goal.find_beyond-requires
 find_beyond-requires c =
     let args = c.args in
     let turn = c.loop-j in
-    let e = ap child_of_answer (sym c.end-1.given.1) ∙ c.child_of-2.ensures in
+    let e = ap child_of_answer (sym c.in-At-child_of.is) ∙ c.child_of-2.ensures in
     (standing_found (child_found turn.invariant.2 _ (path_next args.q.now args.i turn.j turn.invariant.0 turn.invariant.1) e), turn.invariant.3.taken.valid)
 
 pub returns : goal.returns
 returns c =
     let args = c.args in
     let turn = c.loop-j in
-    let e = ap child_of_answer (sym c.end-1.given.1) ∙ c.child_of-2.ensures in
+    let e = ap child_of_answer (sym c.in-At-child_of.is) ∙ c.child_of-2.ensures in
     progress_end args.img.now turn.invariant.3 (child_found turn.invariant.2 _ (path_next args.q.now args.i turn.j turn.invariant.0 turn.invariant.1) e) (omega (arith, length-drop args.i args.q.now, c.loop-j-test.false)) c.find_beyond.ensures

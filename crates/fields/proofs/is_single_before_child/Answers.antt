@@ -13,4 +13,4 @@ pub returns-then-get64-flag : goal.returns-then-get64-flag
 returns-then-get64-flag c = not_so
 
 pub returns : goal.returns
-returns c = by_test _ 1 λ f. record { within = omega arith; head = c.is_single_without_lists.ensures (c.if-not-is_single_without_lists.false); offset = omega arith; flag = f }
+returns c = by_test _ 1 λ f. record { within = omega arith; head = c.is_single_without_lists.ensures c.if-not-is_single_without_lists.false; offset = omega arith; flag = f }

@@ -10,4 +10,4 @@ pub returns-then-suffixes-children : goal.returns-then-suffixes-children
 returns-then-suffixes-children c = not_so
 
 pub returns : goal.returns
-returns c = by_test c.get64-children.result 1 λ e. record { bare = c.is_bare.ensures (c.if-not-is_bare.false); suffixes = omega (arith, e); count = omega (arith, e) }
+returns c = by_test c.get64-children.result 1 λ e. record { bare = c.is_bare.ensures c.if-not-is_bare.false; suffixes = omega (arith, e); count = omega (arith, e) }

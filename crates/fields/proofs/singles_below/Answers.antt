@@ -11,7 +11,7 @@ pub returns-then-not-is_single_before_child : goal.returns-then-not-is_single_be
 returns-then-not-is_single_before_child c = c.loop-k.invariant
 
 pub loop-k-preserved : goal.loop-k-preserved
-loop-k-preserved c = run_more _ _ _ _ c.loop-k.invariant (omega arith) (c.is_single_before_child.ensures (c.if-not-is_single_before_child.false))
+loop-k-preserved c = run_more _ _ _ _ c.loop-k.invariant (omega arith) (c.is_single_before_child.ensures c.if-not-is_single_before_child.false)
 
 pub returns : goal.returns
 returns c = c.loop-k.invariant

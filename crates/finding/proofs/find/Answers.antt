@@ -8,23 +8,23 @@ use Rattle.finding.proofs.find.Goals as goal
 pub find_finished-requires : goal.find_finished-requires
 find_finished-requires c =
     let a = c.args in
-    let w = subst (Inspects a.mem.now) c.h-1.given.1 c.inspect.ensures in
+    let w = subst (Inspects a.mem.now) c.in-Finished.is c.inspect.ensures in
     w.told
 
 pub returns-in-Broken : goal.returns-in-Broken
 returns-in-Broken c =
     let a = c.args in
-    let w = subst (Inspects a.mem.now) c.enum_told-1.given.1 c.inspect.ensures in
+    let w = subst (Inspects a.mem.now) c.in-Broken.is c.inspect.ensures in
     finds a.mem.now a.q.now a.scratch.now _ _ w.holds (none_finds a.scratch.now (number index_rule_broken) refl c.no_rows.ensures)
 
 pub returns-in-Open : goal.returns-in-Open
 returns-in-Open c =
     let a = c.args in
-    let w = subst (Inspects a.mem.now) c.enum_told-in-Open-1.given.1 c.inspect.ensures in
+    let w = subst (Inspects a.mem.now) c.in-Open.is c.inspect.ensures in
     finds a.mem.now a.q.now a.scratch.now _ _ w.holds (none_finds a.scratch.now (number before_finish) refl c.no_rows-in-Open.ensures)
 
 pub returns-in-Finished : goal.returns-in-Finished
 returns-in-Finished c =
     let a = c.args in
-    let w = subst (Inspects a.mem.now) c.h-1.given.1 c.inspect.ensures in
+    let w = subst (Inspects a.mem.now) c.in-Finished.is c.inspect.ensures in
     finds a.mem.now a.q.now a.scratch.now _ _ w.holds c.find_finished.ensures

@@ -15,13 +15,13 @@ pub returns-then-byte-b : goal.returns-then-byte-b
 returns-then-byte-b c = λ e. not_so (sym c.no_leaf-then-byte-b.ensures.0 ∙ e)
 
 pub node_at-c-requires : goal.node_at-c-requires
-node_at-c-requires c = let a = c.args in only_laid a.s.now a.table _ (ap entry_of_answer (sym c.slot-1.given.1) ∙ c.slot_in-slot.ensures) c.requires.0
+node_at-c-requires c = let a = c.args in only_laid a.s.now a.table _ (ap entry_of_answer (sym c.in-Taken.is) ∙ c.slot_in-slot.ensures) c.requires.0
 
 pub returns-then-not-is_leaf : goal.returns-then-not-is_leaf
 returns-then-not-is_leaf c = λ e. not_so (sym c.no_leaf-then-not-is_leaf.ensures.0 ∙ e)
 
 pub node_at-f-requires : goal.node_at-f-requires
-node_at-f-requires c = let a = c.args in only_laid a.s.now a.other _ (ap entry_of_answer (sym c.front-1.given.1) ∙ c.slot_in-front.ensures) c.requires.1
+node_at-f-requires c = let a = c.args in only_laid a.s.now a.other _ (ap entry_of_answer (sym c.in-Taken-front.is) ∙ c.slot_in-front.ensures) c.requires.1
 
 pub returns-then-f-ne0 : goal.returns-then-f-ne0
 returns-then-f-ne0 c = λ e. not_so (sym c.no_leaf-then-f-ne0.ensures.0 ∙ e)
@@ -33,7 +33,7 @@ add_front-n-requires c =
     let p = c.before.before.before.before.before.before.before.before.before.before.before.before.before.before.before.before.before.before.requires in
     let m = c.before.before.before.before.before.before.node_at in
     let n = c.before.before.before.node-at2 in
-    let k = leaf_chunks a.s.now a.table a.other _ _ (ap entry_of_answer (sym c.before.before.before.before.before.before.before.before.before.before.before.before.before.slot.given.1) ∙ c.before.before.before.before.before.before.before.before.before.before.before.before.before.before.before.slot-in.ensures) (ap entry_of_answer (sym c.before.before.before.before.before.before.before.before.before.front.given.1) ∙ c.before.before.before.before.before.before.before.before.before.before.before.slot-in2.ensures) m.result n.result m.ensures n.ensures p.1 in
+    let k = leaf_chunks a.s.now a.table a.other _ _ (ap entry_of_answer (sym c.before.before.before.before.before.before.before.before.before.before.before.before.before.slot.given.1) ∙ c.before.before.before.before.before.before.before.before.before.before.before.before.before.before.before.slot_in.ensures) (ap entry_of_answer (sym c.before.before.before.before.before.before.before.before.before.front.given.1) ∙ c.before.before.before.before.before.before.before.before.before.before.before.slot-in2.ensures) m.result n.result m.ensures n.ensures p.1 in
     (omega (arith, p.2), omega (arith, k.0, c.before.before.before.before.before.before.before.before.before.before.before.before.before.before.before.before.before.before.well-formed.0), omega (arith, k.1, c.before.before.before.before.before.before.before.before.before.before.before.before.before.before.before.before.before.before.well-formed.0))
 
 pub is_union-requires : goal.is_union-requires
@@ -43,7 +43,7 @@ is_union-requires c =
     let m = c.node_at-c in
     let n = c.node_at-f in
     let d = c.add_front-n in
-    (leaf_prefixes a.s.now a.table a.other _ _ (ap entry_of_answer (sym c.slot-1.given.1) ∙ c.slot_in-slot.ensures) (ap entry_of_answer (sym c.front-1.given.1) ∙ c.slot_in-front.ensures) m.result n.result m.ensures n.ensures p.0, rw (d.ensures.0, d.ensures.1) (leaf_valid a.s.now a.table a.other _ _ (ap entry_of_answer (sym c.slot-1.given.1) ∙ c.slot_in-slot.ensures) (ap entry_of_answer (sym c.front-1.given.1) ∙ c.slot_in-front.ensures) m.result n.result m.ensures n.ensures a.lists.now (omega (arith, p.2)) p.1))
+    (leaf_prefixes a.s.now a.table a.other _ _ (ap entry_of_answer (sym c.in-Taken.is) ∙ c.slot_in-slot.ensures) (ap entry_of_answer (sym c.in-Taken-front.is) ∙ c.slot_in-front.ensures) m.result n.result m.ensures n.ensures p.0, rw (d.ensures.0, d.ensures.1) (leaf_valid a.s.now a.table a.other _ _ (ap entry_of_answer (sym c.in-Taken.is) ∙ c.slot_in-slot.ensures) (ap entry_of_answer (sym c.in-Taken-front.is) ∙ c.slot_in-front.ensures) m.result n.result m.ensures n.ensures a.lists.now (omega (arith, p.2)) p.1))
 
 pub returns : goal.returns
 returns c =
@@ -53,4 +53,4 @@ returns c =
     let n = c.node_at-f in
     let d = c.add_front-n in
     let u = c.is_union in
-    λ _. leaf_says a.s.now a.table a.other _ _ (ap entry_of_answer (sym c.slot-1.given.1) ∙ c.slot_in-slot.ensures) (ap entry_of_answer (sym c.front-1.given.1) ∙ c.slot_in-front.ensures) m.result n.result m.ensures n.ensures a.lists.now (omega (arith, p.2)) c.if-byte-b.false (leaf_parts _ (sym c.is_leaf.ensures ∙ c.if-not-is_leaf.false)) c.if-f-ne0.false u.result (rw (d.ensures.0, d.ensures.1) at u.ensures.says)
+    λ _. leaf_says a.s.now a.table a.other _ _ (ap entry_of_answer (sym c.in-Taken.is) ∙ c.slot_in-slot.ensures) (ap entry_of_answer (sym c.in-Taken-front.is) ∙ c.slot_in-front.ensures) m.result n.result m.ensures n.ensures a.lists.now (omega (arith, p.2)) c.if-byte-b.false (leaf_parts _ (sym c.is_leaf.ensures ∙ c.if-not-is_leaf.false)) c.if-f-ne0.false u.result (rw (d.ensures.0, d.ensures.1) at u.ensures.says)

@@ -31,26 +31,26 @@ pub returns-in-Block : goal.returns-in-Block
 returns-in-Block c =
     let f = c.read_form in
     let a = c.args in
-    let w = read_as a.line.now f.new.bytes f.ensures c.kind-1.given.1 in
+    let w = read_as a.line.now f.new.bytes f.ensures c.in-Block.is in
     line_by_form a.mem.now a.line.now (block_form f.new.bytes _ _ c.at_most-n.ensures w.0 _ _ _ _ _ c.new-l.ensures ∙ w.1) c.answer_block.ensures
 
 pub returns-in-Finish : goal.returns-in-Finish
 returns-in-Finish c =
     let f = c.read_form in
     let a = c.args in
-    let w = read_as a.line.now f.new.bytes f.ensures c.enum_told-1.given.1 in
+    let w = read_as a.line.now f.new.bytes f.ensures c.in-Finish.is in
     line_by_form a.mem.now a.line.now w.1 c.answer_finish.ensures
 
 pub returns-in-Find : goal.returns-in-Find
 returns-in-Find c =
     let f = c.read_form in
     let a = c.args in
-    let w = read_as a.line.now f.new.bytes f.ensures c.length-1.given.1 in
+    let w = read_as a.line.now f.new.bytes f.ensures c.in-Find.is in
     line_by_form a.mem.now a.line.now (find_form f.new.bytes _ _ c.at_most-n-in-Find.ensures w.0 ∙ w.1) c.answer_find.ensures
 
 pub returns-in-Bad : goal.returns-in-Bad
 returns-in-Bad c =
     let f = c.read_form in
     let a = c.args in
-    let w = read_as a.line.now f.new.bytes f.ensures c.enum_told-in-Bad-1.given.1 in
+    let w = read_as a.line.now f.new.bytes f.ensures c.in-Bad.is in
     line_by_form a.mem.now a.line.now w.1 (answered_refused 17 refl c.put_refused.ensures refl)

@@ -11,10 +11,10 @@ pub returns-in-Done : goal.returns-in-Done
 returns-in-Done c =
     let k = c.finish in
     let a = c.args in
-    answered_one finished (was_finished (finish_memory a.mem.now).refusal (finished ∷ []) (sym c.enum_told-1.given.1 ∙ k.ensures.answer)) (omega arith) c.put_finished.ensures k.ensures.memory
+    answered_one finished (was_finished (finish_memory a.mem.now).refusal (finished ∷ []) (sym c.in-Done.is ∙ k.ensures.answer)) (omega arith) c.put_finished.ensures k.ensures.memory
 
 pub returns-in-Refused : goal.returns-in-Refused
 returns-in-Refused c =
     let k = c.finish in
     let a = c.args in
-    answered_refused _ (not_finished (finish_memory a.mem.now).refusal _ (finished ∷ []) (sym c.n-1.given.1 ∙ k.ensures.answer)) c.put_refused.ensures k.ensures.memory
+    answered_refused _ (not_finished (finish_memory a.mem.now).refusal _ (finished ∷ []) (sym c.in-Refused.is ∙ k.ensures.answer)) c.put_refused.ensures k.ensures.memory

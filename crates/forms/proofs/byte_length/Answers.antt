@@ -4,4 +4,4 @@ use Rattle.forms.specs.Answers.{byte_count}
 use Rattle.forms.proofs.byte_length.Goals as goal
 
 pub returns-in-Block : goal.returns-in-Block
-returns-in-Block c = sym (ap byte_count c.f-1.given.1)
+returns-in-Block c = sym (ap byte_count c.in-Block.is)

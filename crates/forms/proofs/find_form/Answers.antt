@@ -8,9 +8,9 @@ use Rattle.forms.proofs.find_form.Goals as goal
 pub returns-in_default : goal.returns-in_default
 returns-in_default c =
     let a = c.args in
-    find_bad (last_bytes (drop a.at a.line.now)) (sym c.enum_told-1.given.1 ∙ c.count_bytes-n.ensures)
+    find_bad (last_bytes (drop a.at a.line.now)) (sym c.in_default.is ∙ c.count_bytes-n.ensures)
 
 pub returns : goal.returns
 returns c =
     let a = c.args in
-    find_good (last_bytes (drop a.at a.line.now)) c.n-1.given.0.0 (sym c.n-1.given.1 ∙ c.count_bytes-n.ensures)
+    find_good (last_bytes (drop a.at a.line.now)) c.in-Bytes.length (sym c.in-Bytes.is ∙ c.count_bytes-n.ensures)

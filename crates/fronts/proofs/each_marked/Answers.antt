@@ -1,7 +1,6 @@
 -- `fronts::each_marked` meets its contract: the fronts ahead decide. Assumes nothing.
 use Prim.Native.Nat.{◌-◌}
 use native.Mathlib.Omega.{arith}
-use borrow.Author.Tests.{not-true, not-false}
 use Rattle.fronts.specs.Marks.{MarksOf}
 use Rattle.fronts.proofs.WithinLaws.{passing_start, passing_table, passing_lost, passing_on, passing_done}
 use Rattle.fronts.proofs.each_marked.Goals as goal
@@ -20,7 +19,7 @@ returns-then-not-table_marked c =
     let a = c.args in
     let o = c.loop-i in
     let f = c.table_marked in
-    passing_lost a.s.now (MarksOf a.has.now) a.fronts.now a.from a.count o.i o.invariant c.loop-i-test.true f.result f.ensures (not-true f.result c.if-not-table_marked.true)
+    passing_lost a.s.now (MarksOf a.has.now) a.fronts.now a.from a.count o.i o.invariant c.loop-i-test.true f.result f.ensures c.if-not-table_marked.true
 
 pub loop-i-smaller : goal.loop-i-smaller
 loop-i-smaller c = omega (arith, c.loop-i-test.true)
@@ -30,7 +29,7 @@ loop-i-preserved c =
     let a = c.args in
     let o = c.loop-i in
     let f = c.table_marked in
-    passing_on a.s.now (MarksOf a.has.now) a.fronts.now a.from a.count o.i o.invariant c.loop-i-test.true f.result f.ensures (not-false f.result c.if-not-table_marked.false)
+    passing_on a.s.now (MarksOf a.has.now) a.fronts.now a.from a.count o.i o.invariant c.loop-i-test.true f.result f.ensures c.if-not-table_marked.false
 
 pub returns : goal.returns
 returns c =

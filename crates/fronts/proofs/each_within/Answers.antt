@@ -2,7 +2,6 @@
 use Prim.Native.Nat.{◌-◌}
 use native.Mathlib.Omega.{arith}
 use mathlib.Core.Bool.{true, false}
-use borrow.Author.Tests.{not-true, not-false}
 use Rattle.fronts.proofs.WithinLaws.{Led, led_within, led_fronts, passing_start, passing_table, passing_lost, passing_on, passing_done}
 use Rattle.fronts.proofs.each_within.Goals as goal
 
@@ -20,7 +19,7 @@ returns-then-not-table_within c =
     let a = c.args in
     let o = c.loop-i in
     let f = c.table_within in
-    led_fronts a.s.now a.table a.children a.fronts.now a.from a.count false (passing_lost a.s.now (Led a.s.now a.table a.children) a.fronts.now a.from a.count o.i o.invariant c.loop-i-test.true f.result (led_within a.s.now a.table a.children _ _ f.result f.ensures) (not-true f.result c.if-not-table_within.true))
+    led_fronts a.s.now a.table a.children a.fronts.now a.from a.count false (passing_lost a.s.now (Led a.s.now a.table a.children) a.fronts.now a.from a.count o.i o.invariant c.loop-i-test.true f.result (led_within a.s.now a.table a.children _ _ f.result f.ensures) c.if-not-table_within.true)
 
 pub loop-i-smaller : goal.loop-i-smaller
 loop-i-smaller c = omega (arith, c.loop-i-test.true)
@@ -30,7 +29,7 @@ loop-i-preserved c =
     let a = c.args in
     let o = c.loop-i in
     let f = c.table_within in
-    passing_on a.s.now (Led a.s.now a.table a.children) a.fronts.now a.from a.count o.i o.invariant c.loop-i-test.true f.result (led_within a.s.now a.table a.children _ _ f.result f.ensures) (not-false f.result c.if-not-table_within.false)
+    passing_on a.s.now (Led a.s.now a.table a.children) a.fronts.now a.from a.count o.i o.invariant c.loop-i-test.true f.result (led_within a.s.now a.table a.children _ _ f.result f.ensures) c.if-not-table_within.false
 
 pub returns : goal.returns
 returns c =

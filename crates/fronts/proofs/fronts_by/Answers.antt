@@ -2,7 +2,6 @@
 use Prim.Native.Nat.{◌+◌, ◌*◌, ◌-◌}
 use native.Mathlib.Omega.{arith}
 use mathlib.Core.Path.{sym, ap, ◌∙◌}
-use borrow.Author.Tests.{not-false}
 use Rattle.image_walk.specs.Answers.{child_of_answer}
 use Rattle.fronts.proofs.MaskLaws.{absent}
 use Rattle.node_rule.proofs.TwoLists.{length_two}
@@ -54,7 +53,7 @@ node_at-n-requires c =
     let a = c.args in
     let o = c.loop-i in
     let l = c.loop-i-test.true in
-    let q = ap child_of_answer (sym c.c-1.given.1) ∙ c.child_in-c.ensures ∙ finding_read a.s.now a.byte (a.depth * 768) ((a.depth + 1) * 768) a.fronts.now a.count o.i o.fronts o.met o.lists o.listed o.invariant.0 l (omega (arith, c.requires.0.is.few)) in
+    let q = ap child_of_answer (sym c.in-At.is) ∙ c.child_in-c.ensures ∙ finding_read a.s.now a.byte (a.depth * 768) ((a.depth + 1) * 768) a.fronts.now a.count o.i o.fronts o.met o.lists o.listed o.invariant.0 l (omega (arith, c.requires.0.is.few)) in
     finding_laid a.s.now a.byte (a.depth * 768) ((a.depth + 1) * 768) a.fronts.now a.count o.i o.fronts o.met o.lists o.listed o.invariant.0 l _ q c.requires.0
 
 pub mask_of-mask-requires : goal.mask_of-mask-requires
@@ -63,20 +62,20 @@ mask_of-mask-requires c =
     let o = c.loop-i in
     let l = c.loop-i-test.true in
     let n = c.node_at-n in
-    let q = ap child_of_answer (sym c.c-1.given.1) ∙ c.child_in-c.ensures ∙ finding_read a.s.now a.byte (a.depth * 768) ((a.depth + 1) * 768) a.fronts.now a.count o.i o.fronts o.met o.lists o.listed o.invariant.0 l (omega (arith, c.requires.0.is.few)) in
+    let q = ap child_of_answer (sym c.in-At.is) ∙ c.child_in-c.ensures ∙ finding_read a.s.now a.byte (a.depth * 768) ((a.depth + 1) * 768) a.fronts.now a.count o.i o.fronts o.met o.lists o.listed o.invariant.0 l (omega (arith, c.requires.0.is.few)) in
     finding_leads a.s.now a.byte (a.depth * 768) ((a.depth + 1) * 768) a.fronts.now a.count o.i o.fronts o.met o.lists o.listed o.invariant.0 l _ q n.result n.ensures c.requires.0
 
 pub overflow_mul-met : goal.overflow_mul-met
-overflow_mul-met c = omega (arith, c.requires.0.is.few, c.loop-i.invariant.0.met-few, c.loop-i-test.true)
+overflow_mul-met c = omega (arith, c.requires.0.is.few, c.loop-i.invariant.0.met_few, c.loop-i-test.true)
 
 pub overflow_add-to-in-At : goal.overflow_add-to-in-At
-overflow_add-to-in-At c = omega (arith, c.requires.0.is.few, c.loop-i.invariant.0.met-few, c.loop-i-test.true)
+overflow_add-to-in-At c = omega (arith, c.requires.0.is.few, c.loop-i.invariant.0.met_few, c.loop-i-test.true)
 
 pub put_front-requires : goal.put_front-requires
-put_front-requires c = omega (arith, c.requires.0.is.few, c.loop-i.invariant.0.met-few, c.loop-i-test.true, c.requires.1, c.requires.2, c.loop-i.invariant.0.kept.same_length)
+put_front-requires c = omega (arith, c.requires.0.is.few, c.loop-i.invariant.0.met_few, c.loop-i-test.true, c.requires.1, c.requires.2, c.loop-i.invariant.0.kept.same_length)
 
 pub overflow_add-met : goal.overflow_add-met
-overflow_add-met c = omega (arith, c.requires.0.is.few, c.loop-i.invariant.0.met-few, c.loop-i-test.true)
+overflow_add-met c = omega (arith, c.requires.0.is.few, c.loop-i.invariant.0.met_few, c.loop-i-test.true)
 
 pub add_front-listed-requires : goal.add_front-listed-requires
 add_front-listed-requires c =
@@ -86,9 +85,9 @@ add_front-listed-requires c =
     let o = c.before.before.before.before.before.before.before.before.before.before.before.before.before.before.before.before.before.loop in
     let l = c.before.before.before.before.before.before.before.before.before.before.before.before.before.before.before.before.loop-test.true in
     let n = c.before.before.before.before.before.before.node_at in
-    let q = ap child_of_answer (sym c.before.before.before.before.before.before.before.before.c.given.1) ∙ c.before.before.before.before.before.before.before.before.before.before.child-in.ensures ∙ finding_read a.s.now a.byte (a.depth * 768) ((a.depth + 1) * 768) a.fronts.now a.count o.i o.fronts o.met o.lists o.listed o.invariant.0 l (omega (arith, u.requires.0.is.few)) in
+    let q = ap child_of_answer (sym c.before.before.before.before.before.before.before.before.c.given.1) ∙ c.before.before.before.before.before.before.before.before.before.before.child_in.ensures ∙ finding_read a.s.now a.byte (a.depth * 768) ((a.depth + 1) * 768) a.fronts.now a.count o.i o.fronts o.met o.lists o.listed o.invariant.0 l (omega (arith, u.requires.0.is.few)) in
     let p = (finding_parts a.s.now a.byte (a.depth * 768) ((a.depth + 1) * 768) a.fronts.now a.count o.i o.fronts o.met o.lists o.listed o.invariant.0 l _ q n.result n.ensures u.requires.0).is in
-    (omega (arith, u.requires.0.is.few, o.invariant.0.met-few, o.invariant.0.few, l, u.requires.3, o.invariant.1), omega (arith, p.chunks-in, u.well-formed.0), omega (arith, p.prefixes-in, u.well-formed.0))
+    (omega (arith, u.requires.0.is.few, o.invariant.0.met_few, o.invariant.0.few, l, u.requires.3, o.invariant.1), omega (arith, p.chunks_in, u.well-formed.0), omega (arith, p.prefixes_in, u.well-formed.0))
 
 pub loop-i-smaller-in-At : goal.loop-i-smaller-in-At
 loop-i-smaller-in-At c = omega (arith, c.loop-i-test.true)
@@ -100,12 +99,12 @@ loop-i-preserved-in-At c =
     let l = c.loop-i-test.true in
     let m = c.mask_of-mask in
     let n = c.node_at-n in
-    let q = ap child_of_answer (sym c.c-1.given.1) ∙ c.child_in-c.ensures ∙ finding_read a.s.now a.byte (a.depth * 768) ((a.depth + 1) * 768) a.fronts.now a.count o.i o.fronts o.met o.lists o.listed o.invariant.0 l (omega (arith, c.requires.0.is.few, l)) in
+    let q = ap child_of_answer (sym c.in-At.is) ∙ c.child_in-c.ensures ∙ finding_read a.s.now a.byte (a.depth * 768) ((a.depth + 1) * 768) a.fronts.now a.count o.i o.fronts o.met o.lists o.listed o.invariant.0 l (omega (arith, c.requires.0.is.few, l)) in
     let f = c.add_front-listed in
     let g = c.put_front in
     let room = o.invariant.0.kept.same_length in
-    let w = finding_some a.s.now a.byte (a.depth * 768) ((a.depth + 1) * 768) a.fronts.now a.count o.i o.fronts o.met o.lists o.listed o.invariant.0 l _ q n.result n.ensures m.result c.requires.0 m.ensures (omega (arith, c.requires.0.is.few, o.invariant.0.met-few, o.invariant.0.few, l, c.requires.3, o.invariant.1))
-    (omega (arith, c.requires.0.is.few, o.invariant.0.met-few, l, c.requires.1, c.requires.2, room)) in
+    let w = finding_some a.s.now a.byte (a.depth * 768) ((a.depth + 1) * 768) a.fronts.now a.count o.i o.fronts o.met o.lists o.listed o.invariant.0 l _ q n.result n.ensures m.result c.requires.0 m.ensures (omega (arith, c.requires.0.is.few, o.invariant.0.met_few, o.invariant.0.few, l, c.requires.3, o.invariant.1))
+    (omega (arith, c.requires.0.is.few, o.invariant.0.met_few, l, c.requires.1, c.requires.2, room)) in
     let k = length_two o.lists o.listed n.result.chunks n.result.chunk_count n.result.prefixes n.result.prefix_count in
     rw (g.ensures, f.ensures.0, f.ensures.1) (w, k ∙ o.invariant.1)
 
@@ -114,7 +113,7 @@ loop-i-preserved-in_default c =
     let a = c.args in
     let o = c.loop-i in
     let l = c.loop-i-test.true in
-    let q = ap child_of_answer (sym c.enum_told-1.given.1) ∙ c.child_in-c.ensures ∙ finding_read a.s.now a.byte (a.depth * 768) ((a.depth + 1) * 768) a.fronts.now a.count o.i o.fronts o.met o.lists o.listed o.invariant.0 l (omega (arith, c.requires.0.is.few)) in
+    let q = ap child_of_answer (sym c.in_default.is) ∙ c.child_in-c.ensures ∙ finding_read a.s.now a.byte (a.depth * 768) ((a.depth + 1) * 768) a.fronts.now a.count o.i o.fronts o.met o.lists o.listed o.invariant.0 l (omega (arith, c.requires.0.is.few)) in
     (finding_none a.s.now a.byte (a.depth * 768) ((a.depth + 1) * 768) a.fronts.now a.count o.i o.fronts o.met o.lists o.listed o.invariant.0 l q, o.invariant.1)
 
 pub loop-i-preserved : goal.loop-i-preserved
@@ -123,7 +122,7 @@ loop-i-preserved c =
     let o = c.loop-i in
     let l = c.loop-i-test.true in
     let x = c.is_absent in
-    (finding_absent a.s.now a.byte (a.depth * 768) ((a.depth + 1) * 768) a.fronts.now a.count o.i o.fronts o.met o.lists o.listed o.invariant.0 l (omega (arith, c.requires.0.is.few, l)) (absent _ _ (sym x.ensures ∙ not-false x.result c.if-not-is_absent.false)), o.invariant.1)
+    (finding_absent a.s.now a.byte (a.depth * 768) ((a.depth + 1) * 768) a.fronts.now a.count o.i o.fronts o.met o.lists o.listed o.invariant.0 l (omega (arith, c.requires.0.is.few, l)) (absent _ _ (sym x.ensures ∙ c.if-not-is_absent.false)), o.invariant.1)
 
 pub returns : goal.returns
 returns c =

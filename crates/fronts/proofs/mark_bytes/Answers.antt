@@ -25,16 +25,16 @@ pub loop-j-preserved-in-Taken : goal.loop-j-preserved-in-Taken
 loop-j-preserved-in-Taken c =
     let a = c.args in
     let o = c.loop-j in
-    let e = ap entry_of_answer (sym c.slot-1.given.1) ∙ c.slot_in-slot.ensures in (
+    let e = ap entry_of_answer (sym c.in-Taken.is) ∙ c.slot_in-slot.ensures in (
       marking_add a.s.now a.table a.children o.j o.has o.invariant.0 c.loop-j-test.true _ e (omega (arith, o.invariant.1, c.requires.1)),
-      length-set o.has c.slot-1.given.0.0 1 ∙ o.invariant.1,
+      length-set o.has c.in-Taken.byte 1 ∙ o.invariant.1,
     )
 
 pub loop-j-preserved : goal.loop-j-preserved
 loop-j-preserved c =
     let a = c.args in
     let o = c.loop-j in
-    let e = ap entry_of_answer (sym c.enum_told-1.given.1) ∙ c.slot_in-slot.ensures in
+    let e = ap entry_of_answer (sym c.in_default.is) ∙ c.slot_in-slot.ensures in
     (marking_skip a.s.now a.table a.children o.j o.has o.invariant.0 c.loop-j-test.true e, o.invariant.1)
 
 pub returns : goal.returns

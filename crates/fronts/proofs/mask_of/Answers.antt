@@ -21,13 +21,13 @@ loop-j-smaller-in-Taken c = omega (arith, c.loop-j-test.true)
 pub loop-j-preserved-in-Taken : goal.loop-j-preserved-in-Taken
 loop-j-preserved-in-Taken c =
     let o = c.loop-j in
-    let e = ap entry_of_answer (sym c.slot-1.given.1) ∙ c.slot_in-slot.ensures in
+    let e = ap entry_of_answer (sym c.in-Taken.is) ∙ c.slot_in-slot.ensures in
     masking_add _ _ _ o.j o.mask o.invariant c.loop-j-test.true _ e _ (adds_byte _ _ _ c.with_byte-mask.ensures)
 
 pub loop-j-preserved : goal.loop-j-preserved
 loop-j-preserved c =
     let o = c.loop-j in
-    let e = ap entry_of_answer (sym c.enum_told-1.given.1) ∙ c.slot_in-slot.ensures in
+    let e = ap entry_of_answer (sym c.in_default.is) ∙ c.slot_in-slot.ensures in
     masking_skip _ _ _ o.j o.mask o.invariant c.loop-j-test.true e
 
 pub returns : goal.returns

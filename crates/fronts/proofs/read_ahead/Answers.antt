@@ -52,7 +52,7 @@ loop-i-preserved-in-At c =
     let a = c.args in
     let l = c.loop-i in
     let on = c.loop-i-test.true in
-    let q = ap child_of_answer (sym c.c-1.given.1) ∙ c.child_in-c.ensures in
+    let q = ap child_of_answer (sym c.in-At.is) ∙ c.child_in-c.ensures in
     let n = length a.s.now / a.count / a.count in
     (l.invariant.0, l.invariant.1, l.invariant.2, fronts_some a.s.now a.byte a.fronts.now n a.count l.i l.sum _ c.read_part-sum-in-At.result on q c.read_part-sum-in-At.ensures ∙ l.invariant.3)
 
@@ -64,7 +64,7 @@ loop-i-preserved c =
     let a = c.args in
     let l = c.loop-i in
     let on = c.loop-i-test.true in
-    let q = ap child_of_answer (sym c.enum_told-1.given.1) ∙ c.child_in-c.ensures in
+    let q = ap child_of_answer (sym c.in_default.is) ∙ c.child_in-c.ensures in
     let n = length a.s.now / a.count / a.count in
     (l.invariant.0, l.invariant.1, l.invariant.2, fronts_none a.s.now a.byte a.fronts.now n a.count l.i l.sum on q ∙ l.invariant.3)
 

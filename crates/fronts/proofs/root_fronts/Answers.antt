@@ -17,14 +17,14 @@ pub node_at-c-requires : goal.node_at-c-requires
 node_at-c-requires c =
     let a = c.args in
     let o = c.loop-j in
-    let e = ap entry_of_answer (sym c.slot-1.given.1) ∙ c.slot_in-slot.ensures in
+    let e = ap entry_of_answer (sym c.in-Taken.is) ∙ c.slot_in-slot.ensures in
     putting_laid a.s.now a.table a.children o.j o.fronts o.count o.invariant.0 (omega arith) _ e c.requires.0
 
 pub mask_of-mask-requires : goal.mask_of-mask-requires
 mask_of-mask-requires c =
     let a = c.args in
     let o = c.loop-j in
-    let e = ap entry_of_answer (sym c.slot-1.given.1) ∙ c.slot_in-slot.ensures in
+    let e = ap entry_of_answer (sym c.in-Taken.is) ∙ c.slot_in-slot.ensures in
     let n = c.node_at-c in
     putting_table a.s.now a.table a.children o.j o.fronts o.count o.invariant.0 c.loop-j-test.true _ e c.requires.0 n.result n.ensures
 
@@ -45,7 +45,7 @@ loop-j-preserved-in-Taken c =
     let a = c.args in
     let o = c.loop-j in
     let l = c.loop-j-test.true in
-    let e = ap entry_of_answer (sym c.slot-1.given.1) ∙ c.slot_in-slot.ensures in
+    let e = ap entry_of_answer (sym c.in-Taken.is) ∙ c.slot_in-slot.ensures in
     let n = c.node_at-c in
     let m = c.requires.0.is.most in
     let w = putting_add a.s.now a.table a.children o.j o.fronts o.count o.invariant.0 l _ e (omega (arith, o.invariant.0.few, c.requires.1, o.invariant.1)) n.result n.ensures c.mask_of-mask.result c.mask_of-mask.ensures in
@@ -55,7 +55,7 @@ pub loop-j-preserved : goal.loop-j-preserved
 loop-j-preserved c =
     let a = c.args in
     let o = c.loop-j in
-    let e = ap entry_of_answer (sym c.enum_told-1.given.1) ∙ c.slot_in-slot.ensures in
+    let e = ap entry_of_answer (sym c.in_default.is) ∙ c.slot_in-slot.ensures in
     (putting_skip a.s.now a.table a.children o.j o.fronts o.count o.invariant.0 c.loop-j-test.true e, o.invariant.1)
 
 pub returns : goal.returns

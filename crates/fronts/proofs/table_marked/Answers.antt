@@ -21,7 +21,7 @@ pub returns-then-has-byte-eq0 : goal.returns-then-has-byte-eq0
 returns-then-has-byte-eq0 c =
     let a = c.args in
     let o = c.loop-j in
-    let e = ap entry_of_answer (sym c.slot-1.given.1) ∙ c.slot_in-slot.ensures in
+    let e = ap entry_of_answer (sym c.in-Taken.is) ∙ c.slot_in-slot.ensures in
     checking_lost a.s.now (MarksOf a.has.now) a.other a.others o.j o.invariant c.loop-j-test.true _ e (mark_lost a.has.now _ c.if-has-byte-eq0.true)
 
 pub loop-j-smaller-else-has-byte-eq0 : goal.loop-j-smaller-else-has-byte-eq0
@@ -31,14 +31,14 @@ pub loop-j-preserved-else-has-byte-eq0 : goal.loop-j-preserved-else-has-byte-eq0
 loop-j-preserved-else-has-byte-eq0 c =
     let a = c.args in
     let o = c.loop-j in
-    let e = ap entry_of_answer (sym c.slot-1.given.1) ∙ c.slot_in-slot.ensures in
+    let e = ap entry_of_answer (sym c.in-Taken.is) ∙ c.slot_in-slot.ensures in
     checking_met a.s.now (MarksOf a.has.now) a.other a.others o.j o.invariant c.loop-j-test.true _ e (mark_met a.has.now _ c.if-has-byte-eq0.false)
 
 pub loop-j-preserved : goal.loop-j-preserved
 loop-j-preserved c =
     let a = c.args in
     let o = c.loop-j in
-    let e = ap entry_of_answer (sym c.enum_told-1.given.1) ∙ c.slot_in-slot.ensures in
+    let e = ap entry_of_answer (sym c.in_default.is) ∙ c.slot_in-slot.ensures in
     checking_skip a.s.now (MarksOf a.has.now) a.other a.others o.j o.invariant c.loop-j-test.true e
 
 pub returns : goal.returns

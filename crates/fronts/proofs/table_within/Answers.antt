@@ -23,23 +23,23 @@ pub loop-j-preserved-in-At-1 : goal.loop-j-preserved-in-At-1
 loop-j-preserved-in-At-1 c =
     let a = c.args in
     let o = c.loop-j in
-    let e = ap entry_of_answer (sym c.slot-1.given.1) ∙ c.slot_in-slot.ensures in
-    let f = ap child_of_answer (sym c.enum_told-1.given.1) ∙ c.child_in-c.ensures in
+    let e = ap entry_of_answer (sym c.in-Taken.is) ∙ c.slot_in-slot.ensures in
+    let f = ap child_of_answer (sym c.in-At.is) ∙ c.child_in-c.ensures in
     checking_met a.s.now (Led a.s.now a.table a.children) a.other a.others o.j o.invariant c.loop-j-test.true _ e (led_met a.s.now a.table a.children _ _ f)
 
 pub returns-in_default-c : goal.returns-in_default-c
 returns-in_default-c c =
     let a = c.args in
     let o = c.loop-j in
-    let e = ap entry_of_answer (sym c.slot-1.given.1) ∙ c.slot_in-slot.ensures in
-    let f = ap child_of_answer (sym c.enum_told-in_default-c-1.given.1) ∙ c.child_in-c.ensures in
+    let e = ap entry_of_answer (sym c.in-Taken.is) ∙ c.slot_in-slot.ensures in
+    let f = ap child_of_answer (sym c.in_default-c.is) ∙ c.child_in-c.ensures in
     led_says a.s.now a.table a.children a.other a.others false (checking_lost a.s.now (Led a.s.now a.table a.children) a.other a.others o.j o.invariant c.loop-j-test.true _ e (led_lost a.s.now a.table a.children _ f))
 
 pub loop-j-preserved : goal.loop-j-preserved
 loop-j-preserved c =
     let a = c.args in
     let o = c.loop-j in
-    let e = ap entry_of_answer (sym c.enum_told-in_default-1.given.1) ∙ c.slot_in-slot.ensures in
+    let e = ap entry_of_answer (sym c.in_default.is) ∙ c.slot_in-slot.ensures in
     checking_skip a.s.now (Led a.s.now a.table a.children) a.other a.others o.j o.invariant c.loop-j-test.true e
 
 pub returns : goal.returns

@@ -41,12 +41,12 @@ pub returns-in-End : goal.returns-in-End
 returns-in-End c =
     let f = c.read_block in
     let a = c.args in
-    let e = subst (λ (x : Answer). read_of a.s.now x ≡ read_block a.s.now a.at) c.enum_told-1.given.1 f.ensures.means in
+    let e = subst (λ (x : Answer). read_of a.s.now x ≡ read_block a.s.now a.at) c.in-End.is f.ensures.means in
     record { answer = ap stream_number e; fields = ap (λ (x : Read). with_fields x a.fields.now) e }
 
 pub returns-in-Refused : goal.returns-in-Refused
 returns-in-Refused c =
     let f = c.read_block in
     let a = c.args in
-    let e = subst (λ (x : Answer). read_of a.s.now x ≡ read_block a.s.now a.at) c.n-1.given.1 f.ensures.means in
+    let e = subst (λ (x : Answer). read_of a.s.now x ≡ read_block a.s.now a.at) c.in-Refused.is f.ensures.means in
     record { answer = ap stream_number e; fields = ap (λ (x : Read). with_fields x a.fields.now) e }

@@ -8,7 +8,7 @@ pub returns-in-Bytes : goal.returns-in-Bytes
 returns-in-Bytes c =
     let a = c.args in
     let r = c.save in
-    let x = sym c.n-1.given.1 ∙ r.ensures.answer in
+    let x = sym c.in-Bytes.is ∙ r.ensures.answer in
     let back = saved_back _ _ a.size.now in
     (ap saved_number x ∙ back.0, (r.ensures.buffer, ap (λ (y : Saved). size_after y a.size.now) x ∙ back.1))
 
@@ -16,6 +16,6 @@ pub returns-in-Refused : goal.returns-in-Refused
 returns-in-Refused c =
     let a = c.args in
     let r = c.save in
-    let x = sym c.n-in-Refused-1.given.1 ∙ r.ensures.answer in
+    let x = sym c.in-Refused.is ∙ r.ensures.answer in
     let back = saved_back _ _ a.size.now in
     (ap saved_number x ∙ back.0, (r.ensures.buffer, ap (λ (y : Saved). size_after y a.size.now) x ∙ back.1))

@@ -2,7 +2,6 @@
 use Prim.Native.Nat.{◌-◌}
 use native.Mathlib.Omega.{arith}
 use mathlib.Core.Path.{sym, ap, ◌∙◌}
-use borrow.Author.Tests.{not-true, not-false}
 use Rattle.definitions.specs.Location.{Location, locations_in}
 use Rattle.location.specs.Plain.{plain}
 use Rattle.lined_locations.specs.Line.{location_of}
@@ -34,7 +33,7 @@ returns-then-not-is_clear c =
     let l = c.loop-j in
     let r = c.is_clear in
     let x = c.location_at-x in
-    sym (clear_not (location_of a.s.now a.v) a.v.count a.m a.s.now a.base a.count l.j c.loop-j-test.true (plain x.result) x.ensures r.result r.ensures (not-true r.result c.if-not-is_clear.true)) ∙ l.invariant.1
+    sym (clear_not (location_of a.s.now a.v) a.v.count a.m a.s.now a.base a.count l.j c.loop-j-test.true (plain x.result) x.ensures r.result r.ensures c.if-not-is_clear.true) ∙ l.invariant.1
 
 pub loop-j-preserved : goal.loop-j-preserved
 loop-j-preserved c =
@@ -42,7 +41,7 @@ loop-j-preserved c =
     let l = c.loop-j in
     let r = c.is_clear in
     let x = c.location_at-x in
-    (omega arith, clear_on (location_of a.s.now a.v) a.v.count a.m a.s.now a.base a.count l.j c.loop-j-test.true (plain x.result) x.ensures r.result r.ensures (not-false r.result c.if-not-is_clear.false) ∙ l.invariant.1)
+    (omega arith, clear_on (location_of a.s.now a.v) a.v.count a.m a.s.now a.base a.count l.j c.loop-j-test.true (plain x.result) x.ensures r.result r.ensures c.if-not-is_clear.false ∙ l.invariant.1)
 
 pub returns : goal.returns
 returns c =

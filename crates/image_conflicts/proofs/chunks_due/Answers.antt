@@ -1,5 +1,4 @@
 -- `image_conflicts::chunks_due` meets its contract: no more than are due, and all clear. Assumes nothing.
-use borrow.Author.Tests.{not-true, not-false}
 use Rattle.lined_locations.specs.Line.{location_of}
 use Rattle.image_conflicts.proofs.Chunks.{due_over, due_struck, due_left}
 use Rattle.image_conflicts.proofs.chunks_due.Goals as goal
@@ -13,10 +12,10 @@ pub returns-then-not-all_clear : goal.returns-then-not-all_clear
 returns-then-not-all_clear c =
     let a = c.args in
     let r = c.all_clear in
-    due_struck (location_of a.s.now a.v) a.v.count a.m a.s.now a.n.chunks a.n.chunk_count a.due c.if-due-n.false r.result r.ensures (not-true r.result c.if-not-all_clear.true)
+    due_struck (location_of a.s.now a.v) a.v.count a.m a.s.now a.n.chunks a.n.chunk_count a.due c.if-due-n.false r.result r.ensures c.if-not-all_clear.true
 
 pub returns : goal.returns
 returns c =
     let a = c.args in
     let r = c.all_clear in
-    due_left (location_of a.s.now a.v) a.v.count a.m a.s.now a.n.chunks a.n.chunk_count a.due c.if-due-n.false r.result r.ensures (not-false r.result c.if-not-all_clear.false)
+    due_left (location_of a.s.now a.v) a.v.count a.m a.s.now a.n.chunks a.n.chunk_count a.due c.if-due-n.false r.result r.ensures c.if-not-all_clear.false

@@ -1,7 +1,6 @@
 -- `image_conflicts::conflict_free` meets its contract: the root's suffixes in line, and the chunks below it. Assumes nothing.
 use native.Mathlib.Omega.{arith}
 use mathlib.Core.Path.{sym, ap, ◌∙◌}
-use borrow.Author.Tests.{not-true, not-false}
 use Rattle.image_walk.proofs.Root.{layout_some, root_laid, root_of}
 use Rattle.image_conflicts.specs.Due.{no_conflict}
 use Rattle.image_conflicts.specs.Cited.{due_of}
@@ -33,7 +32,7 @@ returns-then-not-in_line c =
     let h = root_of a.s.now (λ i. omega (arith, c.shared_slice_known-1.given i)) (omega arith) c.requires.0 c.if-s-eq0.false in
     let n = c.node_at-root in
     let l = c.in_line in
-    not_in_line a.s.now h c.requires.1 n.result n.ensures l.result l.ensures (not-true l.result c.if-not-in_line.true)
+    not_in_line a.s.now h c.requires.1 n.result n.ensures l.result l.ensures c.if-not-in_line.true
 
 pub children_due-requires : goal.children_due-requires
 children_due-requires c =
@@ -41,7 +40,7 @@ children_due-requires c =
     let h = root_of a.s.now (λ i. omega (arith, c.shared_slice_known-1.given i)) (omega arith) c.requires.0 c.if-s-eq0.false in
     let n = c.node_at-root in
     let l = c.in_line in
-    let z = not-false l.result c.if-not-in_line.false in
+    let z = c.if-not-in_line.false in
     (root_ready a.s.now h c.requires.1 n.result n.ensures l.result l.ensures z, root_asked a.s.now h c.requires.1 n.result n.ensures l.result l.ensures z)
 
 pub returns-in-Chunks : goal.returns-in-Chunks
@@ -51,7 +50,7 @@ returns-in-Chunks c =
     let n = c.node_at-root in
     let l = c.in_line in
     let d = c.children_due in
-    ap (λ o. no_conflict (due_of o)) (sym c.enum_told-1.given.1) ∙ root_says a.s.now h c.requires.1 n.result n.ensures l.result l.ensures (not-false l.result c.if-not-in_line.false) d.result d.ensures
+    ap (λ o. no_conflict (due_of o)) (sym c.in-Chunks.is) ∙ root_says a.s.now h c.requires.1 n.result n.ensures l.result l.ensures c.if-not-in_line.false d.result d.ensures
 
 pub returns-in-Conflict : goal.returns-in-Conflict
 returns-in-Conflict c =
@@ -60,4 +59,4 @@ returns-in-Conflict c =
     let n = c.node_at-root in
     let l = c.in_line in
     let d = c.children_due in
-    ap (λ o. no_conflict (due_of o)) (sym c.enum_told-in-Conflict-1.given.1) ∙ root_says a.s.now h c.requires.1 n.result n.ensures l.result l.ensures (not-false l.result c.if-not-in_line.false) d.result d.ensures
+    ap (λ o. no_conflict (due_of o)) (sym c.in-Conflict.is) ∙ root_says a.s.now h c.requires.1 n.result n.ensures l.result l.ensures c.if-not-in_line.false d.result d.ensures

@@ -12,20 +12,20 @@ dense_slot-slot-requires c =
     let h = c.requires in
     let z = c.if-children-eq-DENSE_ENTRIES.true in
     let l : b < 256 = omega arith in
-    (l, h.offsets z, h.flags z b l, h.empty-or-taken z b l)
+    (l, h.offsets z, h.flags z b l, h.empty_or_taken z b l)
 
 pub returns-in_default : goal.returns-in_default
 returns-in_default c =
     let a = c.args in
     let b : a.byte < 256 = omega arith in
-    let e = ap entry_of_answer (sym c.enum_told-1.given.1) ∙ c.dense_slot-slot.ensures in
+    let e = ap entry_of_answer (sym c.in_default.is) ∙ c.dense_slot-slot.ensures in
     rw c.if-children-eq-DENSE_ENTRIES.true (ap node_of e ∙ dense_child a.s.now a.table a.byte b)
 
 pub returns-then-children-eq-DENSE_ENTRIES : goal.returns-then-children-eq-DENSE_ENTRIES
 returns-then-children-eq-DENSE_ENTRIES c =
     let a = c.args in
     let b : a.byte < 256 = omega arith in
-    let e = ap entry_of_answer (sym c.slot-1.given.1) ∙ c.dense_slot-slot.ensures in
+    let e = ap entry_of_answer (sym c.in-Taken.is) ∙ c.dense_slot-slot.ensures in
     rw c.if-children-eq-DENSE_ENTRIES.true (ap node_of e ∙ dense_child a.s.now a.table a.byte b)
 
 pub sparse_child-requires : goal.sparse_child-requires

@@ -11,7 +11,7 @@ dense_slot-requires c =
     let h = c.requires.0 in
     let z = c.if-children-eq-DENSE_ENTRIES.true in
     let j : a.j < 256 = omega arith in
-    (j, h.offsets z, h.flags z a.j j, h.empty-or-taken z a.j j)
+    (j, h.offsets z, h.flags z a.j j, h.empty_or_taken z a.j j)
 
 pub returns-then-children-eq-DENSE_ENTRIES : goal.returns-then-children-eq-DENSE_ENTRIES
 unfolding slot_in

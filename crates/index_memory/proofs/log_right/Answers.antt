@@ -15,7 +15,7 @@ piece_sound-requires c = omega (arith, c.loop-left.invariant.room)
 pub returns-then-not-piece_sound : goal.returns-then-not-piece_sound
 returns-then-not-piece_sound c =
     walk_refused c.args.mem.now (header_of c.args.h) c.loop-left.invariant c.loop-left-test.true c.piece_sound.result
-    c.piece_sound.ensures (c.if-not-piece_sound.true)
+    c.piece_sound.ensures c.if-not-piece_sound.true
 
 pub get64-m-requires : goal.get64-m-requires
 get64-m-requires c = omega (arith, c.loop-left.invariant.room)
@@ -34,7 +34,7 @@ overflow_add-nodes c =
     let t = sound_small c.args.mem.now c.loop-left.at (sym s.ensures ∙ c.if-not-piece_sound.false) in
     let w = c.loop-left.invariant in
     let b = node_bound n.result (omega (arith, n.ensures)) in
-    omega (arith, w.few, w.nodes-bound, c.piece_nodes-nodes.ensures)
+    omega (arith, w.few, w.nodes_bound, c.piece_nodes-nodes.ensures)
 
 pub entry_charge-entries-requires : goal.entry_charge-entries-requires
 entry_charge-entries-requires c =
@@ -49,7 +49,7 @@ overflow_add-entries c =
     let n = c.get64-m in
     let t = sound_small c.args.mem.now c.loop-left.at (sym s.ensures ∙ c.if-not-piece_sound.false) in
     let w = c.loop-left.invariant in
-    omega (arith, w.few, w.entries-bound, n.ensures, entry_max n.result, c.entry_charge-entries.ensures)
+    omega (arith, w.few, w.entries_bound, n.ensures, entry_max n.result, c.entry_charge-entries.ensures)
 
 pub overflow_add-at : goal.overflow_add-at
 overflow_add-at c = omega (arith, c.loop-left.invariant.room)
@@ -61,7 +61,7 @@ loop-left-preserved c =
     let n = c.get64-m in
     let x = c.piece_nodes-nodes in
     let y = c.entry_charge-entries in
-    let turn = walk_turn c.args.mem.now (header_of c.args.h) w c.loop-left-test.true s.result s.ensures (c.if-not-piece_sound.false) in
+    let turn = walk_turn c.args.mem.now (header_of c.args.h) w c.loop-left-test.true s.result s.ensures c.if-not-piece_sound.false in
     turn n.result n.ensures x.result y.result x.ensures y.ensures
 
 pub returns-then-h-nodes : goal.returns-then-h-nodes

@@ -1,6 +1,5 @@
 -- `index_rule::index_rule` meets its contract: the root, its fronts, and its children. Assumes nothing.
 use native.Mathlib.Omega.{arith}
-use borrow.Author.Tests.{not-true, not-false}
 use Rattle.image_walk.proofs.Root.{layout_some, root_laid, root_of}
 use Rattle.index_rule.proofs.Whole.{root_asked, root_parts, root_table, rule_by_children, rule_empty, rule_not_node}
 use Rattle.index_rule.proofs.index_rule.Goals as goal
@@ -30,7 +29,7 @@ returns-then-not-node_right c =
     let h = root_of a.s.now (λ i. omega (arith, c.shared_slice_known-1.given i)) (omega arith) c.requires c.if-s-eq0.false in
     let n = c.node_at-root in
     let v = c.node_right in
-    rule_not_node a.s.now h n.result n.ensures v.result v.ensures (not-true v.result c.if-not-node_right.true)
+    rule_not_node a.s.now h n.result n.ensures v.result v.ensures c.if-not-node_right.true
 
 pub root_fronts-count-requires : goal.root_fronts-count-requires
 root_fronts-count-requires c =
@@ -56,4 +55,4 @@ returns c =
     let f = c.root_fronts-count in
     let v = c.node_right in
     let x = c.children_right in
-    rule_by_children a.s.now h n.result n.ensures v.result v.ensures (not-false v.result c.if-not-node_right.false) f.new.fronts f.result f.ensures x.new.fronts x.result x.ensures
+    rule_by_children a.s.now h n.result n.ensures v.result v.ensures c.if-not-node_right.false f.new.fronts f.result f.ensures x.new.fronts x.result x.ensures

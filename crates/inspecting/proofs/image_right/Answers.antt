@@ -19,7 +19,7 @@ slice_bounds-check-end c =
 pub returns-in_default : goal.returns-in_default
 returns-in_default c =
     let a = c.args in
-    image_refused a.mem.now (header_of a.h) _ (same_part a.mem.now a.h.payload) _ (ap layout_of (sym c.enum_told-1.given.1) ∙ c.check.ensures)
+    image_refused a.mem.now (header_of a.h) _ (same_part a.mem.now a.h.payload) _ (ap layout_of (sym c.in_default.is) ∙ c.check.ensures)
 
 pub returns-then-h-t : goal.returns-then-h-t
 returns-then-h-t c =

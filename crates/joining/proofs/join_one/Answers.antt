@@ -5,7 +5,7 @@ use Rattle.joining.proofs.Joining.{one_life, one_nothing}
 use Rattle.joining.proofs.join_one.Goals as goal
 
 pub returns-in_default : goal.returns-in_default
-returns-in_default c = one_nothing (plain c.args.l) (plain c.args.m) (sym (ap common_of c.enum_told-1.given.1) ∙ c.overlap-both.ensures) c.requires
+returns-in_default c = one_nothing (plain c.args.l) (plain c.args.m) (sym (ap common_of c.in_default.is) ∙ c.overlap-both.ensures) c.requires
 
 pub returns : goal.returns
-returns c = one_life (plain c.args.l) (plain c.args.m) _ (sym (ap common_of c.both-1.given.1) ∙ c.overlap-both.ensures) c.place.ensures
+returns c = one_life (plain c.args.l) (plain c.args.m) _ (sym (ap common_of c.in-Life.is) ∙ c.overlap-both.ensures) c.place.ensures

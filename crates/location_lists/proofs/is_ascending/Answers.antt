@@ -1,7 +1,6 @@
 -- `location_lists::is_ascending` meets its contract: what is left ascends just where all do. Assumes nothing.
 use native.Mathlib.Omega.{arith}
 use mathlib.Core.Path.{refl, ◌∙◌}
-use borrow.Author.Tests.{not-true, not-false}
 use Rattle.location.specs.Plain.{plain}
 use Rattle.location_lists.proofs.Single.{ascends_end, ascends_not, ascends_on}
 use Rattle.location_lists.proofs.is_ascending.Goals as goal
@@ -16,7 +15,7 @@ returns-then-not-before c =
     let l = c.location_at-l in
     let o = c.loop-left in
     let a = c.args in
-    ascends_not a.s.now o.left o.p (plain l.result) (plain m.result) b.result (omega arith) l.ensures m.ensures b.ensures (not-true b.result c.if-not-before.true) ∙ o.invariant.1
+    ascends_not a.s.now o.left o.p (plain l.result) (plain m.result) b.result (omega arith) l.ensures m.ensures b.ensures c.if-not-before.true ∙ o.invariant.1
 
 pub loop-left-preserved : goal.loop-left-preserved
 loop-left-preserved c =
@@ -25,7 +24,7 @@ loop-left-preserved c =
     let l = c.location_at-l in
     let o = c.loop-left in
     let a = c.args in
-    let f = ascends_on a.s.now o.left o.p (plain l.result) (plain m.result) b.result (omega arith) l.ensures m.ensures b.ensures (not-false b.result c.if-not-before.false) in
+    let f = ascends_on a.s.now o.left o.p (plain l.result) (plain m.result) b.result (omega arith) l.ensures m.ensures b.ensures c.if-not-before.false in
     (omega arith, f ∙ o.invariant.1)
 
 pub returns : goal.returns

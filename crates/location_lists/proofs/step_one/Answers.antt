@@ -1,5 +1,4 @@
 -- `location_lists::step_one` meets its contract: at each answer the tests that led there say whether the list has key next. Assumes nothing.
-use borrow.Author.Tests.{not-true, not-false}
 use Rattle.location.specs.Plain.{plain}
 use Rattle.location_lists.proofs.Walk.{step_ended, step_past, step_on}
 use Rattle.location_lists.proofs.step_one.Goals as goal
@@ -13,10 +12,10 @@ pub returns-then-not-is_at : goal.returns-then-not-is_at
 returns-then-not-is_at c =
     let f = c.is_at in
     let a = c.args in
-    step_past a.s.now (plain a.key) a.lists.now a.i c.if-e-p.false f.result f.ensures (not-true f.result c.if-not-is_at.true)
+    step_past a.s.now (plain a.key) a.lists.now a.i c.if-e-p.false f.result f.ensures c.if-not-is_at.true
 
 pub returns : goal.returns
 returns c =
     let f = c.is_at in
     let a = c.args in
-    step_on a.s.now (plain a.key) a.lists.now a.i c.if-e-p.false f.result f.ensures (not-false f.result c.if-not-is_at.false)
+    step_on a.s.now (plain a.key) a.lists.now a.i c.if-e-p.false f.result f.ensures c.if-not-is_at.false

@@ -12,12 +12,12 @@ returns-then-mem-lt-HEADER_SIZE c =
 pub returns-then-not-is_capacity : goal.returns-then-not-is_capacity
 returns-then-not-is_capacity c =
     let m = c.args.mem.now in
-    nodes_out m c.get64-nodes.result c.is_capacity.result c.get64-nodes.ensures c.is_capacity.ensures (c.if-not-is_capacity.true)
+    nodes_out m c.get64-nodes.result c.is_capacity.result c.get64-nodes.ensures c.is_capacity.ensures c.if-not-is_capacity.true
 
 pub returns-then-not-is_capacity-2 : goal.returns-then-not-is_capacity-2
 returns-then-not-is_capacity-2 c =
     let m = c.args.mem.now in
-    entries_out m c.get64-entries.result c.is_capacity-2.result c.get64-entries.ensures c.is_capacity-2.ensures (c.if-not-is_capacity-2.true)
+    entries_out m c.get64-entries.result c.is_capacity-2.result c.get64-entries.ensures c.is_capacity-2.ensures c.if-not-is_capacity-2.true
 
 pub needed-requires : goal.needed-requires
 needed-requires c =

@@ -10,12 +10,12 @@ use Rattle.memory_header.proofs.open.Goals as goal
 pub returns-then-not-is_capacity : goal.returns-then-not-is_capacity
 returns-then-not-is_capacity c =
     open_refused c.args.mem.now (record { nodes = c.args.nodes; entries = c.args.entries })
-    (λ f. not_in_range c.args.nodes (sym c.is_capacity.ensures ∙ c.if-not-is_capacity.true) f.some-nodes f.few-nodes)
+    (λ f. not_in_range c.args.nodes (sym c.is_capacity.ensures ∙ c.if-not-is_capacity.true) f.some_nodes f.few_nodes)
 
 pub returns-then-not-is_capacity-2 : goal.returns-then-not-is_capacity-2
 returns-then-not-is_capacity-2 c =
     open_refused c.args.mem.now (record { nodes = c.args.nodes; entries = c.args.entries })
-    (λ f. not_in_range c.args.entries (sym c.is_capacity-2.ensures ∙ c.if-not-is_capacity-2.true) f.some-entries f.few-entries)
+    (λ f. not_in_range c.args.entries (sym c.is_capacity-2.ensures ∙ c.if-not-is_capacity-2.true) f.some_entries f.few_entries)
 
 pub needed-requires : goal.needed-requires
 needed-requires c =

@@ -17,18 +17,18 @@ pub node_at-c-requires : goal.node_at-c-requires
 node_at-c-requires c =
     let a = c.args in
     let o = c.loop-j in
-    let e = ap entry_of_answer (sym c.slot-1.given.1) ∙ c.slot_in-slot.ensures in
+    let e = ap entry_of_answer (sym c.in-Taken.is) ∙ c.slot_in-slot.ensures in
     listing_laid a.s.now a.table a.children o.j o.lists o.count o.invariant.0 (omega arith) _ e c.requires.0
 
 pub add_two-count-requires : goal.add_two-count-requires
 add_two-count-requires c =
     let a = c.args in
     let o = c.loop-j in
-    let e = ap entry_of_answer (sym c.slot-1.given.1) ∙ c.slot_in-slot.ensures in
+    let e = ap entry_of_answer (sym c.in-Taken.is) ∙ c.slot_in-slot.ensures in
     let n = c.node_at-c in
     let p = (listing_parts a.s.now a.table a.children o.j o.lists o.count o.invariant.0 (omega arith) _ e c.requires.0 n.result n.ensures).is in
     let m = c.requires.0.is.most in
-    (omega (arith, o.invariant.0.few, c.requires.1), omega (arith, p.chunks-in), omega (arith, p.suffixes-in))
+    (omega (arith, o.invariant.0.few, c.requires.1), omega (arith, p.chunks_in), omega (arith, p.suffixes_in))
 
 pub loop-j-smaller-in-Taken : goal.loop-j-smaller-in-Taken
 loop-j-smaller-in-Taken c = omega (arith, c.loop-j-test.true)
@@ -37,7 +37,7 @@ pub loop-j-preserved-in-Taken : goal.loop-j-preserved-in-Taken
 loop-j-preserved-in-Taken c =
     let a = c.args in
     let o = c.loop-j in
-    let e = ap entry_of_answer (sym c.slot-1.given.1) ∙ c.slot_in-slot.ensures in
+    let e = ap entry_of_answer (sym c.in-Taken.is) ∙ c.slot_in-slot.ensures in
     let n = c.node_at-c in
     let f = c.add_two-count in
     let m = c.requires.0.is.most in
@@ -50,7 +50,7 @@ pub loop-j-preserved : goal.loop-j-preserved
 loop-j-preserved c =
     let a = c.args in
     let o = c.loop-j in
-    let e = ap entry_of_answer (sym c.enum_told-1.given.1) ∙ c.slot_in-slot.ensures in
+    let e = ap entry_of_answer (sym c.in_default.is) ∙ c.slot_in-slot.ensures in
     (listing_skip a.s.now a.table a.children o.j o.lists o.count o.invariant.0 c.loop-j-test.true e, o.invariant.1)
 
 pub returns : goal.returns

@@ -6,7 +6,7 @@ pub child_lists-count-requires : goal.child_lists-count-requires
 child_lists-count-requires c = let p = c.requires in (record { depth = p.0.depth; forest = p.0.node.children; is = p.0.is.table }, p.1)
 
 pub is_union-requires : goal.is_union-requires
-is_union-requires c = (c.requires.0.is.suffixes-in, c.child_lists-count.ensures.valid)
+is_union-requires c = (c.requires.0.is.suffixes_in, c.child_lists-count.ensures.valid)
 
 pub returns : goal.returns
 returns c =

@@ -20,7 +20,7 @@ pub slice_bounds-find-end : goal.slice_bounds-find-end
 slice_bounds-find-end c =
     let a = c.args in
     let t = right_view a.typed.now (sym c.is_number.ensures ∙ c.if-not-is_number.false) in
-    simp length-take (omega (arith, t.length-14))
+    simp length-take (omega (arith, t.length_14))
 
 pub returns : goal.returns
 returns c =

@@ -5,15 +5,15 @@ use Rattle.number_finding.proofs.wrong_number.Goals as goal
 
 pub returns-in-Broken : goal.returns-in-Broken
 returns-in-Broken c =
-    let w = subst (Inspects c.args.mem.now) c.enum_told-1.given.1 c.inspect.ensures in
+    let w = subst (Inspects c.args.mem.now) c.in-Broken.is c.inspect.ensures in
     rw w.holds refl
 
 pub returns-in-Open : goal.returns-in-Open
 returns-in-Open c =
-    let w = subst (Inspects c.args.mem.now) c.enum_told-in-Open-1.given.1 c.inspect.ensures in
+    let w = subst (Inspects c.args.mem.now) c.in-Open.is c.inspect.ensures in
     rw w.holds refl
 
 pub returns-in-Finished : goal.returns-in-Finished
 returns-in-Finished c =
-    let w = subst (Inspects c.args.mem.now) c.enum_told-in-Finished-1.given.1 c.inspect.ensures in
+    let w = subst (Inspects c.args.mem.now) c.in-Finished.is c.inspect.ensures in
     rw w.holds refl

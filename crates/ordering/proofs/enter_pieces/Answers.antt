@@ -64,7 +64,7 @@ held c =
 pub certificate_at-base-requires : goal.certificate_at-base-requires
 certificate_at-base-requires c =
     let stored = c.requires.stored in
-    (stored.some-nodes, stored.some-entries)
+    (stored.some_nodes, stored.some_entries)
 
 pub loop-j-init : goal.loop-j-init
 loop-j-init c =
@@ -116,7 +116,7 @@ loop-j-preserved c =
     let moved = put.before.before.before.before.before in
     let found = moved.before.before in
     let read = found.before.before in
-    turn_on (turn (inside found)) (plain read.location-at.result) read.location-at.ensures found.first-from.result found.first-from.ensures moved.shift.new.0 put.put-entry.new.0 moved.shift.ensures put.put-entry.ensures
+    turn_on (turn (inside found)) (plain read.location-at.result) read.location-at.ensures found.first_from.result found.first_from.ensures moved.shift.new.0 put.put-entry.new.0 moved.shift.ensures put.put-entry.ensures
 
 pub returns : goal.returns
 returns c =

@@ -21,15 +21,15 @@ abbrev entered : Header → List ℕ → ℕ → List ℕ
 entered h x n = sets x (work_at h.capacity) (certificate (log_in x (h.payload + n) 64))
 
 pub overflow_mul-h : goal.overflow_mul-h
-overflow_mul-h c = let f = c.requires in omega (arith, f.log-room, f.room)
+overflow_mul-h c = let f = c.requires in omega (arith, f.log_room, f.room)
 
 pub overflow_add-h : goal.overflow_add-h
-overflow_add-h c = let f = c.requires in omega (arith, f.log-room, f.room)
+overflow_add-h c = let f = c.requires in omega (arith, f.log_room, f.room)
 
 pub put_pieces-requires : goal.put_pieces-requires
 put_pieces-requires c =
     let f = c.requires in
-    (f.sound.short, omega (arith, f.sound.below), omega (arith, f.log-room, f.room))
+    (f.sound.short, omega (arith, f.sound.below), omega (arith, f.log_room, f.room))
 
 pub returns-then-n-eq0 : goal.returns-then-n-eq0
 returns-then-n-eq0 c =

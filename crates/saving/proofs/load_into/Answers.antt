@@ -8,13 +8,13 @@ use Rattle.saving.proofs.Theorems.{image_refusal, fault_some}
 use Rattle.saving.proofs.load_into.Goals as goal
 
 pub load_right-requires : goal.load_right-requires
-load_right-requires c = (c.requires, sym (ap layout_of (sym c.t-1.given.1) ∙ c.check.ensures))
+load_right-requires c = (c.requires, sym (ap layout_of (sym c.in-Right.is) ∙ c.check.ensures))
 
 pub returns-in-Refused : goal.returns-in-Refused
 returns-in-Refused c =
     let a = c.args in
-    let n = c.n-1.given.0.0 in
-    let x = sym (ap layout_of (sym c.n-1.given.1) ∙ c.check.ensures) in
+    let n = c.in-Refused.n in
+    let x = sym (ap layout_of (sym c.in-Refused.is) ∙ c.check.ensures) in
     let k = image_refusal a.s.now n x in
     let e = fault_over (header_of a.h).capacity a.mem.now a.s.now n k ∙ load_as a.mem.now a.s.now _ _ c.requires x in
     record { answer = refused_as n (fault_some k) ∙ ap (λ (d : Done). outcome_as d.refusal) e; memory = ap (λ (d : Done). d.memory) e }

@@ -13,16 +13,16 @@ pub single_table-requires : goal.single_table-requires
 single_table-requires c = let r = laid_room _ _ c.requires in omega arith
 
 pub returns-then-n-eq0 : goal.returns-then-n-eq0
-returns-then-n-eq0 c = λ z. bare_none _ _ (c.is_bare.ensures (c.if-not-is_bare.false)) _ _ c.get64-n.ensures c.if-n-eq0.true (c.single_table.ensures z)
+returns-then-n-eq0 c = λ z. bare_none _ _ (c.is_bare.ensures c.if-not-is_bare.false) _ _ c.get64-n.ensures c.if-n-eq0.true (c.single_table.ensures z)
 
 pub overflow_mul-n : goal.overflow_mul-n
-overflow_mul-n c = let r = bare_room _ _ (c.is_bare.ensures (c.if-not-is_bare.false)) _ c.requires c.get64-n.ensures in omega arith
+overflow_mul-n c = let r = bare_room _ _ (c.is_bare.ensures c.if-not-is_bare.false) _ c.requires c.get64-n.ensures in omega arith
 
 pub overflow_add-at-3 : goal.overflow_add-at-3
-overflow_add-at-3 c = let r = bare_room _ _ (c.is_bare.ensures (c.if-not-is_bare.false)) _ c.requires c.get64-n.ensures in omega arith
+overflow_add-at-3 c = let r = bare_room _ _ (c.is_bare.ensures c.if-not-is_bare.false) _ c.requires c.get64-n.ensures in omega arith
 
 pub single_table-requires-2 : goal.single_table-requires-2
-single_table-requires-2 c = bare_room _ _ (c.is_bare.ensures (c.if-not-is_bare.false)) _ c.requires c.get64-n.ensures
+single_table-requires-2 c = bare_room _ _ (c.is_bare.ensures c.if-not-is_bare.false) _ c.requires c.get64-n.ensures
 
 pub returns : goal.returns
-returns c = λ z. bare_some _ _ (c.is_bare.ensures (c.if-not-is_bare.false)) _ _ c.get64-n.ensures (c.single_table-2.ensures z)
+returns c = λ z. bare_some _ _ (c.is_bare.ensures c.if-not-is_bare.false) _ _ c.get64-n.ensures (c.single_table-2.ensures z)

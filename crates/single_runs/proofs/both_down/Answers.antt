@@ -32,4 +32,4 @@ pub overflow_add-result : goal.overflow_add-result
 overflow_add-result c = let x = c.byte_behind-byte in let r = laid_room _ _ (laid_behind c.args.s.now c.args.table x.result x.ensures c.if-byte-eq-NO_BYTE.false c.requires.0) in omega arith
 
 pub returns : goal.returns
-returns c = λ _. let a = c.args in let x = c.byte_behind-byte in let y = c.byte_behind in goes_behind a.s.now a.table a.other _ _ x.result y.result x.ensures c.if-byte-eq-NO_BYTE.false y.ensures c.if-byte_behind-byte.false (without_lists _ _ (c.is_single_without_lists.ensures (c.if-not-is_single_without_lists.false))) (c.bare_single_table-next.ensures c.if-next-eq0.false)
+returns c = λ _. let a = c.args in let x = c.byte_behind-byte in let y = c.byte_behind in goes_behind a.s.now a.table a.other _ _ x.result y.result x.ensures c.if-byte-eq-NO_BYTE.false y.ensures c.if-byte_behind-byte.false (without_lists _ _ (c.is_single_without_lists.ensures c.if-not-is_single_without_lists.false)) (c.bare_single_table-next.ensures c.if-next-eq0.false)

@@ -14,7 +14,7 @@ pub returns-then-not-p : goal.returns-then-not-p
 returns-then-not-p c = c.loop-levels.invariant
 
 pub loop-levels-preserved : goal.loop-levels-preserved
-loop-levels-preserved c = run_more _ _ _ _ _ _ _ c.loop-levels.invariant _ _ (omega arith) (c.both_down-p.ensures (c.if-not-p.false))
+loop-levels-preserved c = run_more _ _ _ _ _ _ _ c.loop-levels.invariant _ _ (omega arith) (c.both_down-p.ensures c.if-not-p.false)
 
 pub returns : goal.returns
 returns c = c.loop-levels.invariant

@@ -13,7 +13,7 @@ pub returns-then-not-has_single_with_suffix : goal.returns-then-not-has_single_w
 returns-then-not-has_single_with_suffix c = not_so
 
 pub is_at-requires : goal.is_at-requires
-is_at-requires c = let x = c.has_single_with_suffix.ensures (c.if-not-has_single_with_suffix.false) in omega (arith, x.room)
+is_at-requires c = let x = c.has_single_with_suffix.ensures c.if-not-has_single_with_suffix.false in omega (arith, x.room)
 
 pub returns : goal.returns
-returns c = λ e. (c.has_single_with_suffix.ensures (c.if-not-has_single_with_suffix.false), sym c.location_at.ensures ∙ sym (same_true _ _ (sym c.is_at.ensures ∙ e)))
+returns c = λ e. (c.has_single_with_suffix.ensures c.if-not-has_single_with_suffix.false, sym c.location_at.ensures ∙ sym (same_true _ _ (sym c.is_at.ensures ∙ e)))

@@ -17,7 +17,7 @@ pub returns-then-get64-ne1 : goal.returns-then-get64-ne1
 returns-then-get64-ne1 c = not_so
 
 pub get64-requires-2 : goal.get64-requires-2
-get64-requires-2 c = let r = bare_room _ _ (c.is_bare.ensures (c.if-not-is_bare.false)) 1 c.requires (omega (arith, c.get64.ensures, c.if-get64-ne1.false)) in omega arith
+get64-requires-2 c = let r = bare_room _ _ (c.is_bare.ensures c.if-not-is_bare.false) 1 c.requires (omega (arith, c.get64.ensures, c.if-get64-ne1.false)) in omega arith
 
 pub returns : goal.returns
-returns c = by_test c.get64-2.result 1 λ e. single_parts _ _ (c.is_bare.ensures (c.if-not-is_bare.false)) c.requires (omega (arith, c.get64.ensures, c.if-get64-ne1.false)) (omega (arith, e, c.get64-2.ensures))
+returns c = by_test c.get64-2.result 1 λ e. single_parts _ _ (c.is_bare.ensures c.if-not-is_bare.false) c.requires (omega (arith, c.get64.ensures, c.if-get64-ne1.false)) (omega (arith, e, c.get64-2.ensures))

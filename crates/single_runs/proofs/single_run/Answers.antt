@@ -8,7 +8,7 @@ pub returns-then-not-has_single_with_suffix : goal.returns-then-not-has_single_w
 returns-then-not-has_single_with_suffix c = singles_none _ _ _
 
 pub loop-levels-init : goal.loop-levels-init
-loop-levels-init c = (singles_none _ _ _, c.has_single_with_suffix.ensures (c.if-not-has_single_with_suffix.false))
+loop-levels-init c = (singles_none _ _ _, c.has_single_with_suffix.ensures c.if-not-has_single_with_suffix.false)
 
 pub goes_on-requires : goal.goes_on-requires
 goes_on-requires c = let o = c.loop-levels in (singles_table _ _ _ _ _ o.invariant.0 c.requires, o.invariant.1)
@@ -20,7 +20,7 @@ pub overflow_add-t : goal.overflow_add-t
 overflow_add-t c = {- no step well-formed at Start (['', '']) -} omega (arith, c.before.before.before.loop.invariant.1.room, c.before.before.before.before.before.before.before.well-formed.0)
 
 pub loop-levels-preserved : goal.loop-levels-preserved
-loop-levels-preserved c = let o = c.loop-levels in let g = c.goes_on.ensures (c.if-not-goes_on.false) in (singles_more _ _ _ _ _ o.invariant.0 c.loop-levels-test.true o.invariant.1 g.0 g.1, g.0)
+loop-levels-preserved c = let o = c.loop-levels in let g = c.goes_on.ensures c.if-not-goes_on.false in (singles_more _ _ _ _ _ o.invariant.0 c.loop-levels-test.true o.invariant.1 g.0 g.1, g.0)
 
 pub returns : goal.returns
 returns c = c.loop-levels.invariant.0

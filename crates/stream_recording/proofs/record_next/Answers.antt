@@ -30,11 +30,11 @@ returns-in-Block c =
 pub returns-in-End : goal.returns-in-End
 returns-in-End c =
     let a = c.args in
-    let e = subst (λ (x : Answer). read_of a.stream.now x ≡ read_block a.stream.now a.p.at) c.enum_told-1.given.1 c.read_block.ensures.means in
+    let e = subst (λ (x : Answer). read_of a.stream.now x ≡ read_block a.stream.now a.p.at) c.in-End.is c.read_block.ensures.means in
     (c.halted.ensures.0 ∙ ap (next_progress a.mem.now (progress_of a.p)) e, (ap (entered_next a.mem.now (header_of a.p.header)) e, c.halted.ensures.1 ∙ c.requires.1 ∙ ap (λ (x : Progress). filled (pieces_in a.mem.now x.header)) (sym c.halted.ensures.0)))
 
 pub returns-in-Refused : goal.returns-in-Refused
 returns-in-Refused c =
     let a = c.args in
-    let e = subst (λ (x : Answer). read_of a.stream.now x ≡ read_block a.stream.now a.p.at) c.n-1.given.1 c.read_block.ensures.means in
+    let e = subst (λ (x : Answer). read_of a.stream.now x ≡ read_block a.stream.now a.p.at) c.in-Refused.is c.read_block.ensures.means in
     (c.halted-in-Refused.ensures.0 ∙ ap (next_progress a.mem.now (progress_of a.p)) e, (ap (entered_next a.mem.now (header_of a.p.header)) e, c.halted-in-Refused.ensures.1 ∙ c.requires.1 ∙ ap (λ (x : Progress). filled (pieces_in a.mem.now x.header)) (sym c.halted-in-Refused.ensures.0)))

@@ -8,26 +8,26 @@ use Rattle.string_index.proofs.finish.Goals as goal
 
 pub finish_open-requires : goal.finish_open-requires
 finish_open-requires c =
-    let w = subst (Inspects c.args.mem.now) c.h-1.given.1 c.inspect.ensures in
+    let w = subst (Inspects c.args.mem.now) c.in-Open.is c.inspect.ensures in
     (w.told, w.holds)
 
 pub returns-in-Broken : goal.returns-in-Broken
 returns-in-Broken c =
     let m = c.args.mem.now in
-    let w = subst (Inspects m) c.enum_told-1.given.1 c.inspect.ensures in
+    let w = subst (Inspects m) c.in-Broken.is c.inspect.ensures in
     let e = finish_as m _ w.holds in
     record { answer = ap (λ (d : Done). outcome_as d.refusal) e; memory = ap (λ (d : Done). d.memory) e }
 
 pub returns-in-Open : goal.returns-in-Open
 returns-in-Open c =
     let m = c.args.mem.now in
-    let w = subst (Inspects m) c.h-1.given.1 c.inspect.ensures in
+    let w = subst (Inspects m) c.in-Open.is c.inspect.ensures in
     let e = finish_as m _ w.holds in
     record { answer = ap (λ (d : Done). outcome_as d.refusal) e; memory = c.finish_open.ensures ∙ ap (λ (d : Done). d.memory) e }
 
 pub returns-in-Finished : goal.returns-in-Finished
 returns-in-Finished c =
     let m = c.args.mem.now in
-    let w = subst (Inspects m) c.enum_told-in-Finished-1.given.1 c.inspect.ensures in
+    let w = subst (Inspects m) c.in-Finished.is c.inspect.ensures in
     let e = finish_as m _ w.holds in
     record { answer = ap (λ (d : Done). outcome_as d.refusal) e; memory = ap (λ (d : Done). d.memory) e }

@@ -10,19 +10,19 @@ use Rattle.string_index.proofs.load.Goals as goal
 pub load_into-requires : goal.load_into-requires
 load_into-requires c =
     let a = c.args in
-    let w = subst (Inspects a.mem.now) c.h-1.given.1 c.inspect.ensures in
+    let w = subst (Inspects a.mem.now) c.in-Open.is c.inspect.ensures in
     ap capacity_of w.holds
 
 pub load_into-requires-in-Finished : goal.load_into-requires-in-Finished
 load_into-requires-in-Finished c =
     let a = c.args in
-    let w = subst (Inspects a.mem.now) c.h-in-Finished-1.given.1 c.inspect.ensures in
+    let w = subst (Inspects a.mem.now) c.in-Finished.is c.inspect.ensures in
     ap capacity_of w.holds
 
 pub returns-in-Broken : goal.returns-in-Broken
 returns-in-Broken c =
     let a = c.args in
-    let w = subst (Inspects a.mem.now) c.enum_told-1.given.1 c.inspect.ensures in
+    let w = subst (Inspects a.mem.now) c.in-Broken.is c.inspect.ensures in
     let e = load_broken a.mem.now a.image.now w.holds in
     record { answer = ap (λ (d : Done). outcome_as d.refusal) e; memory = ap (λ (d : Done). d.memory) e }
 

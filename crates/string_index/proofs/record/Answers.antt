@@ -9,13 +9,13 @@ use Rattle.string_index.proofs.record.Goals as goal
 
 pub record_open-requires : goal.record_open-requires
 record_open-requires c =
-    let w = subst (Inspects c.args.mem.now) c.h-1.given.1 c.inspect.ensures in
+    let w = subst (Inspects c.args.mem.now) c.in-Open.is c.inspect.ensures in
     (w.told, w.holds)
 
 pub returns-in-Broken : goal.returns-in-Broken
 returns-in-Broken c =
     let a = c.args in
-    let w = subst (Inspects a.mem.now) c.enum_told-1.given.1 c.inspect.ensures in
+    let w = subst (Inspects a.mem.now) c.in-Broken.is c.inspect.ensures in
     let e = record_as a.mem.now a.kind (record { bytes = a.«data».now; at = plain a.l }) _ w.holds in
     record { answer = ap (λ (d : Done). recorded_as d.refusal) e; memory = ap (λ (d : Done). d.memory) e }
 
@@ -27,6 +27,6 @@ returns-in-Open c =
 pub returns-in-Finished : goal.returns-in-Finished
 returns-in-Finished c =
     let a = c.args in
-    let w = subst (Inspects a.mem.now) c.enum_told-in-Finished-1.given.1 c.inspect.ensures in
+    let w = subst (Inspects a.mem.now) c.in-Finished.is c.inspect.ensures in
     let e = record_as a.mem.now a.kind (record { bytes = a.«data».now; at = plain a.l }) _ w.holds in
     record { answer = ap (λ (d : Done). recorded_as d.refusal) e; memory = ap (λ (d : Done). d.memory) e }

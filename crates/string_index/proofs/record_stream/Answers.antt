@@ -8,13 +8,13 @@ use Rattle.string_index.proofs.record_stream.Goals as goal
 
 pub record_blocks-requires : goal.record_blocks-requires
 record_blocks-requires c =
-    let w = subst (Inspects c.args.mem.now) c.h-1.given.1 c.inspect.ensures in
+    let w = subst (Inspects c.args.mem.now) c.in-Open.is c.inspect.ensures in
     (w.told, w.holds)
 
 pub returns-in-Broken : goal.returns-in-Broken
 returns-in-Broken c =
     let a = c.args in
-    let w = subst (Inspects a.mem.now) c.enum_told-1.given.1 c.inspect.ensures in
+    let w = subst (Inspects a.mem.now) c.in-Broken.is c.inspect.ensures in
     let e = stream_as a.mem.now a.stream.now _ w.holds in
     record { answer = ap streamed_for e; memory = ap (λ (d : StreamDone). d.memory) e }
 
@@ -26,6 +26,6 @@ returns-in-Open c =
 pub returns-in-Finished : goal.returns-in-Finished
 returns-in-Finished c =
     let a = c.args in
-    let w = subst (Inspects a.mem.now) c.enum_told-in-Finished-1.given.1 c.inspect.ensures in
+    let w = subst (Inspects a.mem.now) c.in-Finished.is c.inspect.ensures in
     let e = stream_as a.mem.now a.stream.now _ w.holds in
     record { answer = ap streamed_for e; memory = ap (λ (d : StreamDone). d.memory) e }

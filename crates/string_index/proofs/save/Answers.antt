@@ -9,20 +9,20 @@ use Rattle.string_index.proofs.save.Goals as goal
 pub save_finished-requires : goal.save_finished-requires
 save_finished-requires c =
     let a = c.args in
-    let w = subst (Inspects a.mem.now) c.h-1.given.1 c.inspect.ensures in
+    let w = subst (Inspects a.mem.now) c.in-Finished.is c.inspect.ensures in
     (w.told, w.holds)
 
 pub returns-in-Broken : goal.returns-in-Broken
 returns-in-Broken c =
     let a = c.args in
-    let w = subst (Inspects a.mem.now) c.enum_told-1.given.1 c.inspect.ensures in
+    let w = subst (Inspects a.mem.now) c.in-Broken.is c.inspect.ensures in
     let e = save_as a.mem.now a.out.now _ w.holds in
     record { answer = ap saved_for e; buffer = ap (λ (f : Saving). f.buffer) e }
 
 pub returns-in-Open : goal.returns-in-Open
 returns-in-Open c =
     let a = c.args in
-    let w = subst (Inspects a.mem.now) c.enum_told-in-Open-1.given.1 c.inspect.ensures in
+    let w = subst (Inspects a.mem.now) c.in-Open.is c.inspect.ensures in
     let e = save_as a.mem.now a.out.now _ w.holds in
     record { answer = ap saved_for e; buffer = ap (λ (f : Saving). f.buffer) e }
 

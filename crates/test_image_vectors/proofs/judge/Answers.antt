@@ -6,7 +6,7 @@ use Rattle.test_image_vectors.proofs.Saying.{said_read}
 use Rattle.test_image_vectors.proofs.judge.Goals as goal
 
 pub returns-in-Refused : goal.returns-in-Refused
-returns-in-Refused c = said_read c.args.img.now (refused _) (ap layout_of (sym c.r-1.given.1) ∙ c.check-r.ensures)
+returns-in-Refused c = said_read c.args.img.now (refused _) (ap layout_of (sym c.in-Refused.is) ∙ c.check-r.ensures)
 
 pub returns-in-Right : goal.returns-in-Right
-returns-in-Right c = said_read c.args.img.now (right _ _) (ap layout_of (sym c.r-in-Right-1.given.1) ∙ c.check-r.ensures)
+returns-in-Right c = said_read c.args.img.now (right _ _) (ap layout_of (sym c.in-Right.is) ∙ c.check-r.ensures)

@@ -22,7 +22,7 @@ returns-in-Bytes c =
     let k = c.save in
     let m = c.args.mem.now in
     let w = c.put_image.ensures in
-    record { written = written_same (saved_line (save_memory m (replicate 73600 0)) _ _ k.new.out (sym c.n-1.given.1 ∙ k.ensures.answer) k.ensures.buffer (omega (arith, length-replicate {A = ℕ} 73600 0)) c.at_most-k.ensures) w.0; upper_bound = w.1 }
+    record { written = written_same (saved_line (save_memory m (replicate 73600 0)) _ _ k.new.out (sym c.in-Bytes.is ∙ k.ensures.answer) k.ensures.buffer (omega (arith, length-replicate {A = ℕ} 73600 0)) c.at_most-k.ensures) w.0; upper_bound = w.1 }
 
 pub returns-in-Refused : goal.returns-in-Refused
 unfolding save_answer
@@ -30,4 +30,4 @@ returns-in-Refused c =
     let k = c.save in
     let m = c.args.mem.now in
     let w = c.put_refused.ensures in
-    record { written = written_same (refused_line (save_memory m (replicate 73600 0)) _ (sym c.n-in-Refused-1.given.1 ∙ k.ensures.answer)) w; upper_bound = omega (arith, w.next, length_refused c.n-in-Refused-1.given.0.0) }
+    record { written = written_same (refused_line (save_memory m (replicate 73600 0)) _ (sym c.in-Refused.is ∙ k.ensures.answer)) w; upper_bound = omega (arith, w.next, length_refused c.in-Refused.n) }

@@ -6,5 +6,5 @@ use Rattle.test_streams.proofs.record_next.Goals as goal
 pub returns-in-Taken : goal.returns-in-Taken
 returns-in-Taken c =
     let a = c.args in
-    let k = block_part a.stream.now a.at c.read_block.result c.b-1.given.0.0 c.b-1.given.1 c.read_block.ensures.means c.read_block.ensures.starts in
+    let k = block_part a.stream.now a.at c.read_block.result c.in-Block.b c.in-Block.is c.read_block.ensures.means c.read_block.ensures.starts in
     (omega (arith, k.behind), k.within)

@@ -8,11 +8,11 @@ use Rattle.test_streams.proofs.record_singly.Goals as goal
 pub loop-next-smaller : goal.loop-next-smaller
 loop-next-smaller c =
     let a = c.args in
-    let w = subst (Onward a.stream.now c.loop-next.at) c.next-1.given.1 c.record_next.ensures in
+    let w = subst (Onward a.stream.now c.loop-next.at) c.in-On.is c.record_next.ensures in
     omega (arith, w)
 
 pub loop-next-preserved : goal.loop-next-preserved
 loop-next-preserved c =
     let a = c.args in
-    let w = subst (Onward a.stream.now c.loop-next.at) c.next-1.given.1 c.record_next.ensures in
+    let w = subst (Onward a.stream.now c.loop-next.at) c.in-On.is c.record_next.ensures in
     omega (arith, w, c.record_next.auto.mem)
