@@ -31,32 +31,28 @@ returns-in_default c =
 
 pub slice_bounds-result-count-2 : goal.slice_bounds-result-count-2
 slice_bounds-result-count-2 c =
-    let g = c.r-1.given in
     let f = c.read_block-r in
     let a = c.args in
-    let k = block_part a.s.now a.at f.result g.0.0 g.1 f.ensures.means f.ensures.starts in
+    let k = block_part a.s.now a.at f.result c.in-Block.b c.in-Block.is f.ensures.means f.ensures.starts in
     omega arith
 
 pub slice_bounds-result-start-2 : goal.slice_bounds-result-start-2
 slice_bounds-result-start-2 c =
-    let g = c.r-1.given in
     let f = c.read_block-r in
     let a = c.args in
-    let k = block_part a.s.now a.at f.result g.0.0 g.1 f.ensures.means f.ensures.starts in
+    let k = block_part a.s.now a.at f.result c.in-Block.b c.in-Block.is f.ensures.means f.ensures.starts in
     omega arith
 
 pub slice_bounds-result-end-2 : goal.slice_bounds-result-end-2
 slice_bounds-result-end-2 c =
-    let g = c.r-1.given in
     let f = c.read_block-r in
     let a = c.args in
-    let k = block_part a.s.now a.at f.result g.0.0 g.1 f.ensures.means f.ensures.starts in
+    let k = block_part a.s.now a.at f.result c.in-Block.b c.in-Block.is f.ensures.means f.ensures.starts in
     omega arith
 
 pub returns : goal.returns
 returns c =
-    let g = c.r-1.given in
     let f = c.read_block-r in
     let a = c.args in
-    let k = block_part a.s.now a.at f.result g.0.0 g.1 f.ensures.means f.ensures.starts in
+    let k = block_part a.s.now a.at f.result c.in-Block.b c.in-Block.is f.ensures.means f.ensures.starts in
     k.bytes

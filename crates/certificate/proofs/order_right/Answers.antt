@@ -7,50 +7,50 @@ use Rattle.certificate.proofs.Answers.{sound, rooms, log_within, entries_room, e
 use Rattle.certificate.proofs.order_right.Goals as goal
 
 pub certificate_at-base-requires : goal.certificate_at-base-requires
-certificate_at-base-requires c = rooms c.args.mem.now (λ j. omega (arith, c.shared_slice_known-1.given j)) (header_of c.args.h) c.requires.0 c.requires.1 c.requires.2
+certificate_at-base-requires c = rooms c.args.mem.now (λ j. omega (arith, c.type_inv.mem j)) (header_of c.args.h) c.requires.0 c.requires.1 c.requires.2
 
 pub filled-count-requires : goal.filled-count-requires
 filled-count-requires c =
     let m = c.args.mem.now in
-    let b : (j : ℕ) → get_or m j 0 < 256 = λ j. omega (arith, c.shared_slice_known-1.given j) in
+    let b : (j : ℕ) → get_or m j 0 < 256 = λ j. omega (arith, c.type_inv.mem j) in
     (log_within m b (header_of c.args.h) c.requires.0 c.requires.1 c.requires.2, sound m b (header_of c.args.h) c.requires.0 c.requires.1 c.requires.2)
 
 pub entries_right-requires : goal.entries_right-requires
 entries_right-requires c =
     let m = c.args.mem.now in
-    let b : (j : ℕ) → get_or m j 0 < 256 = λ j. omega (arith, c.shared_slice_known-1.given j) in
+    let b : (j : ℕ) → get_or m j 0 < 256 = λ j. omega (arith, c.type_inv.mem j) in
     let h = header_of c.args.h in
     (log_within m b h c.requires.0 c.requires.1 c.requires.2, sound m b h c.requires.0 c.requires.1 c.requires.2, entries_room m b h c.requires.0 c.requires.1 c.requires.2 c.certificate_at-base.result c.filled-count.result c.certificate_at-base.ensures c.filled-count.ensures)
 
 pub returns-then-not-entries_right : goal.returns-then-not-entries_right
 returns-then-not-entries_right c =
-    entries_wrong c.args.mem.now (λ j. omega (arith, c.shared_slice_known-1.given j)) (header_of c.args.h) c.requires.0 c.requires.1 c.requires.2
+    entries_wrong c.args.mem.now (λ j. omega (arith, c.type_inv.mem j)) (header_of c.args.h) c.requires.0 c.requires.1 c.requires.2
     c.certificate_at-base.result c.filled-count.result c.certificate_at-base.ensures c.filled-count.ensures
     c.entries_right.result c.entries_right.ensures c.if-not-entries_right.true
 
 pub in_line-requires : goal.in_line-requires
 in_line-requires c =
-    within c.args.mem.now (λ j. omega (arith, c.shared_slice_known-1.given j)) (header_of c.args.h) c.requires.0 c.requires.1 c.requires.2
+    within c.args.mem.now (λ j. omega (arith, c.type_inv.mem j)) (header_of c.args.h) c.requires.0 c.requires.1 c.requires.2
     c.certificate_at-base.result c.filled-count.result c.certificate_at-base.ensures c.filled-count.ensures
     c.entries_right.result c.entries_right.ensures c.if-not-entries_right.false
 
 pub returns-then-not-in_line : goal.returns-then-not-in_line
 returns-then-not-in_line c =
-    line_wrong c.args.mem.now (λ j. omega (arith, c.shared_slice_known-1.given j)) (header_of c.args.h) c.requires.0 c.requires.1 c.requires.2
+    line_wrong c.args.mem.now (λ j. omega (arith, c.type_inv.mem j)) (header_of c.args.h) c.requires.0 c.requires.1 c.requires.2
     c.certificate_at-base.result c.filled-count.result c.certificate_at-base.ensures c.filled-count.ensures
     c.entries_right.result c.entries_right.ensures c.if-not-entries_right.false
     c.in_line.result c.in_line.ensures c.if-not-in_line.true
 
 pub none_inside-requires : goal.none_inside-requires
 none_inside-requires c =
-    inside c.args.mem.now (λ j. omega (arith, c.shared_slice_known-1.given j)) (header_of c.args.h) c.requires.0 c.requires.1 c.requires.2
+    inside c.args.mem.now (λ j. omega (arith, c.type_inv.mem j)) (header_of c.args.h) c.requires.0 c.requires.1 c.requires.2
     c.certificate_at-base.result c.filled-count.result c.certificate_at-base.ensures c.filled-count.ensures
     c.entries_right.result c.entries_right.ensures c.if-not-entries_right.false
     c.in_line.result c.in_line.ensures c.if-not-in_line.false
 
 pub returns : goal.returns
 returns c =
-    none_decides c.args.mem.now (λ j. omega (arith, c.shared_slice_known-1.given j)) (header_of c.args.h) c.requires.0 c.requires.1 c.requires.2
+    none_decides c.args.mem.now (λ j. omega (arith, c.type_inv.mem j)) (header_of c.args.h) c.requires.0 c.requires.1 c.requires.2
     c.certificate_at-base.result c.filled-count.result c.certificate_at-base.ensures c.filled-count.ensures
     c.entries_right.result c.entries_right.ensures c.if-not-entries_right.false
     c.in_line.result c.in_line.ensures c.if-not-in_line.false

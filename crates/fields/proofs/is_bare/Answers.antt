@@ -8,7 +8,7 @@ pub returns-then-prefixes-chunks : goal.returns-then-prefixes-chunks
 returns-then-prefixes-chunks c = not_so
 
 pub overflow_cast-kind : goal.overflow_cast-kind
-overflow_cast-kind c = omega (arith, c.shared_slice_known-2-1.given c.args.at)
+overflow_cast-kind c = omega (arith, c.type_inv.s c.args.at)
 
 pub returns-then-chunks-kind : goal.returns-then-chunks-kind
 returns-then-chunks-kind c = not_so

@@ -10,15 +10,17 @@ use Rattle.finding.proofs.find_finished.Goals as goal
 pub returns-then-q-gt-QUERY_LIMIT : goal.returns-then-q-gt-QUERY_LIMIT
 returns-then-q-gt-QUERY_LIMIT c =
     let long = c.if-q-gt-QUERY_LIMIT.true in
-    (rw (lt-ltb 256 _ long) c.no_rows.ensures, (rw (lt-ltb 256 _ long) (none_front _), unchanged _ _))
+    let w = (rw (lt-ltb 256 _ long) c.no_rows.ensures, (rw (lt-ltb 256 _ long) (none_front _), unchanged _ _)) in
+    record { found = w.0; rows = w.1; scratch = w.2 }
 
 pub search_image-requires : goal.search_image-requires
 search_image-requires c =
     let a = c.args in
-    let w = searchable a.mem.now (header_of a.h) (λ j. omega (arith, c.shared_slice_known-1.given j)) (omega arith) c.requires in
+    let w = searchable a.mem.now (header_of a.h) (λ j. omega (arith, c.type_inv.mem j)) (omega arith) c.requires in
     (w.0, w.1, omega (arith, c.if-q-gt-QUERY_LIMIT.false))
 
 pub returns : goal.returns
 returns c =
     let a = c.args in
-    answered_part a.mem.now (header_of a.h) (λ j. omega (arith, c.shared_slice_known-1.given j)) (omega arith) c.requires a.q.now a.scratch.now _ _ (omega (arith, c.if-q-gt-QUERY_LIMIT.false)) (search rules) c.search_image.ensures
+    let w = answered_part a.mem.now (header_of a.h) (λ j. omega (arith, c.type_inv.mem j)) (omega arith) c.requires a.q.now a.scratch.now _ _ (omega (arith, c.if-q-gt-QUERY_LIMIT.false)) (search rules) (c.search_image.ensures.found, c.search_image.ensures.rows) in
+    record { found = w.0; rows = w.1; scratch = w.2 }

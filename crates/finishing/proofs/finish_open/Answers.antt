@@ -14,7 +14,7 @@ overflow_mul-work c =
     let a = c.args in
     let m = a.mem.now in
     let room = (header_of a.h).capacity in
-    let b : Bytes m = λ j. omega (arith, c.slice_known-1.given j) in
+    let b : Bytes m = λ j. omega (arith, c.type_inv.mem j) in
     let o = open_is m room (log_in m a.h.payload 64) c.requires.1 in
     omega (arith, small_nodes m room a.h.payload b o, small_entries m room a.h.payload b o)
 
@@ -23,7 +23,7 @@ overflow_add-work c =
     let a = c.args in
     let m = a.mem.now in
     let room = (header_of a.h).capacity in
-    let b : Bytes m = λ j. omega (arith, c.slice_known-1.given j) in
+    let b : Bytes m = λ j. omega (arith, c.type_inv.mem j) in
     let o = open_is m room (log_in m a.h.payload 64) c.requires.1 in
     omega (arith, small_nodes m room a.h.payload b o, small_entries m room a.h.payload b o)
 
@@ -32,7 +32,7 @@ overflow_mul-work-2 c =
     let a = c.args in
     let m = a.mem.now in
     let room = (header_of a.h).capacity in
-    let b : Bytes m = λ j. omega (arith, c.slice_known-1.given j) in
+    let b : Bytes m = λ j. omega (arith, c.type_inv.mem j) in
     let o = open_is m room (log_in m a.h.payload 64) c.requires.1 in
     omega (arith, small_nodes m room a.h.payload b o, small_entries m room a.h.payload b o)
 
@@ -41,7 +41,7 @@ overflow_add-work-2 c =
     let a = c.args in
     let m = a.mem.now in
     let room = (header_of a.h).capacity in
-    let b : Bytes m = λ j. omega (arith, c.slice_known-1.given j) in
+    let b : Bytes m = λ j. omega (arith, c.type_inv.mem j) in
     let o = open_is m room (log_in m a.h.payload 64) c.requires.1 in
     omega (arith, small_nodes m room a.h.payload b o, small_entries m room a.h.payload b o)
 

@@ -22,20 +22,18 @@ data_length p =
 
 pub put_fields-requires : goal.put_fields-requires
 put_fields-requires c =
-    let g = c.b-1.given in
     let f = c.read_block in
     let a = c.args in
-    (block_part a.s.now a.at f.result g.0.0 g.1 f.ensures.means f.ensures.starts).ordered
+    (block_part a.s.now a.at f.result c.in-Block.b c.in-Block.is f.ensures.means f.ensures.starts).ordered
 
 pub returns-in-Block : goal.returns-in-Block
 returns-in-Block c =
-    let g = c.b-1.given in
     let f = c.read_block in
     let a = c.args in
     let xs = a.fields.now in
     let b = g.0.0 in
-    let e = subst (λ (x : Answer). read_of a.s.now x ≡ read_block a.s.now a.at) g.1 f.ensures.means in
-    let n = data_length (block_part a.s.now a.at f.result b g.1 f.ensures.means f.ensures.starts) in record { answer = ap stream_number e; fields = c.put_fields.ensures ∙ ap (λ (k : ℕ). sets xs 0 (1 ∷ b.kind ∷ b.address ∷ k ∷ b.created_at ∷ b.destroyed_at ∷ b.next ∷ [])) n ∙ ap (λ (x : Read). with_fields x xs) e }
+    let e = subst (λ (x : Answer). read_of a.s.now x ≡ read_block a.s.now a.at) c.in-Block.is f.ensures.means in
+    let n = data_length (block_part a.s.now a.at f.result b c.in-Block.is f.ensures.means f.ensures.starts) in record { answer = ap stream_number e; fields = c.put_fields.ensures ∙ ap (λ (k : ℕ). sets xs 0 (1 ∷ b.kind ∷ b.address ∷ k ∷ b.created_at ∷ b.destroyed_at ∷ b.next ∷ [])) n ∙ ap (λ (x : Read). with_fields x xs) e }
 
 pub returns-in-End : goal.returns-in-End
 returns-in-End c =

@@ -9,8 +9,9 @@ use Rattle.helmapricot.proofs.helmapricot_record_stream.Goals as goal
 pub returns : goal.returns
 returns c =
     let a = c.args in
-    let r = c.record_stream.ensures in
-    let back = streamed_back _ _ in (
-      c.put_taken.ensures.0 ∙ ap streamed_number r.0 ∙ back.0,
-      (r.1, c.put_taken.ensures.1 ∙ ap (λ (x : Streamed). set a.taken.now 0 (streamed_taken x)) r.0 ∙ ap (set a.taken.now 0) back.1),
-    )
+    let back = streamed_back _ _ in
+    let w = (
+      c.put_taken.ensures.0 ∙ ap streamed_number c.record_stream.ensures.answer ∙ back.0,
+      (c.record_stream.ensures.memory, c.put_taken.ensures.1 ∙ ap (λ (x : Streamed). set a.taken.now 0 (streamed_taken x)) c.record_stream.ensures.answer ∙ ap (set a.taken.now 0) back.1),
+    ) in
+    record { answer = w.0; memory = w.1; taken = w.2 }

@@ -8,8 +8,7 @@ use Rattle.index_rule.proofs.check.Goals as goal
 
 pub index_rule-requires : goal.index_rule-requires
 index_rule-requires c =
-    let t = c.t-1.given in
-    let q = ap layout_of (sym t.1) ∙ c.read_image.ensures in
+    let q = ap layout_of (sym c.in-Right.is) ∙ c.read_image.ensures in
     record { nodes = _; entries = _; read = sym q }
 
 pub returns-then-not-index_rule : goal.returns-then-not-index_rule
@@ -28,16 +27,14 @@ returns-in-Refused c = check_refused c.args.s.now _ (ap layout_of (sym c.in-Refu
 
 pub returns-then-conflict_free : goal.returns-then-conflict_free
 returns-then-conflict_free c =
-    let t = c.t-1.given in
-    let q = ap layout_of (sym t.1) ∙ c.read_image.ensures in
+    let q = ap layout_of (sym c.in-Right.is) ∙ c.read_image.ensures in
     let r = c.index_rule in
     let f = c.conflict_free in
-    ap (λ (o : Bool). cond o (right t.0.0.nodes t.0.0.entries) (refused 18)) (sym c.if-conflict_free.true) ∙ check_by c.args.s.now _ _ q r.result r.ensures c.if-not-index_rule.false f.result f.ensures
+    ap (λ (o : Bool). cond o (right c.in-Right.t.nodes c.in-Right.t.entries) (refused 18)) (sym c.if-conflict_free.true) ∙ check_by c.args.s.now _ _ q r.result r.ensures c.if-not-index_rule.false f.result f.ensures
 
 pub returns-else-conflict_free : goal.returns-else-conflict_free
 returns-else-conflict_free c =
-    let t = c.t-1.given in
-    let q = ap layout_of (sym t.1) ∙ c.read_image.ensures in
+    let q = ap layout_of (sym c.in-Right.is) ∙ c.read_image.ensures in
     let r = c.index_rule in
     let f = c.conflict_free in
-    ap (λ (o : Bool). cond o (right t.0.0.nodes t.0.0.entries) (refused 18)) (sym c.if-conflict_free.false) ∙ check_by c.args.s.now _ _ q r.result r.ensures c.if-not-index_rule.false f.result f.ensures
+    ap (λ (o : Bool). cond o (right c.in-Right.t.nodes c.in-Right.t.entries) (refused 18)) (sym c.if-conflict_free.false) ∙ check_by c.args.s.now _ _ q r.result r.ensures c.if-not-index_rule.false f.result f.ensures

@@ -24,13 +24,11 @@ returns-in_default c =
 pub returns-then-h-t : goal.returns-then-h-t
 returns-then-h-t c =
     let a = c.args in
-    let t = c.t-1.given in
-    image_right a.mem.now (header_of a.h) _ (same_part a.mem.now a.h.payload) t.0.0.nodes t.0.0.entries (ap layout_of (sym t.1) ∙ c.check.ensures) _
-    (other_nodes a.h.nodes t.0.0.nodes a.h.entries t.0.0.entries c.if-h-t.true)
+    image_right a.mem.now (header_of a.h) _ (same_part a.mem.now a.h.payload) c.in-Right.t.nodes c.in-Right.t.entries (ap layout_of (sym c.in-Right.is) ∙ c.check.ensures) _
+    (other_nodes a.h.nodes c.in-Right.t.nodes a.h.entries c.in-Right.t.entries c.if-h-t.true)
 
 pub returns : goal.returns
 returns c =
     let a = c.args in
-    let t = c.t-1.given in
-    image_right a.mem.now (header_of a.h) _ (same_part a.mem.now a.h.payload) t.0.0.nodes t.0.0.entries (ap layout_of (sym t.1) ∙ c.check.ensures) _
-    (same_nodes a.h.nodes t.0.0.nodes a.h.entries t.0.0.entries c.if-h-t.false)
+    image_right a.mem.now (header_of a.h) _ (same_part a.mem.now a.h.payload) c.in-Right.t.nodes c.in-Right.t.entries (ap layout_of (sym c.in-Right.is) ∙ c.check.ensures) _
+    (same_nodes a.h.nodes c.in-Right.t.nodes a.h.entries c.in-Right.t.entries c.if-h-t.false)

@@ -5,7 +5,7 @@ use Rattle.joining.proofs.Joining.{location_far, found_none, found_joined}
 use Rattle.joining.proofs.join_location.Goals as goal
 
 pub returns-then-a-size : goal.returns-then-a-size
-returns-then-a-size c = location_far _ _ _ (plain c.args.l) _ (λ j. omega (arith, c.shared_slice_known-1.given j)) c.requires.1 (omega arith)
+returns-then-a-size c = location_far _ _ _ (plain c.args.l) _ (λ j. omega (arith, c.type_inv.img j)) c.requires.1 (omega arith)
 
 pub returns-then-found-eq0 : goal.returns-then-found-eq0
 returns-then-found-eq0 c = found_none c.from_key-found.ensures (plain c.args.l) c.if-found-eq0.true c.requires.1

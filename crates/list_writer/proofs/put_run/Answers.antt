@@ -5,7 +5,7 @@ use Rattle.list_writer.proofs.Copying.{copy_start, copy_asks, copy_turn, copy_do
 use Rattle.list_writer.proofs.put_run.Goals as goal
 
 pub loop-i-init : goal.loop-i-init
-loop-i-init c = copy_start _ _ _ _ _ c.requires.0 c.requires.1 (λ j. omega (arith, c.slice_known-1.given j))
+loop-i-init c = copy_start _ _ _ _ _ c.requires.0 c.requires.1 (λ j. omega (arith, c.type_inv.mem j))
 
 pub overflow_add-at : goal.overflow_add-at
 overflow_add-at c =
@@ -38,7 +38,7 @@ overflow_add-n c =
     omega (arith, q.to)
 
 pub loop-i-preserved : goal.loop-i-preserved
-loop-i-preserved c = copy_turn _ _ _ _ _ c.requires.0 c.requires.1 c.requires.2 c.loop-i.invariant c.loop-i-test.true _ (λ j. omega (arith, c.slice_known-in-loop-i-1.given j)) c.put_tail_location.ensures
+loop-i-preserved c = copy_turn _ _ _ _ _ c.requires.0 c.requires.1 c.requires.2 c.loop-i.invariant c.loop-i-test.true _ (λ j. omega (arith, c.type_inv.mem j)) c.put_tail_location.ensures
 
 pub returns : goal.returns
 returns c = copy_done _ _ _ _ _ c.requires.0 c.requires.1 c.loop-i.invariant c.loop-i-test.false

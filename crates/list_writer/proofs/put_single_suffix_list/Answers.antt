@@ -21,6 +21,5 @@ behind_list-requires c =
 
 pub returns : goal.returns
 returns c =
-    let put = c.put_whole-n.ensures in
-    let copied = single_whole _ _ _ _ c.requires.0 (λ j. omega (arith, c.slice_known-1.given j)) c.requires.1 _ _ (λ j. omega (arith, c.slice_known-2-1.given j)) put.0 put.1 in
+    let copied = single_whole _ _ _ _ c.requires.0 (λ j. omega (arith, c.slice_known-1.given j)) c.requires.1 _ _ (λ j. omega (arith, c.slice_known-2-1.given j)) c.put_whole-n.ensures.count c.put_whole-n.ensures.bytes in
     written _ _ copied c.close_list-kept.ensures c.behind_list.ensures

@@ -5,7 +5,7 @@ use Rattle.list_writer.proofs.Copying.{whole_start, whole_asks, whole_turn, copy
 use Rattle.list_writer.proofs.put_wholes.Goals as goal
 
 pub loop-i-init : goal.loop-i-init
-loop-i-init c = whole_start _ _ _ _ _ c.requires.0 c.requires.1 (λ j. omega (arith, c.slice_known-1.given j))
+loop-i-init c = whole_start _ _ _ _ _ c.requires.0 c.requires.1 (λ j. omega (arith, c.type_inv.mem j))
 
 pub put_whole-n-requires : goal.put_whole-n-requires
 put_whole-n-requires c =
@@ -15,7 +15,7 @@ put_whole-n-requires c =
     (omega (arith, q, w.copied.long), omega (arith, w.copied.long))
 
 pub loop-i-preserved : goal.loop-i-preserved
-loop-i-preserved c = whole_turn _ _ _ _ _ c.requires.0 c.requires.1 c.requires.2 c.loop-i.invariant c.loop-i-test.true _ _ (λ j. omega (arith, c.slice_known-in-loop-i-1.given j)) c.put_whole-n.ensures.count c.put_whole-n.ensures.bytes
+loop-i-preserved c = whole_turn _ _ _ _ _ c.requires.0 c.requires.1 c.requires.2 c.loop-i.invariant c.loop-i-test.true _ _ (λ j. omega (arith, c.type_inv.mem j)) c.put_whole-n.ensures.count c.put_whole-n.ensures.bytes
 
 pub returns : goal.returns
 returns c = copy_done _ _ _ _ _ c.requires.0 c.requires.1 c.loop-i.invariant c.loop-i-test.false

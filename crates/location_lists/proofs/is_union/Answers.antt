@@ -16,7 +16,8 @@ returns-then-a-back c =
     let o = c.loop-left in
     let a = c.args in
     let w = walking_low a.s.now a.at a.n a.back a.lists.now a.count o.lists o.p o.left o.invariant in
-    w c.loop-left-test.true (plain l.result) l.ensures (omega arith)
+    let w = w c.loop-left-test.true (plain l.result) l.ensures (omega arith) in
+    record { says = w.0; keeps = w.1 }
 
 pub step_over-met-requires : goal.step_over-met-requires
 step_over-met-requires c = c.loop-left.invariant.valid
@@ -30,7 +31,8 @@ returns-then-met-eq0 c =
     let a = c.args in
     let w = walking_lone a.s.now a.at a.n a.back a.lists.now a.count o.lists o.p o.left o.invariant in
     let v = w c.loop-left-test.true (plain l.result) l.ensures (omega arith) (plain k.result) k.ensures in
-    v f.new.lists f.ensures.0 f.result f.ensures.1 (omega arith)
+    let w = v f.new.lists f.ensures.0 f.result f.ensures.1 (omega arith) in
+    record { says = w.0; keeps = w.1 }
 
 pub loop-left-preserved : goal.loop-left-preserved
 loop-left-preserved c =
@@ -51,4 +53,5 @@ returns c =
     let o = c.loop-left in
     let a = c.args in
     let w = walking_done a.s.now a.at a.n a.back a.lists.now a.count o.lists o.p o.left o.invariant in
-    w c.loop-left-test.false c.all_ended.result c.all_ended.ensures
+    let w = w c.loop-left-test.false c.all_ended.result c.all_ended.ensures in
+    record { says = w.0; keeps = w.1 }

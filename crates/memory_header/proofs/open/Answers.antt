@@ -8,14 +8,14 @@ use Rattle.memory_header.proofs.HeaderFacts.{in_range, not_in_range}
 use Rattle.memory_header.proofs.open.Goals as goal
 
 pub returns-then-not-is_capacity : goal.returns-then-not-is_capacity
-returns-then-not-is_capacity c =
-    open_refused c.args.mem.now (record { nodes = c.args.nodes; entries = c.args.entries })
-    (λ f. not_in_range c.args.nodes (sym c.is_capacity.ensures ∙ c.if-not-is_capacity.true) f.some_nodes f.few_nodes)
+returns-then-not-is_capacity c = let w = open_refused c.args.mem.now (record { nodes = c.args.nodes; entries = c.args.entries })
+    (λ f. not_in_range c.args.nodes (sym c.is_capacity.ensures ∙ c.if-not-is_capacity.true) f.some_nodes f.few_nodes) in
+    record { answer = w.0; memory = w.1 }
 
 pub returns-then-not-is_capacity-2 : goal.returns-then-not-is_capacity-2
-returns-then-not-is_capacity-2 c =
-    open_refused c.args.mem.now (record { nodes = c.args.nodes; entries = c.args.entries })
-    (λ f. not_in_range c.args.entries (sym c.is_capacity-2.ensures ∙ c.if-not-is_capacity-2.true) f.some_entries f.few_entries)
+returns-then-not-is_capacity-2 c = let w = open_refused c.args.mem.now (record { nodes = c.args.nodes; entries = c.args.entries })
+    (λ f. not_in_range c.args.entries (sym c.is_capacity-2.ensures ∙ c.if-not-is_capacity-2.true) f.some_entries f.few_entries) in
+    record { answer = w.0; memory = w.1 }
 
 pub needed-requires : goal.needed-requires
 needed-requires c =
@@ -24,9 +24,9 @@ needed-requires c =
     (a.1, b.1)
 
 pub returns-then-mem-needed : goal.returns-then-mem-needed
-returns-then-mem-needed c =
-    open_refused c.args.mem.now (record { nodes = c.args.nodes; entries = c.args.entries })
-    (λ f. omega (arith, f.held, c.needed.ensures, c.if-mem-needed.true))
+returns-then-mem-needed c = let w = open_refused c.args.mem.now (record { nodes = c.args.nodes; entries = c.args.entries })
+    (λ f. omega (arith, f.held, c.needed.ensures, c.if-mem-needed.true)) in
+    record { answer = w.0; memory = w.1 }
 
 pub returns : goal.returns
 returns c =

@@ -69,7 +69,7 @@ certificate_at-base-requires c =
 pub loop-j-init : goal.loop-j-init
 loop-j-init c =
     let a = c.args in
-    moving_start a.mem.now (λ j. omega (arith, c.slice_known-1.given j)) (header_of a.h) a.count a.new c.requires
+    moving_start a.mem.now (λ j. omega (arith, c.type_inv.mem j)) (header_of a.h) a.count a.new c.requires
 
 pub first_from-k-requires : goal.first_from-k-requires
 first_from-k-requires c =

@@ -36,13 +36,15 @@ pub returns-then-kind : goal.returns-then-kind
 returns-then-kind c =
     {- place record start used whole -}
     let start = c.before.before.before in
-    entered_by start _ _ (kind_unknown (m start) (h start) start.args.kind (b start) c.if1.true)
+    let w = entered_by start _ _ (kind_unknown (m start) (h start) start.args.kind (b start) c.if1.true) in
+    record { verdict = w.0; memory = w.1; filled = w.2 }
 
 pub returns-then-kind-2 : goal.returns-then-kind-2
 returns-then-kind-2 c =
     {- place record start used whole -}
     let start = c.before.before.before.before in
-    entered_by start _ _ (kind_other (m start) (h start) start.args.kind (b start) c.before.if1.false c.if2.true)
+    let w = entered_by start _ _ (kind_other (m start) (h start) start.args.kind (b start) c.before.if1.false c.if2.true) in
+    record { verdict = w.0; memory = w.1; filled = w.2 }
 
 pub judge-requires : goal.judge-requires
 judge-requires c =
@@ -51,9 +53,8 @@ judge-requires c =
 
 pub append-requires : goal.append-requires
 append-requires c =
-    let g = c.counted-1.given in
     let b : Block = record { bytes = c.args.«data».now; at = plain c.args.l } in
-    fitting _ _ c.requires.0 b c.args.count c.requires.1 (header_of g.0.0) (sym (ap verdict_of g.1) ∙ c.judge.ensures)
+    fitting _ _ c.requires.0 b c.args.count c.requires.1 (header_of c.in-Counted.counted) (sym (ap verdict_of c.in-Counted.is) ∙ c.judge.ensures)
 
 pub returns-in-Counted : goal.returns-in-Counted
 returns-in-Counted c =
@@ -64,7 +65,8 @@ returns-in-Counted c =
     let two = j.before.before in
     let start = two.before.before.before.before in
     let k = kind_memory (m start) (h start) start.args.kind (b start) two.before.if1.false two.if2.false (counted (header_of g.0.0)) (sym (ap verdict_of g.1) ∙ j.judge.ensures) in
-    entered_by start _ _ (k.0, w.append.ensures ∙ k.1)
+    let w = entered_by start _ _ (k.0, w.append.ensures ∙ k.1) in
+    record { verdict = w.0; memory = w.1; filled = w.2 }
 
 pub returns-in-Refused : goal.returns-in-Refused
 returns-in-Refused c =
@@ -73,4 +75,5 @@ returns-in-Refused c =
     let g = c.before.n.given in
     let two = j.before.before in
     let start = two.before.before.before.before in
-    entered_by start _ _ (kind_memory (m start) (h start) start.args.kind (b start) two.before.if1.false two.if2.false (refused g.0.0) (sym (ap verdict_of g.1) ∙ j.judge.ensures))
+    let w = entered_by start _ _ (kind_memory (m start) (h start) start.args.kind (b start) two.before.if1.false two.if2.false (refused g.0.0) (sym (ap verdict_of g.1) ∙ j.judge.ensures)) in
+    record { verdict = w.0; memory = w.1; filled = w.2 }

@@ -20,4 +20,4 @@ returns-in-Refused c =
     record { answer = refused_as n (fault_some k) ∙ ap (λ (d : Done). outcome_as d.refusal) e; memory = ap (λ (d : Done). d.memory) e }
 
 pub returns-in-Right : goal.returns-in-Right
-returns-in-Right c = c.load_right.ensures
+returns-in-Right c = record { answer = c.load_right.ensures.answer; memory = c.load_right.ensures.memory }

@@ -25,7 +25,7 @@ pub copy-requires : goal.copy-requires
 copy-requires c =
     let a = c.args in (
       omega arith,
-      room (header_of a.h).capacity a.mem.now a.s.now a.t.nodes a.t.entries (room_of a.mem.now _ c.requires.0) (λ j. omega (arith, c.shared_slice_known-1.given j)) (omega arith) c.requires.1 c.if-h-t.false c.if-h-t-2.false,
+      room (header_of a.h).capacity a.mem.now a.s.now a.t.nodes a.t.entries (room_of a.mem.now _ c.requires.0) (λ j. omega (arith, c.type_inv.s j)) (omega arith) c.requires.1 c.if-h-t.false c.if-h-t-2.false,
     )
 
 pub put_finished-requires : goal.put_finished-requires

@@ -31,38 +31,39 @@ overflow_add-taken c = omega (arith, c.requires.4, c.requires.3)
 
 pub filled_after-requires : goal.filled_after-requires
 filled_after-requires c =
-    let g = c.header-1.given in
     let a = c.args in
     let b : Block = record { bytes = take (a.b.next - a.b.start) (drop a.b.start a.stream.now); at = plain c.new-l.result } in
-    ((λ k. counted_short a.mem.now (header_of a.p.header) (header_of g.0.0) a.b.kind b (sym c.enter.ensures.verdict ∙ ap verdict_of g.1) k), count_few _ _ c.requires.0 a.p.filled c.requires.1)
+    ((λ k. counted_short a.mem.now (header_of a.p.header) (header_of c.in-Counted.header) a.b.kind b (sym c.enter.ensures.verdict ∙ ap verdict_of c.in-Counted.is) k), count_few _ _ c.requires.0 a.p.filled c.requires.1)
 
 pub returns-in-Counted : goal.returns-in-Counted
 returns-in-Counted c =
-    let g = c.header-1.given in
     let a = c.args in
     let h = header_of a.p.header in
     let bytes = take (a.b.next - a.b.start) (drop a.b.start a.stream.now) in
-    let w = sym (ap verdict_of g.1) ∙ c.enter.ensures.verdict in
-    let v = w ∙ ap (λ (x : Location). judged_by_kind a.mem.now h a.b.kind (record { bytes = bytes; at = x })) c.new-l.ensures in (
+    let w = sym (ap verdict_of c.in-Counted.is) ∙ c.enter.ensures.verdict in
+    let v = w ∙ ap (λ (x : Location). judged_by_kind a.mem.now h a.b.kind (record { bytes = bytes; at = x })) c.new-l.ensures in
+    let w = (
       ap (on_or_halted (progress_of a.p) a.b.next) v,
       (
         c.enter.ensures.memory.0 ∙ ap (λ (x : Location). entered a.mem.now h a.b.kind (record { bytes = bytes; at = x })) c.new-l.ensures,
-        c.filled_after.ensures ∙ sym (c.enter.ensures.memory.1 (header_of g.0.0) (ap verdict_of g.1)),
+        c.filled_after.ensures ∙ sym (c.enter.ensures.memory.1 (header_of c.in-Counted.header) (ap verdict_of c.in-Counted.is)),
       ),
-    )
+    ) in
+    record { progress = w.0; memory = w.1; filled = w.2 }
 
 pub returns-in-Refused : goal.returns-in-Refused
 returns-in-Refused c =
-    let g = c.n-1.given in
     let a = c.args in
     let h = header_of a.p.header in
     let bytes = take (a.b.next - a.b.start) (drop a.b.start a.stream.now) in
-    let w = sym (ap verdict_of g.1) ∙ c.enter.ensures.verdict in
-    let v = w ∙ ap (λ (x : Location). judged_by_kind a.mem.now h a.b.kind (record { bytes = bytes; at = x })) c.new-l.ensures in (
+    let w = sym (ap verdict_of c.in-Refused.is) ∙ c.enter.ensures.verdict in
+    let v = w ∙ ap (λ (x : Location). judged_by_kind a.mem.now h a.b.kind (record { bytes = bytes; at = x })) c.new-l.ensures in
+    let w = (
       c.halted.ensures.0 ∙ ap (on_or_halted (progress_of a.p) a.b.next) v,
       (
         c.enter.ensures.memory.0 ∙ ap (λ (x : Location). entered a.mem.now h a.b.kind (record { bytes = bytes; at = x })) c.new-l.ensures,
-        c.halted.ensures.1 ∙ still-filled a.mem.now _ h a.b.kind (record { bytes = bytes; at = plain c.new-l.result }) g.0.0 a.p.filled w c.enter.ensures.memory.0 c.requires.1
+        c.halted.ensures.1 ∙ still-filled a.mem.now _ h a.b.kind (record { bytes = bytes; at = plain c.new-l.result }) c.in-Refused.n a.p.filled w c.enter.ensures.memory.0 c.requires.1
             ∙ ap (λ (x : Progress). filled (pieces_in c.enter.new.mem x.header)) (sym c.halted.ensures.0),
       ),
-    )
+    ) in
+    record { progress = w.0; memory = w.1; filled = w.2 }

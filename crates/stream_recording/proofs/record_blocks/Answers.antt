@@ -37,7 +37,7 @@ pub loop-p-preserved : goal.loop-p-preserved
 loop-p-preserved c =
     let g = c.loop-p.invariant in
     let a = c.args in
-    let bytes : (k : ℕ) → get_or a.stream.now k 0 < 256 = λ j. omega (arith, c.shared_slice_known-1.given j) in
+    let bytes : (k : ℕ) → get_or a.stream.now k 0 < 256 = λ j. omega (arith, c.type_inv.stream j) in
     (going_on a.stream.now a.mem.now bytes _ _ g.0 c.loop-p-test.true c.record_next-p.new.mem (progress_of c.record_next-p.result) c.record_next-p.ensures.progress c.record_next-p.ensures.memory.0 c.record_next-p.auto.mem, c.record_next-p.ensures.memory.1)
 
 pub close-requires : goal.close-requires

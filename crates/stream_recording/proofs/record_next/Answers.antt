@@ -14,27 +14,28 @@ use Rattle.stream_recording.proofs.record_next.Goals as goal
 
 pub enter_block-requires : goal.enter_block-requires
 enter_block-requires c =
-    let g = c.b-1.given in
     let a = c.args in
-    let k = block_part a.stream.now a.p.at c.read_block.result g.0.0 g.1 c.read_block.ensures.means c.read_block.ensures.starts in
+    let k = block_part a.stream.now a.p.at c.read_block.result c.in-Block.b c.in-Block.is c.read_block.ensures.means c.read_block.ensures.starts in
     (c.requires.0, c.requires.1, k.ordered, k.within, omega (arith, c.requires.2, k.behind))
 
 pub returns-in-Block : goal.returns-in-Block
 returns-in-Block c =
     let w = c.enter_block in
-    let g = c.b-1.given in
     let a = c.args in
-    let e = subst (λ (x : Answer). read_of a.stream.now x ≡ read_block a.stream.now a.p.at) g.1 c.read_block.ensures.means in
-    (w.ensures.progress ∙ ap (next_progress a.mem.now (progress_of a.p)) e, (w.ensures.memory.0 ∙ ap (entered_next a.mem.now (header_of a.p.header)) e, w.ensures.memory.1))
+    let e = subst (λ (x : Answer). read_of a.stream.now x ≡ read_block a.stream.now a.p.at) c.in-Block.is c.read_block.ensures.means in
+    let w = (w.ensures.progress ∙ ap (next_progress a.mem.now (progress_of a.p)) e, (w.ensures.memory.0 ∙ ap (entered_next a.mem.now (header_of a.p.header)) e, w.ensures.memory.1)) in
+    record { progress = w.0; memory = w.1; filled = w.2 }
 
 pub returns-in-End : goal.returns-in-End
 returns-in-End c =
     let a = c.args in
     let e = subst (λ (x : Answer). read_of a.stream.now x ≡ read_block a.stream.now a.p.at) c.in-End.is c.read_block.ensures.means in
-    (c.halted.ensures.0 ∙ ap (next_progress a.mem.now (progress_of a.p)) e, (ap (entered_next a.mem.now (header_of a.p.header)) e, c.halted.ensures.1 ∙ c.requires.1 ∙ ap (λ (x : Progress). filled (pieces_in a.mem.now x.header)) (sym c.halted.ensures.0)))
+    let w = (c.halted.ensures.0 ∙ ap (next_progress a.mem.now (progress_of a.p)) e, (ap (entered_next a.mem.now (header_of a.p.header)) e, c.halted.ensures.1 ∙ c.requires.1 ∙ ap (λ (x : Progress). filled (pieces_in a.mem.now x.header)) (sym c.halted.ensures.0))) in
+    record { progress = w.0; memory = w.1; filled = w.2 }
 
 pub returns-in-Refused : goal.returns-in-Refused
 returns-in-Refused c =
     let a = c.args in
     let e = subst (λ (x : Answer). read_of a.stream.now x ≡ read_block a.stream.now a.p.at) c.in-Refused.is c.read_block.ensures.means in
-    (c.halted-in-Refused.ensures.0 ∙ ap (next_progress a.mem.now (progress_of a.p)) e, (ap (entered_next a.mem.now (header_of a.p.header)) e, c.halted-in-Refused.ensures.1 ∙ c.requires.1 ∙ ap (λ (x : Progress). filled (pieces_in a.mem.now x.header)) (sym c.halted-in-Refused.ensures.0)))
+    let w = (c.halted-in-Refused.ensures.0 ∙ ap (next_progress a.mem.now (progress_of a.p)) e, (ap (entered_next a.mem.now (header_of a.p.header)) e, c.halted-in-Refused.ensures.1 ∙ c.requires.1 ∙ ap (λ (x : Progress). filled (pieces_in a.mem.now x.header)) (sym c.halted-in-Refused.ensures.0))) in
+    record { progress = w.0; memory = w.1; filled = w.2 }

@@ -10,7 +10,7 @@ pub loop-j-init : goal.loop-j-init
 loop-j-init c = (omega arith, least_none _ _ _ (omega arith))
 
 pub overflow_cast-s : goal.overflow_cast-s
-overflow_cast-s c = omega (arith, c.shared_slice_known-in-loop-j-1.given (c.args.base + c.loop-j.j * 9))
+overflow_cast-s c = omega (arith, c.type_inv.s (c.args.base + c.loop-j.j * 9))
 
 pub nearer-least-requires : goal.nearer-least-requires
 nearer-least-requires c = c.loop-j.invariant.1.from

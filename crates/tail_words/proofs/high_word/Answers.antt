@@ -16,7 +16,7 @@ pub with_byte-x-requires : goal.with_byte-x-requires
 with_byte-x-requires c =
     let a = c.args in
     let l = c.loop-k in
-    let b = part_bytes a.n a.mem.now a.at (λ k. omega (arith, c.shared_slice_known-1.given k)) in
+    let b = part_bytes a.n a.mem.now a.at (λ k. omega (arith, c.type_inv.mem k)) in
     let r = high_room l.k (take a.n (drop a.at a.mem.now)) l.x b c.loop-k-test.true l.invariant.1 in
     (omega (arith, r), omega (arith, c.padded.ensures, b l.k))
 

@@ -6,7 +6,7 @@ use Rattle.tail_words.proofs.Part.{part_in, part_out}
 use Rattle.tail_words.proofs.padded.Goals as goal
 
 pub overflow_cast-result : goal.overflow_cast-result
-overflow_cast-result c = omega (arith, c.shared_slice_known-1.given (c.args.at + c.args.k))
+overflow_cast-result c = omega (arith, c.type_inv.mem (c.args.at + c.args.k))
 
 pub returns-then-k-n : goal.returns-then-k-n
 returns-then-k-n c = sym (part_in c.args.n c.args.mem.now c.args.at c.args.k c.if-k-n.true)

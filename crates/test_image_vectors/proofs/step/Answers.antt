@@ -7,10 +7,12 @@ pub returns-then-mode-eq2 : goal.returns-then-mode-eq2
 returns-then-mode-eq2 c =
     let g = c.args in
     let d = c.damaged in
-    (vector_damaged g.bytes.now g.c d.result c.if-mode-eq2.true d.ensures.value, d.ensures.bytes_unchanged)
+    let w = (vector_damaged g.bytes.now g.c d.result c.if-mode-eq2.true d.ensures.value, d.ensures.bytes_unchanged) in
+    record { value = w.0; bytes_unchanged = w.1; at_lt_at = w.2 }
 
 pub returns : goal.returns
 returns c =
     let g = c.args in
     let w = c.whole in
-    (vector_whole g.bytes.now g.c w.result c.if-mode-eq2.false w.ensures.value, (refl, w.ensures.at_lt_at))
+    let w = (vector_whole g.bytes.now g.c w.result c.if-mode-eq2.false w.ensures.value, (refl, w.ensures.at_lt_at)) in
+    record { value = w.0; bytes_unchanged = w.1; at_lt_at = w.2 }

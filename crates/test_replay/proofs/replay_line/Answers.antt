@@ -8,9 +8,7 @@ pub returns-then-is_word : goal.returns-then-is_word
 returns-then-is_word c = {- place record c.before.before used whole -} replays_new (omega arith) (sym c.before.before.before.before.if1.true ∙ c.before.before.before.before.before.is_word.ensures) c.before.before.«open».ensures.1 (record { out = refl; next = refl })
 
 pub returns-then-is_word-2 : goal.returns-then-is_word-2
-returns-then-is_word-2 c =
-    let w = c.save.ensures in
-    replays_save w.1 (sym c.if-is_word.false ∙ c.is_word.ensures) (sym c.if-is_word-2.true ∙ c.is_word-2.ensures) refl w.0
+returns-then-is_word-2 c = replays_save c.save.ensures.upper_bound (sym c.if-is_word.false ∙ c.is_word.ensures) (sym c.if-is_word-2.true ∙ c.is_word-2.ensures) refl c.save.ensures.written
 
 pub returns : goal.returns
 returns c =

@@ -21,8 +21,7 @@ unfolding save_answer
 returns-in-Bytes c =
     let k = c.save in
     let m = c.args.mem.now in
-    let w = c.put_image.ensures in
-    record { written = written_same (saved_line (save_memory m (replicate 73600 0)) _ _ k.new.out (sym c.in-Bytes.is ∙ k.ensures.answer) k.ensures.buffer (omega (arith, length-replicate {A = ℕ} 73600 0)) c.at_most-k.ensures) w.0; upper_bound = w.1 }
+    record { written = written_same (saved_line (save_memory m (replicate 73600 0)) _ _ k.new.out (sym c.in-Bytes.is ∙ k.ensures.answer) k.ensures.buffer (omega (arith, length-replicate {A = ℕ} 73600 0)) c.at_most-k.ensures) c.put_image.ensures.written; upper_bound = c.put_image.ensures.upper_bound }
 
 pub returns-in-Refused : goal.returns-in-Refused
 unfolding save_answer
