@@ -30,9 +30,8 @@ overflow_sub-rest c = follow_level c.loop-node.invariant c.loop-node-test.true (
 
 pub loop-node-smaller : goal.loop-node-smaller
 loop-node-smaller c =
-    {- place record c used whole -}
-    let l = sub-rest c in
-    omega arith
+    let l = follow_level c.loop-node.invariant c.loop-node-test.true (ap entry_of_answer (sym c.in-Taken.is) ∙ c.slot_in-slot.ensures) c.requires.0 in
+    omega (arith, l)
 
 pub loop-node-preserved : goal.loop-node-preserved
 loop-node-preserved c =

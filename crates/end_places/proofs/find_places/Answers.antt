@@ -47,9 +47,6 @@ node_at-n-requires-in-loop-j c =
     let e = ap child_of_answer (sym c.in-At.is) ∙ c.child_of.ensures in
     laid_found (child_found turn.invariant.2 _ (path_next args.q.now args.i turn.j turn.invariant.0 turn.invariant.1) e)
 
-pub overflow_add-j-in-loop-j : goal.overflow_add-j-in-loop-j
-overflow_add-j-in-loop-j c = {- place record c.before.before.before.before.before.before.before used whole -} add-loop c.before.before.before.before.before.before.before
-
 pub join_behind-r-requires : goal.join_behind-r-requires
 join_behind-r-requires c =
     let args = c.args in

@@ -28,13 +28,12 @@ returns-then-f-ne0 c = λ e. not_so (sym c.no_leaf-then-f-ne0.ensures.0 ∙ e)
 
 pub add_front-n-requires : goal.add_front-n-requires
 add_front-n-requires c =
-    {- no step well-formed at Start (['', '']) -}
-    let a = c.before.before.before.before.before.before.before.before.before.before.before.before.before.before.before.before.before.before.args in
-    let p = c.before.before.before.before.before.before.before.before.before.before.before.before.before.before.before.before.before.before.requires in
-    let m = c.before.before.before.before.before.before.node_at in
-    let n = c.before.before.before.node-at2 in
-    let k = leaf_chunks a.s.now a.table a.other _ _ (ap entry_of_answer (sym c.before.before.before.before.before.before.before.before.before.before.before.before.before.slot.given.1) ∙ c.before.before.before.before.before.before.before.before.before.before.before.before.before.before.before.slot_in.ensures) (ap entry_of_answer (sym c.before.before.before.before.before.before.before.before.before.front.given.1) ∙ c.before.before.before.before.before.before.before.before.before.before.before.slot-in2.ensures) m.result n.result m.ensures n.ensures p.1 in
-    (omega (arith, p.2), omega (arith, k.0, c.before.before.before.before.before.before.before.before.before.before.before.before.before.before.before.before.before.before.well-formed.0), omega (arith, k.1, c.before.before.before.before.before.before.before.before.before.before.before.before.before.before.before.before.before.before.well-formed.0))
+    let a = c.args in
+    let p = c.requires in
+    let m = c.node_at-c in
+    let n = c.node_at-f in
+    let k = leaf_chunks a.s.now a.table a.other _ _ (ap entry_of_answer (sym c.in-Taken.is) ∙ c.slot_in-slot.ensures) (ap entry_of_answer (sym c.in-Taken-front.is) ∙ c.slot_in-front.ensures) m.result n.result m.ensures n.ensures p.1 in
+    (omega (arith, p.2), omega (arith, k.0, c.well_formed.0), omega (arith, k.1, c.well_formed.0))
 
 pub is_union-requires : goal.is_union-requires
 is_union-requires c =

@@ -79,15 +79,13 @@ overflow_add-met c = omega (arith, c.requires.0.is.few, c.loop-i.invariant.0.met
 
 pub add_front-listed-requires : goal.add_front-listed-requires
 add_front-listed-requires c =
-    {- no step well-formed at Start (['', '']) -}
-    let u = c.before.before.before.before.before.before.before.before.before.before.before.before.before.before.before.before.before.before.before.before.before in
-    let a = u.args in
-    let o = c.before.before.before.before.before.before.before.before.before.before.before.before.before.before.before.before.before.loop in
-    let l = c.before.before.before.before.before.before.before.before.before.before.before.before.before.before.before.before.loop-test.true in
-    let n = c.before.before.before.before.before.before.node_at in
-    let q = ap child_of_answer (sym c.before.before.before.before.before.before.before.before.c.given.1) ∙ c.before.before.before.before.before.before.before.before.before.before.child_in.ensures ∙ finding_read a.s.now a.byte (a.depth * 768) ((a.depth + 1) * 768) a.fronts.now a.count o.i o.fronts o.met o.lists o.listed o.invariant.0 l (omega (arith, u.requires.0.is.few)) in
-    let p = (finding_parts a.s.now a.byte (a.depth * 768) ((a.depth + 1) * 768) a.fronts.now a.count o.i o.fronts o.met o.lists o.listed o.invariant.0 l _ q n.result n.ensures u.requires.0).is in
-    (omega (arith, u.requires.0.is.few, o.invariant.0.met_few, o.invariant.0.few, l, u.requires.3, o.invariant.1), omega (arith, p.chunks_in, u.well-formed.0), omega (arith, p.prefixes_in, u.well-formed.0))
+    let a = c.args in
+    let o = c.loop-i in
+    let l = c.loop-i-test.true in
+    let n = c.node_at-n in
+    let q = ap child_of_answer (sym c.in-At.is) ∙ c.child_in-c.ensures ∙ finding_read a.s.now a.byte (a.depth * 768) ((a.depth + 1) * 768) a.fronts.now a.count o.i o.fronts o.met o.lists o.listed o.invariant.0 l (omega (arith, c.requires.0.is.few)) in
+    let p = (finding_parts a.s.now a.byte (a.depth * 768) ((a.depth + 1) * 768) a.fronts.now a.count o.i o.fronts o.met o.lists o.listed o.invariant.0 l _ q n.result n.ensures c.requires.0).is in
+    (omega (arith, c.requires.0.is.few, o.invariant.0.met_few, o.invariant.0.few, l, c.requires.3, o.invariant.1), omega (arith, p.chunks_in, c.well_formed.0), omega (arith, p.prefixes_in, c.well_formed.0))
 
 pub loop-i-smaller-in-At : goal.loop-i-smaller-in-At
 loop-i-smaller-in-At c = omega (arith, c.loop-i-test.true)

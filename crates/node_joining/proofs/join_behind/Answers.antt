@@ -22,10 +22,10 @@ returns-then-j-q c =
     joined_at args.img.now (step.j - step.i) _ (eqb step.i 0) step.n c.ends_at-e.ensures (behind_last (step.j - step.i) (ended_in args.img.now _) args.img.now args.q.now step.j (omega arith) c.if-j-q.true c.requires.1 c.join_last.ensures)
 
 pub offset_bounds-ends-j : goal.offset_bounds-ends-j
-offset_bounds-ends-j c = {- no step well-formed at Start (['', '']) -} let start = c.before.before.before.before.before.before.before.before.before.before.before in omega (arith, start.requires.4.long, start.well-formed)
+offset_bounds-ends-j c = omega (arith, c.requires.4.long, c.well_formed)
 
 pub offset_bounds-ends-j-2 : goal.offset_bounds-ends-j-2
-offset_bounds-ends-j-2 c = {- no step well-formed at Start (['', '']) -} let start = c.before.before.before.before.before.before.before.before.before.before.before.before in omega (arith, start.requires.4.long, start.well-formed)
+offset_bounds-ends-j-2 c = omega (arith, c.requires.4.long, c.well_formed)
 
 pub join_node-requires : goal.join_node-requires
 join_node-requires c =

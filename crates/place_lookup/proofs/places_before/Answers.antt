@@ -11,7 +11,11 @@ loop-left-init c =
     (omega arith, omega (arith, before_listed args.scratch.now args.n args.at (plain args.l)), omega arith)
 
 pub overflow_add-low-in-loop-left : goal.overflow_add-low-in-loop-left
-overflow_add-low-in-loop-left c = {- place record c used whole -} let h = loop-again c in omega (arith, h)
+overflow_add-low-in-loop-left c =
+    let turn = c.loop-left in
+    let args = c.args in
+    let h = halve args.scratch.now args.n args.at (plain args.l) c.requires.1 turn.low turn.left _ turn.invariant.0 turn.invariant.1 turn.invariant.2 (omega arith) refl c.so_many_before-low.ensures in
+    omega (arith, h)
 
 pub loop-left-preserved : goal.loop-left-preserved
 loop-left-preserved c =

@@ -33,42 +33,30 @@ put_pieces-requires c =
 
 pub returns-then-n-eq0 : goal.returns-then-n-eq0
 returns-then-n-eq0 c =
-    {- no step well-formed at Start (['', '']) -}
-    let put = c.before.before.before in
-    let start = put.before.before.before.before.before in
-    let a = start.args in
+    let a = c.args in
     let b : Block = record { bytes = a.«data».now; at = plain a.l } in
-    let l = start.well-formed.1.1.1.1.0.1.1 in
+    let l = c.well_formed.1.1.1.1.0.1.1 in
     let t : Fits (plain a.l) = record { address = l.0.1.1.0.1; created = l.1.0.1.1.0.1; destroyed = l.1.1.0.1.1.0.1 } in
-    put.put-pieces.ensures ∙ put_none a.mem.now (header_of a.h) a.count b start.requires t c.if1.true
+    c.put_pieces.ensures ∙ put_none a.mem.now (header_of a.h) a.count b c.requires t c.if-n-eq0.true
 
 pub piece_count-requires : goal.piece_count-requires
 piece_count-requires c = c.requires.sound.short
 
 pub enter_pieces-requires : goal.enter_pieces-requires
 enter_pieces-requires c =
-    {- no step well-formed at Start (['', '']) -}
-    let some = c.before.before in
-    let put = some.before.before.before in
-    let start = put.before.before.before.before.before in
-    let a = start.args in
+    let a = c.args in
     let b : Block = record { bytes = a.«data».now; at = plain a.l } in
-    let l = start.well-formed.1.1.1.1.0.1.1 in
+    let l = c.well_formed.1.1.1.1.0.1.1 in
     let t : Fits (plain a.l) = record { address = l.0.1.1.0.1; created = l.1.0.1.1.0.1; destroyed = l.1.1.0.1.1.0.1 } in
-    let e = entering a.mem.now (header_of a.h) a.count b start.requires t some.if1.false in
-    subst (λ (x : List ℕ). Entering x (header_of a.h) a.count c.piece-count.result) (sym put.put-pieces.ensures)
-    (subst (Entering _ (header_of a.h) a.count) (sym c.piece-count.ensures) e)
+    let e = entering a.mem.now (header_of a.h) a.count b c.requires t c.if-n-eq0.false in
+    subst (λ (x : List ℕ). Entering x (header_of a.h) a.count c.piece_count.result) (sym c.put_pieces.ensures)
+    (subst (Entering _ (header_of a.h) a.count) (sym c.piece_count.ensures) e)
 
 pub returns : goal.returns
 returns c =
-    {- no step well-formed at Start (['', '']) -}
-    let made = c.before.before in
-    let k = made.before in
-    let put = k.before.before.before.before.before in
-    let start = put.before.before.before.before.before in
-    let a = start.args in
+    let a = c.args in
     let b : Block = record { bytes = a.«data».now; at = plain a.l } in
-    let l = start.well-formed.1.1.1.1.0.1.1 in
+    let l = c.well_formed.1.1.1.1.0.1.1 in
     let t : Fits (plain a.l) = record { address = l.0.1.1.0.1; created = l.1.0.1.1.0.1; destroyed = l.1.1.0.1.1.0.1 } in
-    put_some a.mem.now (header_of a.h) a.count b start.requires t _
-    (made.enter-pieces.ensures ∙ (λ i. entered (header_of a.h) (put.put-pieces.ensures i) (k.piece-count.ensures i)))
+    put_some a.mem.now (header_of a.h) a.count b c.requires t _
+    (c.enter_pieces.ensures ∙ (λ i. entered (header_of a.h) (c.put_pieces.ensures i) (c.piece_count.ensures i)))

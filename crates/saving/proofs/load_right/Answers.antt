@@ -30,31 +30,18 @@ copy-requires c =
 
 pub put_finished-requires : goal.put_finished-requires
 put_finished-requires c =
-    {- no step well-formed at Start (['', '']) -}
-    let k = c.before.closed in
-    let c₄ = c.before.before.before.before in
-    let c₆ = c₄.before.before in
-    let c₉ = c₆.before.before.before in
-    let c₁₂ = c₉.before.before.before in
-    let start = c₁₂.before.before in
-    let a = start.args in
-    closable (header_of a.h).capacity a.mem.now a.s.now a.t.nodes a.t.entries (room_of a.mem.now _ start.requires.0) (λ j. omega (arith, c₁₂.shared-slice-known.given j)) (omega (arith, start.well-formed.1.1.1.0)) start.requires.1 c₉.if1.false c₆.if2.false
-    (header_of k.result) (ap header_of k.ensures) _ (ap length c₄.copy.ensures ∙ simp length-sets)
+    let k = c.closed-closed in
+    let a = c.args in
+    closable (header_of a.h).capacity a.mem.now a.s.now a.t.nodes a.t.entries (room_of a.mem.now _ c.requires.0) (λ j. omega (arith, c.type_inv.s j)) (omega (arith, c.well_formed.1.1.1.0)) c.requires.1 c.if-h-t.false c.if-h-t-2.false
+    (header_of k.result) (ap header_of k.ensures) _ (ap length c.copy.ensures ∙ simp length-sets)
 
 pub returns : goal.returns
 returns c =
-    {- no step well-formed at Start (['', '']) -}
-    let w = c.before.before.put-finished in
-    let c₄ = c.before.before.before.before in
-    let k = c₄.closed in
-    let c₇ = c₄.before.before.before in
-    let c₉ = c₇.before.before in
-    let c₁₂ = c₉.before.before.before in
-    let c₁₅ = c₁₂.before.before.before in
-    let start = c₁₅.before.before in
-    let a = start.args in
+    let w = c.put_finished in
+    let k = c.closed-closed in
+    let a = c.args in
     let e =
-    loaded (header_of a.h).capacity a.mem.now a.s.now a.t.nodes a.t.entries (room_of a.mem.now _ start.requires.0) (λ j. omega (arith, c₁₅.shared-slice-known.given j)) (omega (arith, start.well-formed.1.1.1.0)) start.requires.1 c₁₂.if1.false c₉.if2.false
-    (header_of k.result) (ap header_of k.ensures) c₇.copy.new.1.1.0 w.new.0 c₇.copy.ensures w.ensures
-    ∙ load_as a.mem.now a.s.now _ _ start.requires.0 start.requires.1 in
+    loaded (header_of a.h).capacity a.mem.now a.s.now a.t.nodes a.t.entries (room_of a.mem.now _ c.requires.0) (λ j. omega (arith, c.type_inv.s j)) (omega (arith, c.well_formed.1.1.1.0)) c.requires.1 c.if-h-t.false c.if-h-t-2.false
+    (header_of k.result) (ap header_of k.ensures) c.copy.new.to w.new.mem c.copy.ensures w.ensures
+    ∙ load_as a.mem.now a.s.now _ _ c.requires.0 c.requires.1 in
     record { answer = ap (λ (d : Done). outcome_as d.refusal) e; memory = ap (λ (d : Done). d.memory) e }

@@ -17,7 +17,7 @@ pub returns-then-not-goes_on : goal.returns-then-not-goes_on
 returns-then-not-goes_on c = c.loop-levels.invariant.0
 
 pub overflow_add-t : goal.overflow_add-t
-overflow_add-t c = {- no step well-formed at Start (['', '']) -} omega (arith, c.before.before.before.loop.invariant.1.room, c.before.before.before.before.before.before.before.well-formed.0)
+overflow_add-t c = omega (arith, c.loop-levels.invariant.1.room, c.well_formed.0)
 
 pub loop-levels-preserved : goal.loop-levels-preserved
 loop-levels-preserved c = let o = c.loop-levels in let g = c.goes_on.ensures c.if-not-goes_on.false in (singles_more _ _ _ _ _ o.invariant.0 c.loop-levels-test.true o.invariant.1 g.0 g.1, g.0)

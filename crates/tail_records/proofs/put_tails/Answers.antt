@@ -14,7 +14,7 @@ loop-i-init c =
     putting_start (piece_read _ _ _ _ _ _ p.0 (omega arith) c.get64-m.ensures c.location_at-l.ensures refl c.copy.ensures) p.2
 
 pub overflow_mul-t : goal.overflow_mul-t
-overflow_mul-t c = {- place record c used whole -} omega (arith, (add-put-tail c).ranges)
+overflow_mul-t c = omega (arith, putting_room c.loop-i.invariant)
 
 pub overflow_add-work : goal.overflow_add-work
 overflow_add-work c = omega (arith, putting_room c.loop-i.invariant)
@@ -25,13 +25,13 @@ put_tail-requires c =
     (putting_room w, simp (length-take, length-drop) (omega arith))
 
 pub overflow_add-t : goal.overflow_add-t
-overflow_add-t c = {- place record c.before.before.before.before.before.before used whole -} omega (arith, (add-put-tail c.before.before.before.before.before.before).fits)
+overflow_add-t c = omega (arith, putting_room c.loop-i.invariant)
 
 pub loop-i-preserved : goal.loop-i-preserved
 loop-i-preserved c = putting_turn c.loop-i.invariant _ _ c.loop-i-test.true c.moved.ensures c.put_tail.ensures
 
 pub overflow_mul-t-2 : goal.overflow_mul-t-2
-overflow_mul-t-2 c = {- place record c used whole -} omega (arith, (add-put-tail-2 c).ranges)
+overflow_mul-t-2 c = omega (arith, putting_room c.loop-i.invariant)
 
 pub overflow_add-work-2 : goal.overflow_add-work-2
 overflow_add-work-2 c = omega (arith, putting_room c.loop-i.invariant)
@@ -42,7 +42,7 @@ put_tail-requires-2 c =
     (putting_room w, simp length-take (omega arith))
 
 pub overflow_add-result : goal.overflow_add-result
-overflow_add-result c = {- place record c.before.before.before.before.before used whole -} omega (arith, (add-put-tail-2 c.before.before.before.before.before).fits)
+overflow_add-result c = omega (arith, putting_room c.loop-i.invariant)
 
 pub returns : goal.returns
 returns c =
