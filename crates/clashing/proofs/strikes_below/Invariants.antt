@@ -3,11 +3,6 @@ use Prim.Native.Nat.{◌-◌, ◌≤◌}
 use mathlib.Core.Path.{◌≡◌}
 use Rattle.location.specs.Plain.{plain}
 use Rattle.clashing.specs.Strikes.{strikes}
-use Rattle.clashing.proofs.strikes_below.Reads as reads
-use Rattle.clashing.proofs.strikes_below.Lts as lts
-use Rattle.clashing.proofs.reaches.Reads as reaches-reads
-use Rattle.lined_locations.proofs.first_from.Reads as first-from-reads
-use Rattle.lined_locations.proofs.location.Reads as location-reads
 use Rattle.clashing.proofs.strikes_below.Given as goal
 
 abbrev pub invariant-loop-g : goal.invariant-loop-g

@@ -1,7 +1,8 @@
 -- `lined_locations::in_line` meets its contract: the locations before i are in line. Assumes nothing.
 use Prim.Native.Nat.{◌-◌}
 use native.Mathlib.Omega.{arith}
-use mathlib.Core.Bool.{true}
+use mathlib.Core.Path.{ap}
+use mathlib.Core.Bool.{true, not}
 use borrow.Author.Tests.{ltb-true, ltb-false}
 use Rattle.lined_locations.specs.Line.{location_of}
 use Rattle.lined_locations.proofs.Neighbours.{line_start, line_next, line_refused, line_done}
@@ -22,7 +23,7 @@ ahead-requires c = tt
 pub returns-then-not-ahead : goal.returns-then-not-ahead
 returns-then-not-ahead c =
     let a = c.args in
-    line_refused (location_of a.s.now a.v) c.loop-i.i c.ahead.result _ _ c.ahead.ensures c.location.ensures c.location-in-loop-i.ensures c.loop-i.invariant.0 a.v.count (omega (arith, ltb-true)) c.if-not-ahead.true
+    line_refused (location_of a.s.now a.v) c.loop-i.i c.ahead.result _ _ c.ahead.ensures c.location.ensures c.location-in-loop-i.ensures c.loop-i.invariant.0 a.v.count (omega (arith, ltb-true)) (ap not c.if-not-ahead.true)
 
 pub overflow_add-i : goal.overflow_add-i
 overflow_add-i c = omega (arith, ltb-true)
@@ -35,7 +36,7 @@ loop-i-preserved c =
     let a = c.args in (
       omega arith,
       omega (arith, ltb-true),
-      line_next (location_of a.s.now a.v) c.loop-i.i c.ahead.result _ _ c.ahead.ensures c.location.ensures c.location-in-loop-i.ensures c.loop-i.invariant.0 c.if-not-ahead.false c.loop-i.invariant.2,
+      line_next (location_of a.s.now a.v) c.loop-i.i c.ahead.result _ _ c.ahead.ensures c.location.ensures c.location-in-loop-i.ensures c.loop-i.invariant.0 (ap not c.if-not-ahead.false) c.loop-i.invariant.2,
     )
 
 pub returns : goal.returns

@@ -4,10 +4,6 @@ use mathlib.Core.Path.{◌≡◌}
 use Rattle.location.specs.Plain.{plain}
 use Rattle.conflicts.specs.Lined.{lives_among}
 use Rattle.lined_locations.specs.Line.{location_of}
-use Rattle.lined_locations.proofs.lives_among.Reads as reads
-use Rattle.lined_locations.proofs.lives_among.Lts as lts
-use Rattle.lined_locations.proofs.first_from.Reads as first-from-reads
-use Rattle.lined_locations.proofs.location.Reads as location-reads
 use Rattle.lined_locations.proofs.lives_among.Given as goal
 
 abbrev pub invariant-loop-g : goal.invariant-loop-g

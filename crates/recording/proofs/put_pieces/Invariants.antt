@@ -4,7 +4,7 @@ use Rattle.recording.proofs.Recording.{Writing}
 use Rattle.recording.proofs.put_pieces.Given as goal
 
 abbrev pub invariant-loop-left : goal.invariant-loop-left
-invariant-loop-left l = Writing (record { bytes = «data»; at = plain l.l }) l.from l.initial.mem l.mem l.done l.left
+invariant-loop-left l = Writing (record { bytes = l.«data»; at = plain l.l }) l.from l.initial.mem l.mem l.done l.left
 
 abbrev pub decreases-loop-left : goal.decreases-loop-left
 decreases-loop-left l = l.left
