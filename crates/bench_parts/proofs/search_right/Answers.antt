@@ -23,7 +23,7 @@ pub returns-then-n-gt-QUERY_LIMIT : goal.returns-then-n-gt-QUERY_LIMIT
 returns-then-n-gt-QUERY_LIMIT c =
     let a = c.args in
     let w = says_too_long (trie_in a.img.now) a.queries.now a.size (length a.scratch.now) a.room _ c.query_size-n.ensures a.count.now a.scratch.now c.if-n-gt-QUERY_LIMIT.true in
-    record { answer = w.0; count = w.1; scratch = w.2 }
+    record { answer = w.0; count = w.1.0; scratch = w.1.1 }
 
 pub search_each-found-requires : goal.search_each-found-requires
 search_each-found-requires c =
@@ -36,10 +36,10 @@ pub returns-then-found-ne0 : goal.returns-then-found-ne0
 returns-then-found-ne0 c =
     let a = c.args in
     let w = says_refused (trie_in a.img.now) a.queries.now a.size (length a.scratch.now) a.room _ c.query_size-n.ensures a.count.now a.scratch.now _ (omega (arith, c.if-n-gt-QUERY_LIMIT.false)) (search rules) c.search_each-found.ensures c.if-found-ne0.true in
-    record { answer = w.0; count = w.1; scratch = w.2 }
+    record { answer = w.0; count = w.1.0; scratch = w.1.1 }
 
 pub returns : goal.returns
 returns c =
     let a = c.args in
     let w = says_found (trie_in a.img.now) a.queries.now a.size (length a.scratch.now) a.room _ c.query_size-n.ensures a.count.now a.scratch.now _ (omega (arith, c.if-n-gt-QUERY_LIMIT.false)) (search rules) c.search_each-found.ensures c.if-found-ne0.false in
-    record { answer = w.0; count = w.1; scratch = w.2 }
+    record { answer = w.0; count = w.1.0; scratch = w.1.1 }

@@ -8,29 +8,6 @@ use Rattle.image_format.proofs.Heads.{head_end, head_lists, head_over, head_zero
 use Rattle.image_format.specs.Reading.{past, read_head, read_list, read_lists}
 use Rattle.fields.proofs.read_head.Goals as goal
 
--- where the kind is known
-
-abbrev start : tie.Else3 → tie.Start
-start c = c.before.before.before.before.before
-
--- what each list says, where its refusal is 0
-
-first : (c : tie.Else4) →
-    past c.before.before.read-list.result.at c.before.before.read-list.result.entries ≡ read_list (start c.before.before.before).args.s.now ((start c.before.before.before).args.at + 1)
-first c = sym (list_right _ c.if4.false) ∙ c.before.before.read-list.ensures
-
-second : (c : tie.Else5) →
-    past c.before.before.read-list2.result.at c.before.before.read-list2.result.entries ≡ read_list (start c.before.before.before.before.before.before).args.s.now c.before.before.before.before.before.read-list.result.at
-second c = sym (list_right _ c.if5.false) ∙ c.before.before.read-list2.ensures
-
-third : (c : tie.Else6) →
-    past c.before.before.read-list3.result.at c.before.before.read-list3.result.entries ≡ read_list (start c.before.before.before.before.before.before.before.before.before).args.s.now c.before.before.before.before.before.read-list2.result.at
-third c = sym (list_right _ c.if6.false) ∙ c.before.before.read-list3.ensures
-
-lists : (c : tie.Else3) →
-    read_lists (start c).args.s.now (get_or (start c).args.s.now (start c).args.at 0) ((start c).args.at + 1) ≡ read_head (start c).args.s.now (start c).args.at
-lists c = head_lists _ _ (omega arith) c.before.if2.false c.if3.false
-
 pub returns-then-at-s : goal.returns-then-at-s
 returns-then-at-s c = head_with _ 13 c.refuse_head.ensures (omega arith) ∙ head_end _ _ (omega arith)
 
@@ -41,34 +18,55 @@ pub returns-then-kind-gt3 : goal.returns-then-kind-gt3
 returns-then-kind-gt3 c = head_with _ 14 c.refuse_head-then-kind-gt3.ensures (omega arith) ∙ head_over _ _ (omega arith) c.if-kind-gt3.true
 
 pub returns-then-a-ne0 : goal.returns-then-a-ne0
-returns-then-a-ne0 c = {- place record c.before.before.before.before used whole -} head_with _ 13 c.refuse-head4.ensures (omega arith) ∙ lists_cut _ _ _ (sym (list_refused _ c.before.if4.true) ∙ c.before.before.before.read-list.ensures) ∙ lists c.before.before.before.before
+returns-then-a-ne0 c =
+    let lists = head_lists c.args.s.now c.args.at (omega arith) c.if-kind-eq0.false c.if-kind-gt3.false in
+    head_with _ 13 c.refuse_head-then-a-ne0.ensures (omega arith) ∙ lists_cut _ _ _ (sym (list_refused _ c.if-a-ne0.true) ∙ c.read_list-a.ensures) ∙ lists
 
 pub read_list-b-requires : goal.read_list-b-requires
-read_list-b-requires c = {- place record c used whole -} (list_bound _ _ _ _ (first c)).1
+read_list-b-requires c =
+    let first : past c.read_list-a.result.at c.read_list-a.result.entries ≡ read_list c.args.s.now (c.args.at + 1) = sym (list_right _ c.if-a-ne0.false) ∙ c.read_list-a.ensures in
+    (list_bound _ _ _ _ first).1
 
 pub returns-then-b-ne0 : goal.returns-then-b-ne0
-returns-then-b-ne0 c = {- place record c.before.before.before.before used whole -} head_with _ 13 c.refuse-head5.ensures (omega arith) ∙ lists_cut_2 _ _ _ _ _ (first c.before.before.before.before) (sym (list_refused _ c.before.if5.true) ∙ c.before.before.before.read-list2.ensures) ∙ lists c.before.before.before.before.before.before.before
+returns-then-b-ne0 c =
+    let lists = head_lists c.args.s.now c.args.at (omega arith) c.if-kind-eq0.false c.if-kind-gt3.false in
+    let first : past c.read_list-a.result.at c.read_list-a.result.entries ≡ read_list c.args.s.now (c.args.at + 1) = sym (list_right _ c.if-a-ne0.false) ∙ c.read_list-a.ensures in
+    head_with _ 13 c.refuse_head-then-b-ne0.ensures (omega arith) ∙ lists_cut_2 _ _ _ _ _ first (sym (list_refused _ c.if-b-ne0.true) ∙ c.read_list-b.ensures) ∙ lists
 
 pub read_list-c-requires : goal.read_list-c-requires
-read_list-c-requires c = {- place record c used whole -} (list_bound _ _ _ _ (second c)).1
+read_list-c-requires c =
+    let second : past c.read_list-b.result.at c.read_list-b.result.entries ≡ read_list c.args.s.now c.read_list-a.result.at = sym (list_right _ c.if-b-ne0.false) ∙ c.read_list-b.ensures in
+    (list_bound _ _ _ _ second).1
 
 pub returns-then-c-ne0 : goal.returns-then-c-ne0
-returns-then-c-ne0 c = {- place record c.before.before.before.before.before.before.before used whole -} head_with _ 13 c.refuse-head6.ensures (omega arith) ∙ lists_cut_3 _ _ _ _ _ _ _ (first c.before.before.before.before.before.before.before) (second c.before.before.before.before) (sym (list_refused _ c.before.if6.true) ∙ c.before.before.before.read-list3.ensures) ∙ lists c.before.before.before.before.before.before.before.before.before.before
+returns-then-c-ne0 c =
+    let lists = head_lists c.args.s.now c.args.at (omega arith) c.if-kind-eq0.false c.if-kind-gt3.false in
+    let first : past c.read_list-a.result.at c.read_list-a.result.entries ≡ read_list c.args.s.now (c.args.at + 1) = sym (list_right _ c.if-a-ne0.false) ∙ c.read_list-a.ensures in
+    let second : past c.read_list-b.result.at c.read_list-b.result.entries ≡ read_list c.args.s.now c.read_list-a.result.at = sym (list_right _ c.if-b-ne0.false) ∙ c.read_list-b.ensures in
+    head_with _ 13 c.refuse_head-then-c-ne0.ensures (omega arith) ∙ lists_cut_3 _ _ _ _ _ _ _ first second (sym (list_refused _ c.if-c-ne0.true) ∙ c.read_list-c.ensures) ∙ lists
 
 pub overflow_add-result : goal.overflow_add-result
 overflow_add-result c =
-    {- place record c.before.before.before.before.before.before.before.before used whole -}
-    let x = list_bound _ _ _ _ (first c.before.before.before.before.before.before.before.before) in
-    let y = list_bound _ _ _ _ (second c.before.before.before.before.before) in
-    omega arith
+    let first : past c.read_list-a.result.at c.read_list-a.result.entries ≡ read_list c.args.s.now (c.args.at + 1) = sym (list_right _ c.if-a-ne0.false) ∙ c.read_list-a.ensures in
+    let second : past c.read_list-b.result.at c.read_list-b.result.entries ≡ read_list c.args.s.now c.read_list-a.result.at = sym (list_right _ c.if-b-ne0.false) ∙ c.read_list-b.ensures in
+    let x = list_bound _ _ _ _ first in
+    let y = list_bound _ _ _ _ second in
+    omega (arith, x, y)
 
 pub overflow_add-result-2 : goal.overflow_add-result-2
 overflow_add-result-2 c =
-    {- place record c.before.before.before.before.before.before.before.before.before used whole -}
-    let x = list_bound _ _ _ _ (first c.before.before.before.before.before.before.before.before.before) in
-    let y = list_bound _ _ _ _ (second c.before.before.before.before.before.before) in
-    let z = list_bound _ _ _ _ (third c.before.before.before) in
-    omega arith
+    let first : past c.read_list-a.result.at c.read_list-a.result.entries ≡ read_list c.args.s.now (c.args.at + 1) = sym (list_right _ c.if-a-ne0.false) ∙ c.read_list-a.ensures in
+    let second : past c.read_list-b.result.at c.read_list-b.result.entries ≡ read_list c.args.s.now c.read_list-a.result.at = sym (list_right _ c.if-b-ne0.false) ∙ c.read_list-b.ensures in
+    let third : past c.read_list-c.result.at c.read_list-c.result.entries ≡ read_list c.args.s.now c.read_list-b.result.at = sym (list_right _ c.if-c-ne0.false) ∙ c.read_list-c.ensures in
+    let x = list_bound _ _ _ _ first in
+    let y = list_bound _ _ _ _ second in
+    let z = list_bound _ _ _ _ third in
+    omega (arith, x, y, z)
 
 pub returns : goal.returns
-returns c = {- place record c.before.before.before.before.before.before.before.before.before used whole -} head_right _ refl ∙ lists_ready _ _ _ _ _ _ _ _ _ (first c.before.before.before.before.before.before.before.before.before) (second c.before.before.before.before.before.before) (third c.before.before.before) ∙ lists c.before.before.before.before.before.before.before.before.before.before.before.before
+returns c =
+    let lists = head_lists c.args.s.now c.args.at (omega arith) c.if-kind-eq0.false c.if-kind-gt3.false in
+    let first : past c.read_list-a.result.at c.read_list-a.result.entries ≡ read_list c.args.s.now (c.args.at + 1) = sym (list_right _ c.if-a-ne0.false) ∙ c.read_list-a.ensures in
+    let second : past c.read_list-b.result.at c.read_list-b.result.entries ≡ read_list c.args.s.now c.read_list-a.result.at = sym (list_right _ c.if-b-ne0.false) ∙ c.read_list-b.ensures in
+    let third : past c.read_list-c.result.at c.read_list-c.result.entries ≡ read_list c.args.s.now c.read_list-b.result.at = sym (list_right _ c.if-c-ne0.false) ∙ c.read_list-c.ensures in
+    head_right _ refl ∙ lists_ready _ _ _ _ _ _ _ _ _ first second third ∙ lists

@@ -16,18 +16,18 @@ returns-in-Broken c =
     let a = c.args in
     let w = subst (Inspects a.mem.now) c.in-Broken.is c.inspect.ensures in
     let w = finds a.mem.now a.q.now a.scratch.now _ _ w.holds (none_finds a.scratch.now (number index_rule_broken) refl c.no_rows.ensures) in
-    record { found = w.0; rows = w.1; scratch = w.2 }
+    record { found = w.0; rows = w.1.0; scratch = w.1.1 }
 
 pub returns-in-Open : goal.returns-in-Open
 returns-in-Open c =
     let a = c.args in
     let w = subst (Inspects a.mem.now) c.in-Open.is c.inspect.ensures in
     let w = finds a.mem.now a.q.now a.scratch.now _ _ w.holds (none_finds a.scratch.now (number before_finish) refl c.no_rows-in-Open.ensures) in
-    record { found = w.0; rows = w.1; scratch = w.2 }
+    record { found = w.0; rows = w.1.0; scratch = w.1.1 }
 
 pub returns-in-Finished : goal.returns-in-Finished
 returns-in-Finished c =
     let a = c.args in
     let w = subst (Inspects a.mem.now) c.in-Finished.is c.inspect.ensures in
     let w = finds a.mem.now a.q.now a.scratch.now _ _ w.holds (c.find_finished.ensures.found, c.find_finished.ensures.rows, c.find_finished.ensures.scratch) in
-    record { found = w.0; rows = w.1; scratch = w.2 }
+    record { found = w.0; rows = w.1.0; scratch = w.1.1 }

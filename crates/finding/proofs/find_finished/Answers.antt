@@ -10,8 +10,11 @@ use Rattle.finding.proofs.find_finished.Goals as goal
 pub returns-then-q-gt-QUERY_LIMIT : goal.returns-then-q-gt-QUERY_LIMIT
 returns-then-q-gt-QUERY_LIMIT c =
     let long = c.if-q-gt-QUERY_LIMIT.true in
-    let w = (rw (lt-ltb 256 _ long) c.no_rows.ensures, (rw (lt-ltb 256 _ long) (none_front _), unchanged _ _)) in
-    record { found = w.0; rows = w.1; scratch = w.2 }
+    record {
+      found = rw (lt-ltb 256 _ long) c.no_rows.ensures;
+      rows = rw (lt-ltb 256 _ long) (none_front _);
+      scratch = unchanged _ _;
+    }
 
 pub search_image-requires : goal.search_image-requires
 search_image-requires c =
@@ -23,4 +26,4 @@ pub returns : goal.returns
 returns c =
     let a = c.args in
     let w = answered_part a.mem.now (header_of a.h) (λ j. omega (arith, c.type_inv.mem j)) (omega arith) c.requires a.q.now a.scratch.now _ _ (omega (arith, c.if-q-gt-QUERY_LIMIT.false)) (search rules) (c.search_image.ensures.found, c.search_image.ensures.rows) in
-    record { found = w.0; rows = w.1; scratch = w.2 }
+    record { found = w.0; rows = w.1.0; scratch = w.1.1 }

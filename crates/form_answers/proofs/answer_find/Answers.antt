@@ -12,7 +12,7 @@ returns-then-found-ne0 c = found_none _ _ _ (length-replicate {A = ℕ} 6144 0) 
 pub put_rows-requires : goal.put_rows-requires
 put_rows-requires c =
     let f = c.find-found in
-    let w = rows_within f.ensures.found f.ensures.rows.0 in
+    let w = rows_within f.ensures.found f.ensures.rows in
     (omega (arith, found_fits _ _ _ (length-replicate {A = ℕ} 6144 0) (f.ensures.found, f.ensures.rows, f.ensures.scratch)), omega arith)
 
 pub returns : goal.returns

@@ -10,8 +10,8 @@ pub returns : goal.returns
 returns c =
     let a = c.args in
     let back = streamed_back _ _ in
-    let w = (
-      c.put_taken.ensures.0 ∙ ap streamed_number c.record_stream.ensures.answer ∙ back.0,
-      (c.record_stream.ensures.memory, c.put_taken.ensures.1 ∙ ap (λ (x : Streamed). set a.taken.now 0 (streamed_taken x)) c.record_stream.ensures.answer ∙ ap (set a.taken.now 0) back.1),
-    ) in
-    record { answer = w.0; memory = w.1; taken = w.2 }
+    record {
+      answer = c.put_taken.ensures.0 ∙ ap streamed_number c.record_stream.ensures.answer ∙ back.0;
+      memory = c.record_stream.ensures.memory;
+      taken = c.put_taken.ensures.1 ∙ ap (λ (x : Streamed). set a.taken.now 0 (streamed_taken x)) c.record_stream.ensures.answer ∙ ap (set a.taken.now 0) back.1;
+    }

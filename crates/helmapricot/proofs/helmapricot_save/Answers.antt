@@ -10,8 +10,11 @@ returns-in-Bytes c =
     let r = c.save in
     let x = sym c.in-Bytes.is ∙ r.ensures.answer in
     let back = saved_back _ _ a.size.now in
-    let w = (ap saved_number x ∙ back.0, (r.ensures.buffer, ap (λ (y : Saved). size_after y a.size.now) x ∙ back.1)) in
-    record { answer = w.0; out = w.1; size = w.2 }
+    record {
+      answer = ap saved_number x ∙ back.0;
+      out = r.ensures.buffer;
+      size = ap (λ (y : Saved). size_after y a.size.now) x ∙ back.1;
+    }
 
 pub returns-in-Refused : goal.returns-in-Refused
 returns-in-Refused c =
@@ -19,5 +22,8 @@ returns-in-Refused c =
     let r = c.save in
     let x = sym c.in-Refused.is ∙ r.ensures.answer in
     let back = saved_back _ _ a.size.now in
-    let w = (ap saved_number x ∙ back.0, (r.ensures.buffer, ap (λ (y : Saved). size_after y a.size.now) x ∙ back.1)) in
-    record { answer = w.0; out = w.1; size = w.2 }
+    record {
+      answer = ap saved_number x ∙ back.0;
+      out = r.ensures.buffer;
+      size = ap (λ (y : Saved). size_after y a.size.now) x ∙ back.1;
+    }

@@ -14,37 +14,23 @@ use Rattle.recording.specs.Enter.{judged_by_kind, entered, FilledAfter}
 use Rattle.recording.proofs.Entering.{Enters, kind_unknown, kind_other, kind_memory, tally_within, pending_stored, fitting, filled_told}
 use Rattle.recording.proofs.enter.Goals as goal
 
--- what is asked besides the verdict and the memory
-
-module _ (start : tie.Start) where
-  abbrev m : List ℕ
-  m = start.args.mem.now
-
-  abbrev h : Header
-  h = header_of start.args.h
-
-  abbrev b : Block
-  b = record { bytes = start.args.«data».now; at = plain start.args.l }
-
-  entered_by : (v : Verdict) (m' : List ℕ) → Enters m h start.args.kind b v m' → (v ≡ judged_by_kind m h start.args.kind b) × ((m' ≡ entered m h start.args.kind b) × FilledAfter v m' start.args.count start.args.kind (length b.bytes))
-  entered_by v m' w =
-      let l = start.good.1.1.1.1.0.1.1 in
-      let t : Fits (plain start.args.l) = record { address = l.0.1.1.0.1; created = l.1.0.1.1.0.1; destroyed = l.1.1.0.1.1.0.1 } in
-      (w.0, (w.1, filled_told m h start.args.kind b start.pre.0 t start.args.count start.pre.1 v m' w))
-
 pub returns-then-kind : goal.returns-then-kind
 returns-then-kind c =
-    {- place record start used whole -}
-    let start = c.before.before.before in
-    let w = entered_by start _ _ (kind_unknown (m start) (h start) start.args.kind (b start) c.if1.true) in
-    record { verdict = w.0; memory = w.1; filled = w.2 }
+    let a = c.args in
+    let b : Block = record { bytes = a.«data».now; at = plain a.l } in
+    let l = c.well_formed.1.1.1.1.0.1.1 in
+    let t : Fits (plain a.l) = record { address = l.0.1.1.0.1; created = l.1.0.1.1.0.1; destroyed = l.1.1.0.1.1.0.1 } in
+    let w = kind_unknown a.mem.now (header_of a.h) a.kind b c.if-kind.true in
+    record { verdict = w.0; memory = w.1; filled = filled_told a.mem.now (header_of a.h) a.kind b c.requires.0 t a.count c.requires.1 _ _ w }
 
 pub returns-then-kind-2 : goal.returns-then-kind-2
 returns-then-kind-2 c =
-    {- place record start used whole -}
-    let start = c.before.before.before.before in
-    let w = entered_by start _ _ (kind_other (m start) (h start) start.args.kind (b start) c.before.if1.false c.if2.true) in
-    record { verdict = w.0; memory = w.1; filled = w.2 }
+    let a = c.args in
+    let b : Block = record { bytes = a.«data».now; at = plain a.l } in
+    let l = c.well_formed.1.1.1.1.0.1.1 in
+    let t : Fits (plain a.l) = record { address = l.0.1.1.0.1; created = l.1.0.1.1.0.1; destroyed = l.1.1.0.1.1.0.1 } in
+    let w = kind_other a.mem.now (header_of a.h) a.kind b c.if-kind.false c.if-kind-2.true in
+    record { verdict = w.0; memory = w.1; filled = filled_told a.mem.now (header_of a.h) a.kind b c.requires.0 t a.count c.requires.1 _ _ w }
 
 pub judge-requires : goal.judge-requires
 judge-requires c =
@@ -58,22 +44,19 @@ append-requires c =
 
 pub returns-in-Counted : goal.returns-in-Counted
 returns-in-Counted c =
-    {- place record start used whole -}
-    let w = c.before.before in
-    let j = w.before.before.before.before.before in
-    let g = w.before.before.before.counted.given in
-    let two = j.before.before in
-    let start = two.before.before.before.before in
-    let k = kind_memory (m start) (h start) start.args.kind (b start) two.before.if1.false two.if2.false (counted (header_of g.0.0)) (sym (ap verdict_of g.1) ∙ j.judge.ensures) in
-    let w = entered_by start _ _ (k.0, w.append.ensures ∙ k.1) in
-    record { verdict = w.0; memory = w.1; filled = w.2 }
+    let a = c.args in
+    let b : Block = record { bytes = a.«data».now; at = plain a.l } in
+    let l = c.well_formed.1.1.1.1.0.1.1 in
+    let t : Fits (plain a.l) = record { address = l.0.1.1.0.1; created = l.1.0.1.1.0.1; destroyed = l.1.1.0.1.1.0.1 } in
+    let k = kind_memory a.mem.now (header_of a.h) a.kind b c.if-kind.false c.if-kind-2.false (counted (header_of c.in-Counted.counted)) (sym (ap verdict_of c.in-Counted.is) ∙ c.judge.ensures) in
+    let w : Enters a.mem.now (header_of a.h) a.kind b (counted (header_of c.in-Counted.counted)) c.append.new.mem = (k.0, c.append.ensures ∙ k.1) in
+    record { verdict = w.0; memory = w.1; filled = filled_told a.mem.now (header_of a.h) a.kind b c.requires.0 t a.count c.requires.1 _ _ w }
 
 pub returns-in-Refused : goal.returns-in-Refused
 returns-in-Refused c =
-    {- place record start used whole -}
-    let j = c.before.before.before in
-    let g = c.before.n.given in
-    let two = j.before.before in
-    let start = two.before.before.before.before in
-    let w = entered_by start _ _ (kind_memory (m start) (h start) start.args.kind (b start) two.before.if1.false two.if2.false (refused g.0.0) (sym (ap verdict_of g.1) ∙ j.judge.ensures)) in
-    record { verdict = w.0; memory = w.1; filled = w.2 }
+    let a = c.args in
+    let b : Block = record { bytes = a.«data».now; at = plain a.l } in
+    let l = c.well_formed.1.1.1.1.0.1.1 in
+    let t : Fits (plain a.l) = record { address = l.0.1.1.0.1; created = l.1.0.1.1.0.1; destroyed = l.1.1.0.1.1.0.1 } in
+    let w = kind_memory a.mem.now (header_of a.h) a.kind b c.if-kind.false c.if-kind-2.false (refused c.in-Refused.n) (sym (ap verdict_of c.in-Refused.is) ∙ c.judge.ensures) in
+    record { verdict = w.0; memory = w.1; filled = filled_told a.mem.now (header_of a.h) a.kind b c.requires.0 t a.count c.requires.1 _ _ w }

@@ -24,13 +24,12 @@ pub returns-in-Counted : goal.returns-in-Counted
 returns-in-Counted c =
     let b : Block = record { bytes = c.args.«data».now; at = plain c.args.l } in
     let w = taken_by _ _ c.requires.0 c.requires.1 (λ j. omega (arith, c.slice_known-1.given j)) _ b (header_of c.in-Counted.counted) c.enter.new.mem c.put_header.new.mem
-    (sym (ap verdict_of c.in-Counted.is) ∙ c.enter.ensures.verdict, c.enter.ensures.memory.0) c.put_header.ensures in
+    (sym (ap verdict_of c.in-Counted.is) ∙ c.enter.ensures.verdict, c.enter.ensures.memory) c.put_header.ensures in
     record { answer = w.0; memory = w.1 }
 
 pub returns-in-Refused : goal.returns-in-Refused
 returns-in-Refused c =
     let b : Block = record { bytes = c.args.«data».now; at = plain c.args.l } in
-    refused_by _ _ c.requires.0 c.requires.1 (λ j. omega (arith, c.slice_known-1.given j)) _ b c.in
-    let w = -Refused.n c.enter.new.mem
-    (sym (ap verdict_of c.in-Refused.is) ∙ c.enter.ensures.verdict, c.enter.ensures.memory.0) in
+    let w = refused_by _ _ c.requires.0 c.requires.1 (λ j. omega (arith, c.slice_known-1.given j)) _ b c.in-Refused.n c.enter.new.mem
+    (sym (ap verdict_of c.in-Refused.is) ∙ c.enter.ensures.verdict, c.enter.ensures.memory) in
     record { answer = w.0; memory = w.1 }

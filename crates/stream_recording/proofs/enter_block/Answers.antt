@@ -42,14 +42,11 @@ returns-in-Counted c =
     let bytes = take (a.b.next - a.b.start) (drop a.b.start a.stream.now) in
     let w = sym (ap verdict_of c.in-Counted.is) ∙ c.enter.ensures.verdict in
     let v = w ∙ ap (λ (x : Location). judged_by_kind a.mem.now h a.b.kind (record { bytes = bytes; at = x })) c.new-l.ensures in
-    let w = (
-      ap (on_or_halted (progress_of a.p) a.b.next) v,
-      (
-        c.enter.ensures.memory.0 ∙ ap (λ (x : Location). entered a.mem.now h a.b.kind (record { bytes = bytes; at = x })) c.new-l.ensures,
-        c.filled_after.ensures ∙ sym (c.enter.ensures.memory.1 (header_of c.in-Counted.header) (ap verdict_of c.in-Counted.is)),
-      ),
-    ) in
-    record { progress = w.0; memory = w.1; filled = w.2 }
+    record {
+      progress = ap (on_or_halted (progress_of a.p) a.b.next) v;
+      memory = c.enter.ensures.memory ∙ ap (λ (x : Location). entered a.mem.now h a.b.kind (record { bytes = bytes; at = x })) c.new-l.ensures;
+      filled = c.filled_after.ensures ∙ sym (c.enter.ensures.filled (header_of c.in-Counted.header) (ap verdict_of c.in-Counted.is));
+    }
 
 pub returns-in-Refused : goal.returns-in-Refused
 returns-in-Refused c =
@@ -58,12 +55,9 @@ returns-in-Refused c =
     let bytes = take (a.b.next - a.b.start) (drop a.b.start a.stream.now) in
     let w = sym (ap verdict_of c.in-Refused.is) ∙ c.enter.ensures.verdict in
     let v = w ∙ ap (λ (x : Location). judged_by_kind a.mem.now h a.b.kind (record { bytes = bytes; at = x })) c.new-l.ensures in
-    let w = (
-      c.halted.ensures.0 ∙ ap (on_or_halted (progress_of a.p) a.b.next) v,
-      (
-        c.enter.ensures.memory.0 ∙ ap (λ (x : Location). entered a.mem.now h a.b.kind (record { bytes = bytes; at = x })) c.new-l.ensures,
-        c.halted.ensures.1 ∙ still-filled a.mem.now _ h a.b.kind (record { bytes = bytes; at = plain c.new-l.result }) c.in-Refused.n a.p.filled w c.enter.ensures.memory.0 c.requires.1
-            ∙ ap (λ (x : Progress). filled (pieces_in c.enter.new.mem x.header)) (sym c.halted.ensures.0),
-      ),
-    ) in
-    record { progress = w.0; memory = w.1; filled = w.2 }
+    record {
+      progress = c.halted.ensures.0 ∙ ap (on_or_halted (progress_of a.p) a.b.next) v;
+      memory = c.enter.ensures.memory ∙ ap (λ (x : Location). entered a.mem.now h a.b.kind (record { bytes = bytes; at = x })) c.new-l.ensures;
+      filled = c.halted.ensures.1 ∙ still-filled a.mem.now _ h a.b.kind (record { bytes = bytes; at = plain c.new-l.result }) c.in-Refused.n a.p.filled w c.enter.ensures.memory c.requires.1
+            ∙ ap (λ (x : Progress). filled (pieces_in c.enter.new.mem x.header)) (sym c.halted.ensures.0);
+    }

@@ -27,18 +27,18 @@ record_next-p-requires c =
 
 pub loop-p-smaller : goal.loop-p-smaller
 loop-p-smaller c =
-    {- place record c used whole -}
-    let w = c.before.before in
-    let t = w.before.before in
-    let a = t.before.before.before.before.before.before.args in
-    fewer_left a.stream.now a.mem.now _ _ _ _ t.loop-test.true w.record-next.ensures.0 (loop-again c).0
+    let g = c.loop-p.invariant in
+    let a = c.args in
+    let bytes : (k : ℕ) → get_or a.stream.now k 0 < 256 = λ j. omega (arith, c.type_inv.stream j) in
+    let on = going_on a.stream.now a.mem.now bytes _ _ g.0 c.loop-p-test.true c.record_next-p.new.mem (progress_of c.record_next-p.result) c.record_next-p.ensures.progress c.record_next-p.ensures.memory c.record_next-p.auto.mem in
+    fewer_left a.stream.now a.mem.now _ _ _ _ c.loop-p-test.true c.record_next-p.ensures.progress on
 
 pub loop-p-preserved : goal.loop-p-preserved
 loop-p-preserved c =
     let g = c.loop-p.invariant in
     let a = c.args in
     let bytes : (k : ℕ) → get_or a.stream.now k 0 < 256 = λ j. omega (arith, c.type_inv.stream j) in
-    (going_on a.stream.now a.mem.now bytes _ _ g.0 c.loop-p-test.true c.record_next-p.new.mem (progress_of c.record_next-p.result) c.record_next-p.ensures.progress c.record_next-p.ensures.memory.0 c.record_next-p.auto.mem, c.record_next-p.ensures.memory.1)
+    (going_on a.stream.now a.mem.now bytes _ _ g.0 c.loop-p-test.true c.record_next-p.new.mem (progress_of c.record_next-p.result) c.record_next-p.ensures.progress c.record_next-p.ensures.memory c.record_next-p.auto.mem, c.record_next-p.ensures.filled)
 
 pub close-requires : goal.close-requires
 close-requires c = header_room _ _ c.loop-p.invariant.0.pending

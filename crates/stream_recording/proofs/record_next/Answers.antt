@@ -23,19 +23,28 @@ returns-in-Block c =
     let w = c.enter_block in
     let a = c.args in
     let e = subst (λ (x : Answer). read_of a.stream.now x ≡ read_block a.stream.now a.p.at) c.in-Block.is c.read_block.ensures.means in
-    let w = (w.ensures.progress ∙ ap (next_progress a.mem.now (progress_of a.p)) e, (w.ensures.memory.0 ∙ ap (entered_next a.mem.now (header_of a.p.header)) e, w.ensures.memory.1)) in
-    record { progress = w.0; memory = w.1; filled = w.2 }
+    record {
+      progress = w.ensures.progress ∙ ap (next_progress a.mem.now (progress_of a.p)) e;
+      memory = w.ensures.memory ∙ ap (entered_next a.mem.now (header_of a.p.header)) e;
+      filled = w.ensures.filled;
+    }
 
 pub returns-in-End : goal.returns-in-End
 returns-in-End c =
     let a = c.args in
     let e = subst (λ (x : Answer). read_of a.stream.now x ≡ read_block a.stream.now a.p.at) c.in-End.is c.read_block.ensures.means in
-    let w = (c.halted.ensures.0 ∙ ap (next_progress a.mem.now (progress_of a.p)) e, (ap (entered_next a.mem.now (header_of a.p.header)) e, c.halted.ensures.1 ∙ c.requires.1 ∙ ap (λ (x : Progress). filled (pieces_in a.mem.now x.header)) (sym c.halted.ensures.0))) in
-    record { progress = w.0; memory = w.1; filled = w.2 }
+    record {
+      progress = c.halted.ensures.0 ∙ ap (next_progress a.mem.now (progress_of a.p)) e;
+      memory = ap (entered_next a.mem.now (header_of a.p.header)) e;
+      filled = c.halted.ensures.1 ∙ c.requires.1 ∙ ap (λ (x : Progress). filled (pieces_in a.mem.now x.header)) (sym c.halted.ensures.0);
+    }
 
 pub returns-in-Refused : goal.returns-in-Refused
 returns-in-Refused c =
     let a = c.args in
     let e = subst (λ (x : Answer). read_of a.stream.now x ≡ read_block a.stream.now a.p.at) c.in-Refused.is c.read_block.ensures.means in
-    let w = (c.halted-in-Refused.ensures.0 ∙ ap (next_progress a.mem.now (progress_of a.p)) e, (ap (entered_next a.mem.now (header_of a.p.header)) e, c.halted-in-Refused.ensures.1 ∙ c.requires.1 ∙ ap (λ (x : Progress). filled (pieces_in a.mem.now x.header)) (sym c.halted-in-Refused.ensures.0))) in
-    record { progress = w.0; memory = w.1; filled = w.2 }
+    record {
+      progress = c.halted-in-Refused.ensures.0 ∙ ap (next_progress a.mem.now (progress_of a.p)) e;
+      memory = ap (entered_next a.mem.now (header_of a.p.header)) e;
+      filled = c.halted-in-Refused.ensures.1 ∙ c.requires.1 ∙ ap (λ (x : Progress). filled (pieces_in a.mem.now x.header)) (sym c.halted-in-Refused.ensures.0);
+    }
