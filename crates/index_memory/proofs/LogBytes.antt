@@ -58,7 +58,8 @@ log_written (p ∷ ps) xs at f h =
     piece_ext ys zs at (sym n₂) (omega (arith, fp.small)) (λ k a b. sym (get_or_sets_out (log_bytes ps) ys (at + 48) k (inl b))) in
     let q : piece_in ys at ≡ p = piece_written xs at p fp (omega arith) in
     let r : log_in zs (length ps) (at + 48) ≡ ps = log_written ps ys (at + 48) (λ x m. f x (later m)) (omega arith) in
-    rw (log_sets p ps xs at fp.small) (cc)
+    let w : piece_in zs at ∷ log_in zs (length ps) (at + 48) ≡ p ∷ ps = rw (sym e ∙ q, r) refl in
+    ap (λ (ws : List ℕ). log_in ws (suc (length ps)) at) (log_sets p ps xs at fp.small) ∙ w
 
 -- a log of n and k pieces
 pub log_append : (xs : List ℕ) (n k p : ℕ) → log_in xs (n + k) p ≡ log_in xs n p ++ log_in xs k (p + 48 * n)

@@ -2,7 +2,7 @@
 use Prim.Native.Nat.{ℕ, zero, suc, ◌+◌, ◌≤◌, ◌<◌}
 use native.Mathlib.Omega.{arith}
 use native.Mathlib.Numerals.{add-one}
-use mathlib.Core.Path.{◌≡◌, refl, ap, ◌∙◌}
+use mathlib.Core.Path.{◌≡◌, refl, sym, ap, subst, ◌∙◌}
 use mathlib.Core.Bool.{Bool, true, false}
 use mathlib.Core.List.{List, [], ◌∷◌, ◌++◌}
 use mathlib.Core.Option.{Option, none, some}
@@ -79,7 +79,11 @@ table_step n [] zero h = absurd (omega arith)
 table_step n (b ∷ q) zero h = refl
 table_step n q (suc i) h =
     let d : drop (suc i) q ≡ get_or q (suc i) 0 ∷ drop (suc (suc i)) q = drop-cons q (suc i) 0 h in
-    rw (add-one (suc i), d, ne_eqb (suc i) 0 (λ e. omega arith)) refl
+    let off : eqb (suc i) 0 ≡ false = ne_eqb (suc i) 0 (λ e. omega arith) in
+    let Step : List ℕ → Bool → ℕ → Type 0 = λ w o k. ends_found n w ≡ normal (along_from o n w) ∷ table_from n q k in
+    let w : List ℕ = get_or q (suc i) 0 ∷ drop (suc (suc i)) q in
+    let step : Step w false (suc (suc i)) = refl in
+    subst (λ (x : List ℕ). Step x (eqb (suc i) 0) (suc i + 1)) (sym d) (subst (λ (o : Bool). Step w o (suc i + 1)) (sym off) (subst (Step w false) (sym (add-one (suc i))) step))
 
 pub table_behind : (n : Node) (q : List ℕ) (j : ℕ) → 1 ≤ j → table_from n q j ≡ ends_found n (drop j q)
 table_behind n q zero h = absurd (omega arith)

@@ -67,7 +67,8 @@ stand (l ∷ ls) s at f h =
     sets_append s at (location_bytes l) (locations_bytes ls) ∙ ap (λ (i : ℕ). sets s₁ (at + i) (locations_bytes ls)) (length_location l) in
     let first : location_at (sets s₁ (at + 24) (locations_bytes ls)) at ≡ l = location_other (locations_bytes ls) s₁ (at + 24) at (inl (omega arith)) ∙ location_written s at l f.0 (omega arith) in
     let rest = stand ls s₁ (at + 24) f.1 (omega arith) in
-    rw (e, first, rest)
+    let both : location_at (sets s₁ (at + 24) (locations_bytes ls)) at ∷ locations_in (sets s₁ (at + 24) (locations_bytes ls)) (length ls) (at + 24) ≡ l ∷ ls = rw (first, rest) refl in
+    ap (λ (t : List ℕ). locations_in t (suc (length ls)) at) e ∙ both
 
 module _ (s : List ℕ) (n at : ℕ) (h : at + n * 24 ≤ length s) where
   -- the rows have room at the front

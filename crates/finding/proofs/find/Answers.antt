@@ -29,5 +29,5 @@ pub returns-in-Finished : goal.returns-in-Finished
 returns-in-Finished c =
     let a = c.args in
     let w = subst (Inspects a.mem.now) c.in-Finished.is c.inspect.ensures in
-    let w = finds a.mem.now a.q.now a.scratch.now _ _ w.holds (c.find_finished.ensures.found, c.find_finished.ensures.rows, c.find_finished.ensures.scratch) in
+    let w = finds a.mem.now a.q.now a.scratch.now _ _ w.holds (c.find_finished.ensures.found, (c.find_finished.ensures.rows, c.find_finished.ensures.scratch)) in
     record { found = w.0; rows = w.1.0; scratch = w.1.1 }

@@ -26,7 +26,7 @@ clear-requires c =
 pub put_header-requires : goal.put_header-requires
 put_header-requires c =
     let p = c.requires in
-    omega (arith, c.clear.auto.mem, p.held)
+    omega (arith, c.clear.auto.s, p.held)
 
 pub returns : goal.returns
 returns c =

@@ -45,7 +45,7 @@ children_right-requires c =
     let n = c.node_at-root in
     let f = c.root_fronts-count in
     let v = c.node_right in
-    root_asked a.s.now h n.result n.ensures f.new.fronts f.result v.new.lists f.ensures (omega (arith, f.auto.fronts.1.1.0)) (omega (arith, v.auto.fronts.1.1.0))
+    root_asked a.s.now h n.result n.ensures f.new.fronts f.result v.new.lists f.ensures (omega (arith, f.auto.fronts)) (omega (arith, v.auto.lists))
 
 pub returns : goal.returns
 returns c =

@@ -27,5 +27,5 @@ pub returns : goal.returns
 returns c =
     let a = c.args in
     let is_right = sym c.is_number.ensures ∙ c.if-not-is_number.false in
-    let w = right_finds a.mem.now a.typed.now a.scratch.now a.room is_right (c.find.ensures.found, c.find.ensures.rows, c.find.ensures.scratch) in
+    let w = right_finds a.mem.now a.typed.now a.scratch.now a.room is_right (c.find.ensures.found, (c.find.ensures.rows, c.find.ensures.scratch)) in
     record { found = w.0; rows = w.1.0; scratch = w.1.1 }

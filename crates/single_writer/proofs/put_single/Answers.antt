@@ -19,7 +19,7 @@ pub overflow_add-mem : goal.overflow_add-mem
 overflow_add-mem c = omega (arith, front_room c.put_single_front-front.ensures c.requires.0, c.requires.0.memory)
 
 pub bounds-mem-table : goal.bounds-mem-table
-bounds-mem-table c = omega (arith, front_room c.put_single_front-front.ensures c.requires.0, c.put_single_front-front.ensures.long, c.requires.0.memory, c.put64.auto.mem)
+bounds-mem-table c = omega (arith, front_room c.put_single_front-front.ensures c.requires.0, c.put_single_front-front.ensures.long, c.requires.0.memory, c.put64.auto.s)
 
 pub overflow_add-table : goal.overflow_add-table
 overflow_add-table c = omega (arith, front_room c.put_single_front-front.ensures c.requires.0, c.requires.0.memory)
@@ -31,7 +31,7 @@ pub put_slot-requires : goal.put_slot-requires
 put_slot-requires c =
     let f = c.put_single_front-front.ensures in
     let room = front_room f c.requires.0 in
-    simp length-set (omega (arith, room, f.long, c.requires.0.memory, c.put64.auto.mem), omega (arith, room, f.long, c.requires.0.memory, c.put64.auto.mem), omega (arith, f.at, c.requires.1))
+    simp length-set (omega (arith, room, f.long, c.requires.0.memory, c.put64.auto.s), omega (arith, room, f.long, c.requires.0.memory, c.put64.auto.s), omega (arith, f.at, c.requires.1))
 
 pub overflow_add-result : goal.overflow_add-result
 overflow_add-result c = omega (arith, front_room c.put_single_front-front.ensures c.requires.0, c.requires.0.memory)

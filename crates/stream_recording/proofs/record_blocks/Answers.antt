@@ -31,7 +31,7 @@ loop-p-smaller c =
     let a = c.args in
     let bytes : (k : ℕ) → get_or a.stream.now k 0 < 256 = λ j. omega (arith, c.type_inv.stream j) in
     let on = going_on a.stream.now a.mem.now bytes _ _ g.0 c.loop-p-test.true c.record_next-p.new.mem (progress_of c.record_next-p.result) c.record_next-p.ensures.progress c.record_next-p.ensures.memory c.record_next-p.auto.mem in
-    fewer_left a.stream.now a.mem.now _ _ _ _ c.loop-p-test.true c.record_next-p.ensures.progress on
+    fewer_left a.stream.now a.mem.now _ _ (progress_of c.loop-p.p) (progress_of c.record_next-p.result) c.loop-p-test.true c.record_next-p.ensures.progress on
 
 pub loop-p-preserved : goal.loop-p-preserved
 loop-p-preserved c =
