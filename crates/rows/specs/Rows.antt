@@ -1,5 +1,5 @@
 -- Locations as rows, and rows put over lent ones. Assumes nothing.
-use Rattle.std.specs.Prelude.{ℕ, List, [], ◌∷◌, ◌++◌, length, drop}
+use Rattle.std.specs.Prelude.{List, [], ◌∷◌, ◌++◌, length, drop}
 use Rattle.definitions.specs.Location.{Location}
 use Rattle.rows.specs.declared.Row.{Row}
 
