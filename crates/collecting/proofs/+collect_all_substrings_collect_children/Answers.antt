@@ -1,6 +1,5 @@
 -- `collecting::collect_all_substrings` and `collecting::collect_children`, which call each other, meet their contracts: the levels left fall.
 -- Assumes nothing.
-use Prim.Native.Nat.{◌-◌}
 use native.Mathlib.Omega.{arith}
 use mathlib.Core.Path.{sym, ap, ◌∙◌}
 use Rattle.image_walk.specs.Answers.{entry_of_answer}
