@@ -45,7 +45,7 @@ pub owes_none-requires : goal.owes_none-requires
 owes_none-requires c =
     let a = c.args in
     let p = c.requires in
-    (run_table _ _ _ _ _ _ _ c.common_run-run.ensures (below_table a.s.now a.below.table a.below.children a.below.depth a.fronts.now a.count a.below.left a.lists.now p c.if-below-ne1.false) (below_front a.s.now a.below.table a.below.children a.below.depth a.fronts.now a.count a.below.left a.lists.now p c.if-count-ne1.false c.if-fronts-from-ne1.false), omega (arith, p.lists_room, c.leaf_right-leaf.auto.lists.1.1.0))
+    (run_table _ _ _ _ _ _ _ c.common_run-run.ensures (below_table a.s.now a.below.table a.below.children a.below.depth a.fronts.now a.count a.below.left a.lists.now p c.if-below-ne1.false) (below_front a.s.now a.below.table a.below.children a.below.depth a.fronts.now a.count a.below.left a.lists.now p c.if-count-ne1.false c.if-fronts-from-ne1.false), omega (arith, p.lists_room, c.leaf_right-leaf.auto.lists))
 
 pub returns : goal.returns
 returns c =

@@ -1,6 +1,7 @@
 -- `single_runs::common_run` meets its contract. Assumes nothing.
 use Prim.Native.Nat.{◌-◌}
 use native.Mathlib.Omega.{arith}
+use borrow.Author.Tests.{not-false}
 use Rattle.single_runs.proofs.RunLaws.{run_more, run_none, run_other, run_table}
 use Rattle.single_runs.proofs.common_run.Goals as goal
 
@@ -14,7 +15,7 @@ pub returns-then-not-p : goal.returns-then-not-p
 returns-then-not-p c = c.loop-levels.invariant
 
 pub loop-levels-preserved : goal.loop-levels-preserved
-loop-levels-preserved c = run_more _ _ _ _ _ _ _ c.loop-levels.invariant _ _ (omega arith) (c.both_down-p.ensures c.if-not-p.false)
+loop-levels-preserved c = run_more _ _ _ _ _ _ _ c.loop-levels.invariant _ _ (omega arith) (c.both_down-p.ensures (not-false _ c.if-not-p.false))
 
 pub returns : goal.returns
 returns c = c.loop-levels.invariant
