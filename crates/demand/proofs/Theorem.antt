@@ -28,6 +28,7 @@ record At (b : ℕ) (bs : List ℕ) : Type 0 where
   is : get_or bs index 0 ≡ b
 
 mem_at : {b : ℕ} (bs : List ℕ) → Mem b bs → At b bs
+mem_at {b = b} [] x' = elim x' [ ]
 mem_at (c ∷ bs) (here e) = record { index = 0; inside = omega arith; is = sym e }
 mem_at {b} (c ∷ bs) (later h) = go (mem_at bs h)
   where

@@ -6,6 +6,5 @@ use Rattle.helmapricot.proofs.helmapricot_open.Goals as goal
 
 pub returns : goal.returns
 returns c =
-    {- place record c.before.before.before used whole -}
-    let r = c.before.before.before.«open» in
-    record { answer = c.outcome-number.ensures ∙ ap outcome_number r.ensures.0 ∙ outcome_back _; memory = r.ensures.1 }
+    let r = c.«open» in
+    record { answer = c.outcome_number.ensures ∙ ap outcome_number r.ensures.answer ∙ outcome_back _; memory = r.ensures.memory }

@@ -31,7 +31,7 @@ returns-in-Block c =
     let f = c.read_block in
     let a = c.args in
     let xs = a.fields.now in
-    let b = g.0.0 in
+    let b = c.in-Block.b in
     let e = subst (λ (x : Answer). read_of a.s.now x ≡ read_block a.s.now a.at) c.in-Block.is f.ensures.means in
     let n = data_length (block_part a.s.now a.at f.result b c.in-Block.is f.ensures.means f.ensures.starts) in record { answer = ap stream_number e; fields = c.put_fields.ensures ∙ ap (λ (k : ℕ). sets xs 0 (1 ∷ b.kind ∷ b.address ∷ k ∷ b.created_at ∷ b.destroyed_at ∷ b.next ∷ [])) n ∙ ap (λ (x : Read). with_fields x xs) e }
 

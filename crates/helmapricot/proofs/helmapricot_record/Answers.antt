@@ -9,8 +9,7 @@ use Rattle.helmapricot.proofs.helmapricot_record.Goals as goal
 
 pub returns : goal.returns
 returns c =
-    {- place record c.before.before.before used whole -}
-    let a = c.before.before.before.before.before.before.before.before.args in
-    let r = c.before.before.before.«record» in
-    let e = ap (λ (l : Location). record_memory a.mem.now a.kind (record { bytes = a.«data».now; at = l })) c.before.before.before.before.before.new.ensures in
-    record { answer = c.recorded-number.ensures ∙ ap recorded_number r.ensures.0 ∙ recorded_back _ ∙ ap (λ (d : Done). d.refusal) e; memory = r.ensures.1 ∙ ap (λ (d : Done). d.memory) e }
+    let a = c.args in
+    let r = c.«record» in
+    let e = ap (λ (l : Location). record_memory a.mem.now a.kind (record { bytes = a.«data».now; at = l })) c.new-l.ensures in
+    record { answer = c.recorded_number.ensures ∙ ap recorded_number r.ensures.answer ∙ recorded_back _ ∙ ap (λ (d : Done). d.refusal) e; memory = r.ensures.memory ∙ ap (λ (d : Done). d.memory) e }
