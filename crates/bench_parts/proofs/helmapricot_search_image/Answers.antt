@@ -4,17 +4,7 @@ use lib.ListN.{length}
 use Rattle.fields.specs.Answers.{layout_of}
 use Rattle.bench_parts.specs.Parts.{last_of}
 use Rattle.bench_parts.proofs.Queries.{right_image, said_refused, said_right}
-use Rattle.bench_parts.proofs.helmapricot_search_image.Reads as reads
-use Rattle.bench_parts.proofs.helmapricot_search_image.Lts as lts
-use Rattle.index_rule.proofs.check.Reads as check-reads
-use Rattle.bench_parts.proofs.search_right.Reads as search-right-reads
 use Rattle.bench_parts.proofs.helmapricot_search_image.Goals as goal
-
--- src/lib.rt:115:29
-
--- src/lib.rt:101:1
-
--- src/lib.rt:101:1
 
 pub search_right-requires : goal.search_right-requires
 search_right-requires c =
@@ -30,5 +20,5 @@ returns-in-Refused c =
 pub returns-in-Right : goal.returns-in-Right
 returns-in-Right c =
     let a = c.args in
-    let w = said_right a.img.now (last_of a.queries.now a.size) (length a.scratch.now) a.room a.count.now a.scratch.now (ap layout_of (sym c.in-Right.is) ∙ c.check.ensures) (c.search_right.ensures.answer, c.search_right.ensures.count, c.search_right.ensures.scratch) in
+    let w = said_right a.img.now (last_of a.queries.now a.size) (length a.scratch.now) a.room a.count.now a.scratch.now (ap layout_of (sym c.in-Right.is) ∙ c.check.ensures) (c.search_right.ensures.answer, (c.search_right.ensures.count, c.search_right.ensures.scratch)) in
     record { answer = w.0; count = w.1.0; scratch = w.1.1 }

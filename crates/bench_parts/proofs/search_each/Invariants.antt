@@ -1,9 +1,6 @@
 use Prim.Native.Nat.{◌-◌}
 use mathlib.Core.Path.{◌≡◌}
 use lib.ListN.{length}
-use Rattle.bench_parts.proofs.search_each.Reads as reads
-use Rattle.bench_parts.proofs.search_each.Lts as lts
-use Rattle.searching.proofs.search_image.Reads as search-image-reads
 use Rattle.bench_parts.proofs.search_each.Given as goal
 
 abbrev pub invariant-loop-at : goal.invariant-loop-at

@@ -5,19 +5,7 @@ use Prim.Native.Nat.{ℕ, ◌≤◌, min}
 use borrow.Author.Rules.{rules}
 use Rattle.image_format.specs.Held.{trie_in}
 use Rattle.bench_parts.proofs.Queries.{size_within, says_too_long, says_refused, says_found}
-use Rattle.bench_parts.proofs.search_right.Reads as reads
-use Rattle.bench_parts.proofs.search_right.Lts as lts
-use Rattle.bench_parts.proofs.query_size.Reads as query-size-reads
-use Rattle.bench_parts.proofs.search_each.Reads as search-each-reads
 use Rattle.bench_parts.proofs.search_right.Goals as goal
-
--- src/lib.rt:89:9
-
--- src/lib.rt:91:9
-
--- src/lib.rt:93:9
-
--- src/lib.rt:75:1
 
 pub returns-then-n-gt-QUERY_LIMIT : goal.returns-then-n-gt-QUERY_LIMIT
 returns-then-n-gt-QUERY_LIMIT c =
@@ -35,11 +23,11 @@ search_each-found-requires c =
 pub returns-then-found-ne0 : goal.returns-then-found-ne0
 returns-then-found-ne0 c =
     let a = c.args in
-    let w = says_refused (trie_in a.img.now) a.queries.now a.size (length a.scratch.now) a.room _ c.query_size-n.ensures a.count.now a.scratch.now _ (omega (arith, c.if-n-gt-QUERY_LIMIT.false)) (search rules) c.search_each-found.ensures c.if-found-ne0.true in
+    let w = says_refused (trie_in a.img.now) a.queries.now a.size (length a.scratch.now) a.room _ c.query_size-n.ensures a.count.now a.scratch.now _ (omega (arith, c.if-n-gt-QUERY_LIMIT.false)) (search rules) c.search_each-found.ensures.finding c.if-found-ne0.true in
     record { answer = w.0; count = w.1.0; scratch = w.1.1 }
 
 pub returns : goal.returns
 returns c =
     let a = c.args in
-    let w = says_found (trie_in a.img.now) a.queries.now a.size (length a.scratch.now) a.room _ c.query_size-n.ensures a.count.now a.scratch.now _ (omega (arith, c.if-n-gt-QUERY_LIMIT.false)) (search rules) c.search_each-found.ensures c.if-found-ne0.false in
+    let w = says_found (trie_in a.img.now) a.queries.now a.size (length a.scratch.now) a.room _ c.query_size-n.ensures a.count.now a.scratch.now _ (omega (arith, c.if-n-gt-QUERY_LIMIT.false)) (search rules) c.search_each-found.ensures.finding c.if-found-ne0.false in
     record { answer = w.0; count = w.1.0; scratch = w.1.1 }

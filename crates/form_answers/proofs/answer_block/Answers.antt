@@ -10,14 +10,12 @@ use Rattle.form_answers.proofs.answer_block.Goals as goal
 
 pub returns-in-Taken : goal.returns-in-Taken
 returns-in-Taken c =
-    {- place record c.before.before.before.before.before.before.before.before used whole -}
-    let k = c.before.before.before.before.before.before.before.before.«record» in
-    let a = c.before.before.before.before.before.before.before.before.before.before.before.before.before.args in
-    answered_one taken (was_taken (record_memory a.mem.now a.kind (record { bytes = a.bytes.now; at = plain a.l })).refusal (taken ∷ []) (sym c.before.before.before.before.enum_told.given.1 ∙ k.ensures.0)) (omega arith) c.before.before.put-taken.ensures k.ensures.1
+    let k = c.«record» in
+    let a = c.args in
+    answered_one taken (was_taken (record_memory a.mem.now a.kind (record { bytes = a.bytes.now; at = plain a.l })).refusal (taken ∷ []) (sym c.in-Taken.is ∙ k.ensures.answer)) (omega arith) c.put_taken.ensures k.ensures.memory
 
 pub returns-in-Refused : goal.returns-in-Refused
 returns-in-Refused c =
-    {- place record c.before.before.before.before.before.before.before.before.before used whole -}
-    let k = c.before.before.before.before.before.before.before.before.before.«record» in
-    let a = c.before.before.before.before.before.before.before.before.before.before.before.before.before.before.args in
-    answered_refused _ (was_refused (record_memory a.mem.now a.kind (record { bytes = a.bytes.now; at = plain a.l })).refusal _ (taken ∷ []) (sym c.before.before.before.before.before.n.given.1 ∙ k.ensures.0)) c.before.before.Put-refused.ensures k.ensures.1
+    let k = c.«record» in
+    let a = c.args in
+    answered_refused _ (was_refused (record_memory a.mem.now a.kind (record { bytes = a.bytes.now; at = plain a.l })).refusal _ (taken ∷ []) (sym c.in-Refused.is ∙ k.ensures.answer)) c.put_refused.ensures k.ensures.memory
