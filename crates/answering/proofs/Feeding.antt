@@ -11,7 +11,7 @@ use lib.Dec.{ltb}
 use borrow.Author.Tests.{lt-ltb, le-ltb, ne_eqb}
 use Rattle.lines.specs.Cut.{Ends}
 use Rattle.replies.proofs.Writing.{written_both, written_same}
-use Rattle.lines.specs.Kept.{Kept, part, keeps, keeps_byte, kept_in, KeepsBehind}
+use Rattle.lines.specs.Kept.{Kept, keeps, keeps_byte, kept_in, KeepsBehind}
 use Rattle.answering.specs.Parts.{kept_answer, kept_memory, State, line_ended, still_kept, after_bytes, used}
 use Rattle.lines.proofs.Keeping.{few_kept}
 use Rattle.answering.specs.Cited.{begun, used_part, HoldsState, AnswersLines}

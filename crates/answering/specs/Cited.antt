@@ -1,7 +1,6 @@
 -- What the contracts cite besides: how the code holds a state. Assumes nothing.
-use Rattle.std.specs.Prelude.{ℕ, ◌+◌, ◌≤◌, ◌<◌, ◌≡◌, cond, List, length, take, drop, ltb}
-use Rattle.std.proofs.lemmas.List.Edits.{sets}
-use Rattle.lines.specs.Kept.{Kept, kept_in}
+use Rattle.std.specs.Prelude.{ℕ, ◌+◌, ◌≤◌, ◌<◌, ◌≡◌, List, length, take, drop}
+use Rattle.lines.specs.Kept.{kept_in}
 use Rattle.replies.specs.Written.{Written}
 use Rattle.answering.specs.Parts.{State, at_start, after_bytes, used}
 
