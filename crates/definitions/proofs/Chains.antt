@@ -1,10 +1,10 @@
 -- The table computes T(i) of document 01, and the set of pieces alone decides it. No consistency is asked. Assumes nothing.
-use Prim.Native.Nat.{ℕ, zero, suc, ◌+◌, ◌≤◌, ◌<◌}
+use Prim.Native.Nat.{ℕ, zero, suc, ◌+◌, ◌<◌}
 use native.Mathlib.Nat.{not-suc-le-zero}
 use native.Mathlib.Omega.{arith}
 use mathlib.Core.Path.{◌≡◌, refl, sym, ap, ◌∙◌, subst}
 use mathlib.Core.Bool.{Bool, true, false, cond}
-use mathlib.Core.Logic.{◌⊎◌, inl, inr, ◌↔◌}
+use mathlib.Core.Logic.{◌↔◌}
 use mathlib.Core.List.Memᴰ.{cast}
 use mathlib.Core.List.Memᴰ.{eq_of_singleton as only_one}
 use mathlib.Core.List.Memᴰ.{head as here}
@@ -16,7 +16,7 @@ use lib.Dec.{eqb}
 use borrow.Author.Tests.{eq-eqb}
 use Rattle.definitions.specs.Location.{Location, common, overlap, normal, Sorted, Less}
 use Rattle.definitions.specs.Blocks.{Piece, tails}
-use Rattle.definitions.specs.Places.{Reach, misses, covers, onward, first_of, rest_of, reach, extend, by_piece, by_pieces, ends, places, table, Chain, last, link, T, NeverEmpty}
+use Rattle.definitions.specs.Places.{Reach, misses, covers, onward, first_of, rest_of, reach, extend, by_pieces, ends, places, table, Chain, last, link, T, NeverEmpty}
 use Rattle.definitions.specs.Rows.{combine_split_times, rows}
 use Rattle.definitions.specs.Runs.{Alive}
 pub use Rattle.definitions.specs.Promises.{SamePieces}

@@ -1,18 +1,16 @@
 -- One pass over sorted places with lives that at most touch: the longest runs of what they cover. Assumes nothing.
-use Prim.Native.Nat.{ℕ, suc, ◌+◌, ◌≤◌, ◌<◌}
+use Prim.Native.Nat.{ℕ, ◌≤◌, ◌<◌}
 use native.Mathlib.Omega.{arith}
-use mathlib.Core.Path.{◌≡◌, refl, sym, ap, ◌∙◌, subst}
+use mathlib.Core.Path.{◌≡◌, refl, sym, ◌∙◌, subst}
 use mathlib.Core.Bool.{Bool, true, false, cond}
-use mathlib.Core.Logic.{◌⊎◌, inl, inr, ◌↔◌}
+use mathlib.Core.Logic.{◌⊎◌, inl, inr}
 use mathlib.Core.List.Memᴰ.{cases_cons as split}
-use mathlib.Core.List.Memᴰ.{cast}
 use mathlib.Core.List.Memᴰ.{head as here}
 use mathlib.Core.List.Memᴰ.{not-nil}
 use mathlib.Core.List.Memᴰ.{tail as later}
-use mathlib.Core.List.{List, [], ◌∷◌, ◌++◌, Memᴰ as Mem}
-use Rattle.definitions.specs.Location.{Location, Lives, Sorted}
-use Rattle.definitions.specs.Rows.{goes_on, lengthened, combined, combine_split_times, Before}
-use Rattle.definitions.proofs.Order.{location_path}
+use mathlib.Core.List.{List, [], ◌∷◌, Memᴰ as Mem}
+use Rattle.definitions.specs.Location.{Location, Lives}
+use Rattle.definitions.specs.Rows.{goes_on, lengthened, combined, Before}
 use Rattle.definitions.proofs.Views.{GoesOn, goes, lt_or_le}
 
 -- ── a place at (a, t) ──

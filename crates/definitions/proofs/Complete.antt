@@ -1,17 +1,16 @@
 -- Wherever the query stands, the table has a place. Assumes nothing.
-use Prim.Native.Nat.{ℕ, suc, ◌+◌, ◌≤◌, ◌<◌, min, max}
+use Prim.Native.Nat.{ℕ, suc, ◌+◌, ◌≤◌, ◌<◌}
 use native.Mathlib.Nat.{not-suc-le-zero}
 use native.Mathlib.Omega.{arith}
-use mathlib.Core.Path.{◌≡◌, refl, sym, ap, ◌∙◌, subst}
+use mathlib.Core.Path.{◌≡◌, refl, sym, subst}
 use mathlib.Core.Bool.{Bool, true, false, cond}
 use mathlib.Core.List.Memᴰ.{head as here}
-use mathlib.Core.List.{List, [], ◌∷◌, ◌++◌, Memᴰ as Mem}
+use mathlib.Core.List.{List, [], ◌∷◌, Memᴰ as Mem}
 use lib.Dec.{eqb}
 use lib.ListN.{length}
 use Rattle.definitions.specs.Location.{Location, Lives, common, normal}
 use Rattle.definitions.specs.Blocks.{Piece}
-use Rattle.definitions.specs.Places.{joins, Reach, misses, covers, onward, first_of, rest_of, reach, extend, by_piece, by_pieces, ends}
-use Rattle.definitions.specs.Runs.{Holds}
+use Rattle.definitions.specs.Places.{Reach, misses, covers, onward, first_of, rest_of, reach, extend, by_piece, by_pieces, ends}
 use Rattle.definitions.proofs.Combine.{Here}
 use Rattle.definitions.proofs.Views.{Eq, eq}
 use Rattle.definitions.proofs.Order.{mem_normal}

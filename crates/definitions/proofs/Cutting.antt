@@ -17,7 +17,7 @@ use mathlib.Core.List.{List, [], ◌∷◌, ◌++◌, append-nil, append_assoc, 
 use lib.ListN.{length, get_or, take, drop, length-take, length-drop}
 use lib.Seq.{get_or-take, get_or-drop}
 use lib.Dec.{leb}
-use Rattle.definitions.specs.Location.{Location, Lives, moved}
+use Rattle.definitions.specs.Location.{Location, moved}
 use Rattle.definitions.specs.Blocks.{Block, Piece, cut, pieces, pieces_of}
 use Rattle.definitions.specs.Runs.{Holds, Covers, Apart, Consistent, Alive}
 use Rattle.definitions.proofs.Views.{Le, le, lt_or_le}

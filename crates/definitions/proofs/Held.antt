@@ -1,19 +1,16 @@
 -- Where a query stands, byte by byte; and what a consistent recording has around a piece. Assumes nothing.
-use Prim.Native.Nat.{ℕ, zero, suc, pred, ◌+◌, ◌-◌, ◌≤◌, ◌<◌}
+use Prim.Native.Nat.{ℕ, zero, suc, pred, ◌+◌, ◌-◌, ◌<◌}
 use native.Mathlib.Nat.{le_of_suc-le-suc, not-suc-le-zero}
 use native.Mathlib.Omega.{arith}
 use mathlib.Core.Path.{◌≡◌, refl, sym, ap, ◌∙◌, subst}
-use mathlib.Core.Logic.{◌⊎◌, inl, inr}
-use mathlib.Core.List.Memᴰ.{cases_cons as split}
-use mathlib.Core.List.Memᴰ.{cast}
 use mathlib.Core.List.Memᴰ.{head as here}
 use mathlib.Core.List.Memᴰ.{tail as later}
 use mathlib.Core.List.{List, [], ◌∷◌, Memᴰ as Mem}
 use lib.ListN.{length, get_or, drop}
 use lib.Seq.{drop-cons}
-use Rattle.definitions.specs.Location.{Location, Lives}
+use Rattle.definitions.specs.Location.{Lives}
 use Rattle.definitions.specs.Blocks.{Piece}
-use Rattle.definitions.specs.Runs.{Holds, Stands, Covers, Apart, Consistent}
+use Rattle.definitions.specs.Runs.{Holds, Stands, Covers, Consistent}
 
 -- ── standing, byte by byte ──
 

@@ -1,5 +1,5 @@
 -- What `joins`, `extend`, `reach` and `by_pieces` hand over, by membership. Assumes nothing.
-use Prim.Native.Nat.{ℕ, suc, ◌+◌, ◌≤◌, ◌<◌, min, max}
+use Prim.Native.Nat.{ℕ, ◌<◌}
 use native.Mathlib.Omega.{arith}
 use mathlib.Core.Path.{◌≡◌, refl, sym, ap, ◌∙◌, subst}
 use mathlib.Core.Bool.{Bool, true, false, cond, ◌&&◌}
@@ -8,17 +8,15 @@ use mathlib.Core.List.Memᴰ.{append_cases}
 use mathlib.Core.List.Memᴰ.{append_left}
 use mathlib.Core.List.Memᴰ.{append_right}
 use mathlib.Core.List.Memᴰ.{cases_cons as split}
-use mathlib.Core.List.Memᴰ.{cast}
-use mathlib.Core.List.Memᴰ.{eq_of_singleton as only_one}
 use mathlib.Core.List.Memᴰ.{head as here}
 use mathlib.Core.List.Memᴰ.{not-nil}
 use mathlib.Core.List.Memᴰ.{tail as later}
-use mathlib.Core.List.{List, [], ◌∷◌, ◌++◌, Memᴰ as Mem}
+use mathlib.Core.List.{List, [], ◌∷◌, Memᴰ as Mem}
 use lib.ListN.{length}
 use lib.Dec.{eqb}
 use Rattle.definitions.specs.Location.{Location, Lives, meets, common}
 use Rattle.definitions.specs.Blocks.{Piece}
-use Rattle.definitions.specs.Places.{joins, Reach, misses, covers, onward, reach, extend, by_piece, by_pieces}
+use Rattle.definitions.specs.Places.{joins, reach, extend, by_piece, by_pieces}
 use Rattle.definitions.proofs.Views.{Join, join}
 
 -- x is l joined to a place of ms at e

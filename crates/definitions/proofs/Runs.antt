@@ -1,21 +1,18 @@
 -- The members of a list of rows with gaps between them are the longest runs of what the list covers. Assumes nothing.
-use Prim.Native.Nat.{ℕ, suc, pred, ◌+◌, ◌≤◌, ◌<◌}
+use Prim.Native.Nat.{ℕ, suc, pred, ◌≤◌, ◌<◌}
 use native.Mathlib.Omega.{arith}
 use mathlib.Core.Path.{◌≡◌, refl, sym, ap, ◌∙◌, subst}
-use mathlib.Core.Logic.{◌⊎◌, inl, inr, ◌↔◌}
-use mathlib.Core.List.Memᴰ.{cases_cons as split}
+use mathlib.Core.Logic.{◌⊎◌, inl, inr}
 use mathlib.Core.List.Memᴰ.{cast}
 use mathlib.Core.List.Memᴰ.{head as here}
-use mathlib.Core.List.Memᴰ.{not-nil}
 use mathlib.Core.List.Memᴰ.{tail as later}
 use mathlib.Core.List.{List, [], ◌∷◌, Memᴰ as Mem}
-use Rattle.definitions.specs.Location.{Location, Lives, Sorted, Less}
+use Rattle.definitions.specs.Location.{Location, Sorted, Less}
 use Rattle.definitions.specs.Blocks.{Piece}
 use Rattle.definitions.specs.Rows.{Before}
 use Rattle.definitions.specs.Runs.{Stands, LongestRun}
 use Rattle.definitions.proofs.Order.{location_path}
-use Rattle.definitions.proofs.Views.{lt_or_le}
-use Rattle.definitions.proofs.Combine.{Here, At, Spread}
+use Rattle.definitions.proofs.Combine.{Here, Spread}
 
 pub spread_some : (R : Location → Location → Type 0) (ls : List Location) → Spread R ls → {x : Location} → Mem x ls → x.created < x.destroyed
 spread_some R [] s x4 = elim x4 [ ]

@@ -1,23 +1,22 @@
 -- At one address and tick there is one place at most, and every place has a life. Assumes nothing.
-use Prim.Native.Nat.{ℕ, suc, ◌+◌, ◌≤◌, ◌<◌, min, max}
-use native.Mathlib.Nat.{not-suc-le-zero}
+use Prim.Native.Nat.{ℕ, ◌+◌, ◌<◌}
 use native.Mathlib.Omega.{arith}
-use mathlib.Core.Path.{◌≡◌, refl, sym, ap, ◌∙◌, subst}
+use mathlib.Core.Path.{◌≡◌, sym, ap, ◌∙◌, subst}
 use mathlib.Core.Bool.{Bool, true, false, cond}
 use mathlib.Core.List.Memᴰ.{eq_of_singleton as only_one}
 use mathlib.Core.List.Memᴰ.{not-nil}
-use mathlib.Core.List.{List, [], ◌∷◌, ◌++◌, Memᴰ as Mem}
+use mathlib.Core.List.{List, [], ◌∷◌, Memᴰ as Mem}
 use lib.Dec.{eqb}
-use lib.ListN.{length, drop}
+use lib.ListN.{length}
 use Rattle.definitions.specs.Location.{Location, Lives, common, normal, moved}
 use Rattle.definitions.specs.Blocks.{Piece, tails}
-use Rattle.definitions.specs.Places.{joins, Reach, misses, covers, onward, first_of, rest_of, reach, extend, by_piece, by_pieces, ends}
-use Rattle.definitions.specs.Runs.{Covers, Alive}
+use Rattle.definitions.specs.Places.{Reach, misses, covers, onward, first_of, rest_of, reach, extend, by_piece, by_pieces, ends}
+use Rattle.definitions.specs.Runs.{Alive}
 use Rattle.definitions.proofs.Order.{normal_mem}
 use Rattle.definitions.proofs.Held.{Unique}
 use Rattle.definitions.proofs.Tails.{Tail, tails_mem, tail_at}
-use Rattle.definitions.proofs.Joins.{Joined, joins_mem, lives_left, lives_right, ByPiece, has_byte, by_pieces_mem}
-use Rattle.definitions.proofs.Sound.{Means, means_any, Made, extend_sound}
+use Rattle.definitions.proofs.Joins.{Joined, joins_mem, lives_right, ByPiece, has_byte, by_pieces_mem}
+use Rattle.definitions.proofs.Sound.{means_any, Made, extend_sound}
 
 -- one place at an address and a tick; each with a life
 pub record Single (ls : List Location) : Type 0 where

@@ -1,24 +1,21 @@
 -- A piece from each of its bytes on. Assumes nothing.
-use Prim.Native.Nat.{ℕ, zero, suc, pred, ◌+◌, ◌-◌, ◌≤◌, ◌<◌}
+use Prim.Native.Nat.{ℕ, zero, suc, ◌+◌, ◌-◌, ◌<◌}
 use native.Mathlib.Nat.{le_of_suc-le-suc, not-suc-le-zero}
 use native.Mathlib.Omega.{arith}
-use mathlib.Core.Path.{◌≡◌, refl, sym, ap, ◌∙◌, subst}
+use mathlib.Core.Path.{◌≡◌, refl, sym, ◌∙◌, subst}
 use mathlib.Core.Logic.{◌⊎◌, inl, inr}
 use mathlib.Core.List.Memᴰ.{append_cases}
 use mathlib.Core.List.Memᴰ.{append_left}
 use mathlib.Core.List.Memᴰ.{append_right}
-use mathlib.Core.List.Memᴰ.{cases_cons as split}
 use mathlib.Core.List.Memᴰ.{cast}
 use mathlib.Core.List.Memᴰ.{head as here}
-use mathlib.Core.List.Memᴰ.{not-nil}
 use mathlib.Core.List.Memᴰ.{tail as later}
-use mathlib.Core.List.{List, [], ◌∷◌, ◌++◌, Memᴰ as Mem}
-use lib.ListN.{length, get_or, drop, length-drop}
+use mathlib.Core.List.{List, [], ◌∷◌, Memᴰ as Mem}
+use lib.ListN.{length, drop, length-drop}
 use Rattle.definitions.specs.Location.{Location, Lives, moved}
 use Rattle.definitions.specs.Blocks.{Piece, tails_of, tails}
-use Rattle.definitions.specs.Runs.{Covers}
 use Rattle.definitions.proofs.Order.{location_path}
-use Rattle.definitions.proofs.Held.{Unique, Fits, fits_from, fits_stands, StandsR}
+use Rattle.definitions.proofs.Held.{Unique, Fits, fits_from}
 
 abbrev pub tail_at : Location → List ℕ → ℕ → Piece
 tail_at l cs k = record { bytes = drop k cs; at = moved l k }

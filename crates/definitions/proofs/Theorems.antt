@@ -1,31 +1,30 @@
 -- The theorems on rows: they are exactly the longest runs, and two recordings have the same rows exactly when they hold the same.
 -- Assumes nothing.
-use Prim.Native.Nat.{ℕ, zero, suc, ◌+◌, ◌≤◌, ◌<◌}
+use Prim.Native.Nat.{ℕ, ◌+◌, ◌≤◌, ◌<◌}
 use native.Mathlib.Nat.{not-suc-le-zero}
 use native.Mathlib.Omega.{arith}
-use mathlib.Core.Path.{◌≡◌, refl, sym, ap, ◌∙◌, subst}
+use mathlib.Core.Path.{◌≡◌, refl, sym, ap, subst}
 use mathlib.Core.Logic.{◌⊎◌, inl, inr, ◌↔◌}
 use mathlib.Core.List.Memᴰ.{eq_of_singleton as only_one}
 use mathlib.Core.List.Memᴰ.{head as here}
-use mathlib.Core.List.Memᴰ.{not-nil}
 use mathlib.Core.List.Memᴰ.{tail as later}
 use mathlib.Core.List.{List, [], ◌∷◌, Memᴰ as Mem}
 use lib.ListN.{length, get_or, drop, length-drop}
-use Rattle.definitions.specs.Location.{Location, Lives, Sorted, normal, Less}
+use Rattle.definitions.specs.Location.{Location, Lives, Sorted, Less}
 use Rattle.definitions.specs.Blocks.{Block, Piece, pieces_of, tails}
 use Rattle.definitions.specs.Places.{ends, by_pieces, places}
-use Rattle.definitions.specs.Rows.{Before, combine_split_times, combined, rows}
+use Rattle.definitions.specs.Rows.{Before, combine_split_times, rows}
 use Rattle.definitions.specs.Runs.{Holds, Stands, LongestRun, RowsAreRuns, Consistent, Alive, Query, SameRows, SameHeld}
 use Rattle.definitions.proofs.Order.{less_asym, sorted_normal, same_lists, mem_get_or}
 use Rattle.definitions.proofs.Views.{lt_or_le}
 use Rattle.definitions.proofs.Combine.{Here, Near, Spread, combined_spread, combined_here, here_combined}
 use Rattle.definitions.proofs.Runs.{spread_sorted, before_less, row_is_run, run_is_row}
-use Rattle.definitions.proofs.Held.{Unique, consistent_unique, StandsR, stands_to, stands_from, fits, fits_stands, Fits}
+use Rattle.definitions.proofs.Held.{Unique, consistent_unique, StandsR, stands_to, stands_from, fits, fits_stands}
 use Rattle.definitions.proofs.Tails.{tail_at, mem_tails, tail_fits, tails_fit}
 use Rattle.definitions.proofs.Sound.{Held, step_sound, table_sound}
 use Rattle.definitions.proofs.Complete.{step_complete, table_complete}
 use Rattle.definitions.proofs.Cutting.{held_by_pieces, consistent_pieces, alive_pieces}
-use Rattle.definitions.proofs.Single.{Single, SingleP, step_single, table_single, pieces_single, tails_single}
+use Rattle.definitions.proofs.Single.{Single, step_single, table_single, pieces_single, tails_single}
 
 -- ── every place of a query is one where it stands, and none is missed ──
 

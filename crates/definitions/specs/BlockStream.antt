@@ -2,7 +2,6 @@
 use Rattle.std.specs.Prelude.{ℕ, ◌+◌, cond, List, [], ◌∷◌, length, get_or, take, drop, ltb, eqb}
 use Rattle.std.proofs.Math.Option.{Option, none, some}
 use Rattle.words.specs.Words.{le64}
-use Rattle.definitions.specs.Location.{Location}
 use Rattle.definitions.specs.Blocks.{Block, last_kind}
 use Rattle.definitions.specs.Causes.{Cause, number, cut_short, unknown_kind, Check, first_cause}
 

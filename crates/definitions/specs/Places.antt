@@ -1,5 +1,5 @@
 -- Document 01, "Places": T(i) by chains of pieces, and the table that computes it from the back. Assumes nothing.
-use Rattle.std.specs.Prelude.{ℕ, zero, suc, ◌+◌, ◌<◌, ◌≡◌, Bool, ◌&&◌, cond, length, drop, eqb}
+use Rattle.std.specs.Prelude.{ℕ, zero, suc, ◌+◌, ◌<◌, ◌≡◌, ◌&&◌, cond, length, drop, eqb}
 use mathlib.Core.List.{List, [], ◌∷◌, ◌++◌, Memᴰ}
 use Rattle.std.proofs.Math.Option.{some}
 use Rattle.definitions.specs.Location.{Location, meets, common, overlap, normal}

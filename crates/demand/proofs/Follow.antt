@@ -1,5 +1,5 @@
 -- The memory follows the recording: after each call it holds what the definitions say was taken. Assumes nothing.
-use Prim.Native.Nat.{ℕ, ◌+◌}
+use Prim.Native.Nat.{ℕ}
 use native.Mathlib.Omega.{arith}
 use mathlib.Core.Path.{◌≡◌, refl, sym, ap, ◌∙◌, subst}
 use mathlib.Core.Bool.{Bool, true, false, cond}
@@ -15,7 +15,7 @@ use Rattle.definitions.specs.Blocks.{Block, Piece, pieces, pieces_of, memory_kin
 use Rattle.definitions.specs.Causes.{Cause, record_after_finish, unknown_kind, first_cause}
 use Rattle.definitions.specs.Calls.{Capacity, Recorded, added, block_checks, record_answer, recorded, finished_now}
 use Rattle.definitions.specs.Calls as D
-use Rattle.definitions.specs.Recording.{Call, record_block, finish, search, after, after_all, taken}
+use Rattle.definitions.specs.Recording.{Call, record_block, finish, search, after, after_all}
 use Rattle.definitions.proofs.Cutting.{pieces_added}
 use Rattle.definitions.proofs.Taken.{Right, right_after}
 use Rattle.trie.specs.Build.{trie_of}

@@ -9,7 +9,7 @@ use lib.ListN.{length, length-take}
 use Rattle.definitions.specs.Location.{Location}
 use Rattle.definitions.specs.Rows.{rows}
 use Rattle.definitions.specs.Runs.{Query}
-use Rattle.definitions.specs.Causes.{Cause, number, wrong_number, first_cause, refusal_of}
+use Rattle.definitions.specs.Causes.{Cause, wrong_number, first_cause, refusal_of}
 use Rattle.definitions.specs.Calls.{number_checks, search_checks}
 use Rattle.definitions.proofs.Checks.{none_applies, none_refused}
 use Rattle.check_character.specs.Number.{number_in, right}

@@ -1,26 +1,26 @@
 -- The trie of a log of sound pieces can be saved. Assumes nothing.
 use Prim.Native.Nat.{ℕ, zero, suc, ◌+◌, ◌^◌, ◌≤◌, ◌<◌}
 use native.Mathlib.Omega.{arith}
-use mathlib.Core.Path.{◌≡◌, refl, sym, ap, ◌∙◌, subst}
-use mathlib.Core.Bool.{Bool, true, false, cond}
+use mathlib.Core.Path.{◌≡◌, refl, sym, ap, subst}
+use mathlib.Core.Bool.{Bool, true, false}
 use mathlib.Core.Logic.{◌⊎◌, inl, inr}
 use mathlib.Core.List.Memᴰ.{append_cases}
 use mathlib.Core.List.Memᴰ.{eq_of_singleton as only_one}
 use mathlib.Core.List.Memᴰ.{head as here}
 use mathlib.Core.List.Memᴰ.{not-nil}
 use mathlib.Core.List.Memᴰ.{tail as next}
-use mathlib.Core.List.{List, [], ◌∷◌, ◌++◌, Memᴰ as Mem}
+use mathlib.Core.List.{List, [], ◌∷◌, Memᴰ as Mem}
 use lib.ListN.{length}
 use Rattle.definitions.specs.Location.{Location, moved, normal}
 use Rattle.definitions.specs.Blocks.{Piece}
 use Rattle.definitions.proofs.Order.{normal_mem}
-use Rattle.trie.specs.Trie.{Lists, Forest, leaf, more, Node, Trie, empty, root}
+use Rattle.trie.specs.Trie.{Forest, leaf, more}
 use Rattle.trie.specs.Build.{Entry, entered_all, in_prefixes, in_chunks, in_suffixes, gather, lists_of, behind, arrivals, kept_order, grow, build, trie_of, Rising}
 use Rattle.trie.proofs.BuildPaths.{put, behind_mem}
 use Rattle.trie.proofs.BuildEntered.{as_piece, EnteredBy, entered_mem}
 use Rattle.trie.proofs.BuildRule.{SoundPiece, apart_build}
 use Rattle.trie.proofs.BuildOrder as K
-use Rattle.image_format.specs.Savable.{LocationsFit, ListsFit, AllFit, InBytes, Short, siblings, Ascending, Kept, AllKept, ShapedNode, Shaped}
+use Rattle.image_format.specs.Savable.{LocationsFit, ListsFit, AllFit, InBytes, Short, siblings, Ascending, Kept, AllKept, Shaped}
 
 -- ── locations of 64 bits ──
 

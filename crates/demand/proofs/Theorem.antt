@@ -1,14 +1,12 @@
 -- Demand 3, whole: every list of record, finish and search calls on a newly opened index. Assumes nothing.
-use Prim.Native.Nat.{ℕ, zero, suc, ◌+◌, ◌^◌, ◌≤◌, ◌<◌}
+use Prim.Native.Nat.{ℕ, suc, ◌+◌, ◌<◌}
 use native.Mathlib.Omega.{arith}
-use mathlib.Core.Path.{◌≡◌, refl, sym, ◌∙◌, subst}
+use mathlib.Core.Path.{◌≡◌, sym, ◌∙◌, subst}
 use mathlib.Core.List.Memᴰ.{head as here}
-use mathlib.Core.List.Memᴰ.{not-nil}
 use mathlib.Core.List.Memᴰ.{tail as later}
 use mathlib.Core.List.{List, [], ◌∷◌, Memᴰ as Mem}
 use lib.ListN.{length, get_or}
 use Rattle.definitions.specs.Blocks.{Block, Piece, pieces_of}
-use Rattle.definitions.specs.Calls.{Recorded}
 use Rattle.definitions.proofs.Order.{mem_get_or}
 use Rattle.definitions.proofs.Cutting.{FromBlock, pieces_mem}
 use Rattle.location.specs.Fits as L

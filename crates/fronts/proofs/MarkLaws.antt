@@ -8,14 +8,14 @@ use lib.Dec.{eqb}
 use lib.ListN.{length, get_or, set, replicate}
 use lib.Seq.{get_or-set_same, get_or-set_other}
 use borrow.Author.Tests.{eqb-true, eqb-false, eq-eqb, ne_eqb}
-use Rattle.trie.specs.Trie.{Forest, leaf, more, Node, child}
+use Rattle.trie.specs.Trie.{Forest, Node, child}
 use Rattle.trie.specs.Test.{is_some}
 use Rattle.image_format.specs.Held.{Entry}
 use Rattle.image_walk.specs.Tables.{slot_in}
 use Rattle.node_rule.specs.Parts.{Ahead, TableOf}
 use Rattle.fronts.specs.FrontRule.{SaysFronts}
 use Rattle.fronts.specs.Marks.{marked, Unmarked, MarksOf, SaysMarks, SaysAllMarked}
-use Rattle.node_rule.proofs.Tables.{Next, slot_taken, slot_empty, slots_end}
+use Rattle.node_rule.proofs.Tables.{slot_taken, slot_empty, slots_end}
 
 -- ── one mark ──
 

@@ -10,12 +10,12 @@ use lib.Dec.{eqb}
 use lib.Bits.{bit_or, or_shr, or_step}
 use lib.Pow.{shl_exact, shl-shr}
 use borrow.Author.Tests.{eqb-true, eqb-false, ne_eqb}
-use Rattle.trie.specs.Trie.{Forest, leaf, more, Node, child}
+use Rattle.trie.specs.Trie.{Forest, Node, child}
 use Rattle.image_format.specs.Held.{Entry}
 use Rattle.image_walk.specs.Tables.{slot_in}
 use Rattle.node_rule.specs.Parts.{Ahead, TableOf}
 use Rattle.fronts.specs.Masks.{bit, is_absent, with_byte, Absent, SaysMask}
-use Rattle.node_rule.proofs.Tables.{Next, slot_taken, slot_empty, slots_end}
+use Rattle.node_rule.proofs.Tables.{slot_taken, slot_empty, slots_end}
 
 -- ── a bit more ──
 

@@ -2,7 +2,7 @@
 use Prim.Native.Nat.{◌%◌, ◌*◌, ◌+◌, ◌/◌, suc, zero, ℕ}
 use native.Mathlib.Omega.{arith}
 use mathlib.Core.List.{List, ◌++◌}
-use mathlib.Core.Path.{◌≡◌, ap, refl, sym}
+use mathlib.Core.Path.{◌≡◌, sym}
 use lib.ListN.{get_or, length, length-append}
 use Rattle.definitions.specs.Location.{locations_in, locations_bytes}
 use Rattle.definitions.proofs.Locations.{length_locations}

@@ -9,7 +9,7 @@ use Rattle.words.proofs.Parts.{length_bytes64}
 use Rattle.words.specs.Words.{bytes64}
 use Rattle.words.specs.Holding.{Holds}
 use Rattle.words.proofs.Holding.{holds_at, holds_left, holds_right, holds_le}
-use Rattle.definitions.specs.Location.{Location, location_bytes, locations_bytes}
+use Rattle.definitions.specs.Location.{Location, locations_bytes}
 use Rattle.trie.specs.Trie.{Lists, entries_of}
 use Rattle.image_format.proofs.Heads.{head_lists, list_past, lists_ready}
 use Rattle.image_format.specs.Image.{list_bytes, lists_bytes, lists_size}

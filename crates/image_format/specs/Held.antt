@@ -1,7 +1,7 @@
 -- The trie that an accepted image holds, by following the offsets of its tables. It judges nothing. Assumes nothing.
 use Rattle.std.specs.Prelude.{ℕ, zero, suc, ◌+◌, ◌*◌, cond, List, [], ◌∷◌, get_or, eqb}
 use Rattle.words.specs.Words.{le64}
-use Rattle.definitions.specs.Location.{Location, locations_in}
+use Rattle.definitions.specs.Location.{locations_in}
 use Rattle.trie.specs.Trie.{Lists, Forest, leaf, more, Node, Trie, empty, root}
 
 -- where the list at an index ends

@@ -1,5 +1,5 @@
 -- Document 01, "Causes and their numbers": an image is read in layout order, the first faulty field decides. Assumes nothing.
-use Rattle.std.specs.Prelude.{ℕ, zero, suc, ◌+◌, ◌*◌, ◌≡◌, Bool, true, false, cond, List, length, get_or, leb, ltb, eqb}
+use Rattle.std.specs.Prelude.{ℕ, zero, suc, ◌+◌, ◌*◌, ◌≡◌, cond, List, length, get_or, leb, ltb, eqb}
 use Rattle.words.specs.Words.{le64}
 use Rattle.definitions.specs.Causes.{number, cut_short, unknown_kind, image_broken}
 use Rattle.kinds.specs.Kinds.{fits}

@@ -1,5 +1,5 @@
 -- Document 01, "The saved image": the kind of a node follows its child count, from a table of three ranges. Assumes nothing.
-use Rattle.std.specs.Prelude.{ℕ, Bool, true, false, ◌&&◌, cond, List, [], ◌∷◌, leb, eqb}
+use Rattle.std.specs.Prelude.{ℕ, Bool, false, ◌&&◌, cond, List, [], ◌∷◌, leb, eqb}
 use Rattle.kinds.specs.declared.KindRange.{KindRange}
 
 -- kind 3 for 0 to 8, 2 for 9 to 96, 1 for 97 to 256

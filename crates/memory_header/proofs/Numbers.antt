@@ -6,7 +6,7 @@ use mathlib.Core.Path.{◌≡◌, refl, sym, ◌∙◌}
 use mathlib.Core.Logic.{◌⊎◌, inl, inr}
 use mathlib.Core.List.{List, [], ◌∷◌, ◌++◌}
 use lib.ListN.{length, get_or, take, drop, length-take, length-drop, length-append}
-use lib.Seq.{sets, length-sets, get_or-take, get_or-drop, ext_get_or}
+use lib.Seq.{sets, length-sets, ext_get_or}
 use Rattle.words.specs.Words.{le64, set_le64, bytes64}
 use Rattle.words.proofs.Laws.{length_set_le64, le64_set_le64}
 use Rattle.words.proofs.Parts.{get_d_part, sets_append, length_bytes64, set_le64_sets, le64_sets_other, get_or_sets_out}

@@ -2,10 +2,8 @@
 use Prim.Native.Nat.{ℕ, suc, ◌+◌, ◌-◌, ◌≤◌, ◌<◌}
 use native.Mathlib.Omega.{arith}
 use mathlib.Core.Path.{◌≡◌, refl, sym, ap, subst, ◌∙◌}
-use mathlib.Core.Bool.{Bool, true, false, cond}
 use mathlib.Core.List.{List, [], ◌∷◌}
 use mathlib.Core.Option.{Option, none, some}
-use lib.Dec.{eqb}
 use Rattle.trie.specs.Trie.{Lists, Forest, leaf, more, child}
 use Rattle.image_format.specs.Held.{Entry}
 use Rattle.image_walk.specs.Tables.{put, slot_in, slots_from, entries_at, node_for}

@@ -1,5 +1,5 @@
 -- A run of nodes with one child, one suffix and no front. Assumes nothing.
-use Prim.Native.Nat.{ℕ, suc, ◌+◌, ◌*◌, ◌-◌, ◌≤◌, ◌<◌}
+use Prim.Native.Nat.{ℕ, suc, ◌+◌, ◌*◌, ◌-◌, ◌<◌}
 use native.Mathlib.Omega.{arith}
 use native.Mathlib.Numerals.{add-one}
 use mathlib.Core.Path.{◌≡◌, refl, sym, ap, subst, ◌∙◌}
@@ -7,10 +7,9 @@ use mathlib.Core.Bool.{Bool, true, false, ◌&&◌}
 use mathlib.Core.List.{List, [], ◌∷◌}
 use mathlib.Core.Option.{some}
 use lib.ListN.{length}
-use lib.Dec.{leb, compare_is_eq}
 use borrow.Author.Tests.{le-leb}
 use Rattle.words.specs.Words.{le64}
-use Rattle.definitions.specs.Location.{Location, location_at, order}
+use Rattle.definitions.specs.Location.{Location, location_at}
 use Rattle.definitions.proofs.Order.{location_path}
 use Rattle.trie.specs.Trie.{Lists, Forest, leaf, more, Node}
 use Rattle.trie.specs.Test.{is_union, moved_back}
@@ -20,14 +19,13 @@ use Rattle.fields.specs.Singles.{Bare}
 use Rattle.image_walk.specs.Parts.{parts_at}
 use Rattle.image_walk.specs.Tables.{slot_in}
 use Rattle.image_walk.specs.Here.{Laid}
-use Rattle.node_rule.specs.Parts.{TableOf, PartsOf, HasTable}
+use Rattle.node_rule.specs.Parts.{TableOf, HasTable}
 use Rattle.fronts.specs.Fronts.{FrontsHere}
 use Rattle.single_runs.specs.Says.{children_right}
 use Rattle.single_runs.specs.Runs.{BareSingle, Further, RunSays}
 use Rattle.single_runs.specs.Singles.{SingleWithSuffix, SingleTo, SingleIn, SinglesAt, SinglesTo, SinglesSay}
 use Rattle.fronts.proofs.Fronts.{kept_none}
 use Rattle.single_runs.proofs.RunLaws.{and_true, bare_parts, bare_place, bare_room, no_locations, not_so, one_location, only, only_is, only_leads, only_parts}
-use Rattle.image_walk.specs.declared.Node.{Node as Parts}
 
 -- ── one node ──
 

@@ -11,7 +11,7 @@ use mathlib.Core.Option.{Option, none, some}
 use lib.ListN.{length, take}
 use lib.Dec.{ltb, eqb}
 use Rattle.definitions.specs.Blocks.{Block, memory_kind}
-use Rattle.definitions.specs.BlockStream.{block, nothing, refused, read_block_checks, read_or_refuse, read_block}
+use Rattle.definitions.specs.BlockStream.{nothing, refused, read_block_checks, read_or_refuse, read_block}
 use Rattle.definitions.specs.Causes.{Cause, number, cut_short, Check, causes, first_cause, checked, record_call, read_block_call}
 use Rattle.definitions.specs.Calls.{Standing, record_checks}
 use Rattle.definitions.proofs.Checks.{checks_in_order}

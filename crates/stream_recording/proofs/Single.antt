@@ -18,7 +18,7 @@ use Rattle.block_stream.proofs.Bounds.{BlockRead, block_read}
 use Rattle.recording.specs.Record.{record_memory}
 use Rattle.recording.proofs.Outcome.{record_leaves}
 use Rattle.stream_recording.specs.Stream.{StreamDone, stopped, behind, record_read, record_from, unless_stopped, record_stream}
-use Rattle.stream_recording.specs.Promises.{first_blocks, cursor_behind, recorded_singly, AllTaken, next_number, TakesRecords, Singly, StreamIsSingle, StreamLeaves}
+use Rattle.stream_recording.specs.Promises.{first_blocks, cursor_behind, recorded_singly, AllTaken, next_number, TakesRecords, StreamIsSingle, StreamLeaves}
 use Rattle.stream_recording.proofs.Refusals.{read_refused}
 
 -- a refusal of reading has a number

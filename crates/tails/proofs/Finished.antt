@@ -1,5 +1,5 @@
 -- A log's trie is the node of its sorted tails, and such sorted tails exist. Assumes nothing.
-use Prim.Native.Nat.{ℕ, zero, suc, ◌<◌}
+use Prim.Native.Nat.{ℕ, ◌<◌}
 use native.Mathlib.Nat.{not-suc-le-zero}
 use native.Mathlib.Omega.{arith}
 use mathlib.Core.Path.{◌≡◌, refl, sym, ap, ◌∙◌, subst}
@@ -7,7 +7,6 @@ use mathlib.Core.Bool.{Bool, true, false, cond}
 use mathlib.Core.Logic.{◌⊎◌, inl, inr}
 use mathlib.Core.List.Memᴰ.{cases_cons as split}
 use mathlib.Core.List.Memᴰ.{head as here}
-use mathlib.Core.List.Memᴰ.{not-nil}
 use mathlib.Core.List.Memᴰ.{tail as later}
 use mathlib.Core.List.{List, [], ◌∷◌, Memᴰ as Mem}
 use lib.ListN.{length, drop, length-drop}

@@ -1,15 +1,13 @@
 -- A walk along the query finds what the pieces one by one give, if it is handed what ends at a path and what goes beyond it.
 -- Assumes nothing.
-use Prim.Native.Nat.{ℕ, suc, ◌+◌, ◌≤◌, ◌<◌}
+use Prim.Native.Nat.{ℕ, ◌+◌, ◌<◌}
 use native.Mathlib.Omega.{arith}
 use mathlib.Core.Path.{◌≡◌, refl, sym, ap, ◌∙◌, subst}
-use mathlib.Core.Bool.{Bool, true, false, cond, ◌&&◌}
+use mathlib.Core.Bool.{Bool, true, false, cond}
 use mathlib.Core.Logic.{◌⊎◌, inl, inr, ◌↔◌}
 use mathlib.Core.List.Memᴰ.{append_cases}
 use mathlib.Core.List.Memᴰ.{append_left}
 use mathlib.Core.List.Memᴰ.{append_right}
-use mathlib.Core.List.Memᴰ.{cases_cons as split}
-use mathlib.Core.List.Memᴰ.{cast}
 use mathlib.Core.List.Memᴰ.{eq_of_singleton as only_one}
 use mathlib.Core.List.Memᴰ.{head as here}
 use mathlib.Core.List.Memᴰ.{not-nil}
@@ -21,7 +19,7 @@ use lib.Dec.{eqb}
 use borrow.Author.Tests.{eq-eqb}
 use Rattle.definitions.specs.Location.{Location, normal}
 use Rattle.definitions.specs.Blocks.{Piece}
-use Rattle.definitions.specs.Places.{joins, Reach, misses, covers, onward, first_of, rest_of, reach, extend, by_piece, by_pieces}
+use Rattle.definitions.specs.Places.{joins, misses, first_of, rest_of, reach, extend, by_pieces}
 use Rattle.definitions.proofs.Views.{Eq, eq}
 use Rattle.definitions.proofs.Order.{mem_normal, normal_mem, sorted_normal, same_lists}
 use Rattle.definitions.proofs.Joins.{ByPiece, by_pieces_mem, mem_by_pieces}

@@ -10,7 +10,7 @@ use mathlib.Core.List.Memᴰ.{tail as later}
 use mathlib.Core.List.{List, [], ◌∷◌, ◌++◌, Memᴰ as Mem}
 use lib.ListN.{length, length-append}
 use lib.Dec.{eqb}
-use Rattle.definitions.specs.Location.{Location, moved, normal}
+use Rattle.definitions.specs.Location.{Location, moved}
 use Rattle.definitions.specs.Blocks.{Piece, node_charge, entry_charge, charge}
 use Rattle.definitions.proofs.Order.{length_normal}
 use Rattle.definitions.proofs.Views.{Eq, eq}

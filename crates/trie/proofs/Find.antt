@@ -1,5 +1,5 @@
 -- What is found by the nodes of an index that meets the rule are the places of its pieces. Assumes nothing.
-use Prim.Native.Nat.{ℕ, zero, suc, ◌+◌, ◌≤◌, ◌<◌}
+use Prim.Native.Nat.{ℕ, zero, suc, ◌+◌, ◌<◌}
 use native.Mathlib.Omega.{arith}
 use mathlib.Core.Path.{◌≡◌, refl, sym, ap, ◌∙◌, subst}
 use mathlib.Core.Logic.{◌⊎◌, inl, inr, ◌↔◌}
@@ -16,8 +16,8 @@ use Rattle.definitions.specs.Blocks.{Piece, tails}
 use Rattle.definitions.specs.Places.{by_pieces, ends, places, table}
 use Rattle.definitions.proofs.Order.{location_path}
 use Rattle.definitions.proofs.Tails.{Tail, tails_mem, mem_tails, tail_at}
-use Rattle.trie.specs.Trie.{Lists, Node, Trie, empty, root, node_at, IsNode, lists_at, collect, trie_pieces}
-use Rattle.trie.specs.Rule.{Has, OwedPrefix, OwedSuffix, NodeRule, Rule}
+use Rattle.trie.specs.Trie.{Node, Trie, empty, root, node_at, IsNode, lists_at, trie_pieces}
+use Rattle.trie.specs.Rule.{Has, NodeRule, Rule}
 use Rattle.trie.specs.Find.{along, chunks_at, suffixes_and_chunks, ends_found, prefixes_and_chunks, collect_or_none, collected_at, places_found, table_found}
 use Rattle.trie.proofs.BuildEntered.{as_piece}
 use Rattle.trie.proofs.Pieces.{pieces_has}

@@ -1,11 +1,10 @@
 -- The fronts of a node, and the lists of fronts and of children, by paths. Assumes nothing.
-use Prim.Native.Nat.{ℕ, zero, suc, ◌+◌, ◌≤◌, ◌<◌}
+use Prim.Native.Nat.{ℕ, ◌+◌}
 use native.Mathlib.Omega.{arith}
 use mathlib.Core.Path.{◌≡◌, refl, sym, ap, ◌∙◌, subst}
-use mathlib.Core.Bool.{Bool, true, false, ◌&&◌, cond}
+use mathlib.Core.Bool.{Bool, true, false, cond}
 use mathlib.Core.Logic.{◌⊎◌, inl, inr, ◌↔◌}
 use mathlib.Core.List.Memᴰ.{cases_cons as split}
-use mathlib.Core.List.Memᴰ.{cast}
 use mathlib.Core.List.Memᴰ.{head as here}
 use mathlib.Core.List.Memᴰ.{not-nil}
 use mathlib.Core.List.Memᴰ.{tail as later}
@@ -13,9 +12,9 @@ use mathlib.Core.List.{List, [], ◌∷◌, ◌++◌, Memᴰ as Mem}
 use mathlib.Core.Option.{Option, none, some}
 use lib.Dec.{eqb}
 use borrow.Author.Tests.{eq-eqb}
-use Rattle.definitions.specs.Location.{Location, moved, Sorted}
+use Rattle.definitions.specs.Location.{Location}
 use Rattle.definitions.proofs.Views.{Eq, eq}
-use Rattle.trie.specs.Trie.{Lists, Forest, leaf, more, Node, child, child_of, walk, node_at, IsNode}
+use Rattle.trie.specs.Trie.{Lists, Forest, leaf, more, Node, child, child_of, node_at}
 use Rattle.trie.specs.Rule.{Absent, Apart}
 use Rattle.trie.specs.Test.{and_list, child_lists, and_node, next_fronts, front_lists, siblings}
 use Rattle.trie.proofs.Walk.{walk_append}

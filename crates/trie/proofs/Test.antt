@@ -19,15 +19,15 @@ use Rattle.definitions.specs.Location.{Location, moved, Sorted, Less}
 use Rattle.definitions.specs.Calls.{last_number}
 use Rattle.definitions.proofs.Order.{location_path}
 use Rattle.definitions.proofs.Views.{Eq, eq}
-use Rattle.trie.specs.Trie.{Lists, Forest, leaf, more, Node, child, child_of, walk, node_at, IsNode, lists_or_none, lists_at}
-use Rattle.trie.specs.Rule.{Absent, Apart, Has, ListsSorted, Passes, NodeRule}
+use Rattle.trie.specs.Trie.{Lists, Forest, leaf, more, Node, child, walk, node_at, IsNode, lists_or_none, lists_at}
+use Rattle.trie.specs.Rule.{Apart, Has, ListsSorted, Passes, NodeRule}
 use Rattle.trie.specs.Local.{FromChild, FromFront, HasChild, HasEnd, LocalRule}
 use Rattle.trie.specs.Test.{is_ascending, all_pass, and_list, is_nil, is_union, child_lists, is_owed, lists_right, node_right, next_fronts, front_lists, is_some, within, fronts_within, forest_right, siblings, rule_test}
-use Rattle.trie.proofs.Walk.{lost, root_node, in_chunks_node, in_prefixes_node, in_suffixes_node, walk_append}
+use Rattle.trie.proofs.Walk.{lost, in_chunks_node, in_prefixes_node, in_suffixes_node}
 use Rattle.trie.proofs.Stands.{apart_at}
 use Rattle.definitions.proofs.Tests.{both, and_true}
-use Rattle.trie.proofs.Union.{InLists, FromLists, Union, union_holds, AllSorted, holds_union, is_ascending_sorted}
-use Rattle.trie.proofs.Fronts.{never_some, same_some, child_first, absent_none, child_later, ChildOf, FrontOf, Fronts, fronts_root, walk_last, Parent, parent, fronts_next, Ends, front_lists_are, Under, child_lists_are}
+use Rattle.trie.proofs.Union.{FromLists, Union, union_holds, AllSorted, holds_union, is_ascending_sorted}
+use Rattle.trie.proofs.Fronts.{never_some, same_some, child_first, child_later, ChildOf, FrontOf, Fronts, fronts_root, walk_last, fronts_next, Ends, front_lists_are, Under, child_lists_are}
 use Rattle.trie.proofs.Local.{local_is_rule}
 
 pub lists_here : (n : Node) (path : List ℕ) (m : Node) → node_at n path ≡ some m → lists_at n path ≡ m.lists

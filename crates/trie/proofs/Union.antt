@@ -1,11 +1,10 @@
 -- The simultaneous walk over sorted lists tells whether a list is the union of others. Assumes nothing.
-use Prim.Native.Nat.{ℕ, ◌+◌, ◌-◌, ◌≤◌, ◌<◌, Ordering}
+use Prim.Native.Nat.{ℕ, ◌+◌, ◌-◌, ◌≤◌, Ordering}
 use native.Mathlib.Omega.{arith}
 use mathlib.Core.Path.{◌≡◌, refl, sym, ap, ◌∙◌, subst}
 use mathlib.Core.Bool.{Bool, true, false, ◌&&◌, ◌||◌, cond}
 use mathlib.Core.Logic.{◌⊎◌, inl, inr, ◌↔◌}
 use mathlib.Core.List.Memᴰ.{cases_cons as split}
-use mathlib.Core.List.Memᴰ.{cast}
 use mathlib.Core.List.Memᴰ.{head as here}
 use mathlib.Core.List.Memᴰ.{not-nil}
 use mathlib.Core.List.Memᴰ.{tail as later}
@@ -15,7 +14,7 @@ use borrow.Author.Tests.{leb-true, le-leb}
 use Rattle.definitions.specs.Location.{Location, moved, order, is_lt, Sorted, Less}
 use Rattle.definitions.proofs.Tests.{both, and_true}
 use Rattle.definitions.proofs.Order.{less_asym, less_trans, Cmp, cmp, location_path}
-use Rattle.trie.specs.Test.{is_ascending, ascending_from, and_list, moved_back, begins, step_over, any_begins, step_over_all, is_nil, all_ended, is_union}
+use Rattle.trie.specs.Test.{is_ascending, ascending_from, and_list, moved_back, begins, step_over, any_begins, step_over_all, all_ended, is_union}
 
 either : (a b : Bool) → (a || b) ≡ true → (a ≡ true) ⊎ (b ≡ true)
 either true b e = inl refl

@@ -2,7 +2,7 @@
 use Rattle.std.specs.Prelude.{◌≡◌, refl, true, false, List, [], ◌∷◌}
 use Rattle.definitions.specs.Location.{Location, location}
 use Rattle.definitions.specs.Blocks.{bytes_at}
-use Rattle.trie.specs.Trie.{Lists, Forest, leaf, more, Node, Trie, root, collect}
+use Rattle.trie.specs.Trie.{Lists, leaf, more, Trie, root, collect}
 use Rattle.trie.specs.Build.{trie_of}
 use Rattle.trie.specs.Test.{index_rule}
 

@@ -3,7 +3,7 @@
 use Rattle.std.specs.Prelude.{ℕ, ◌+◌, ◌≤◌, ◌<◌, ◌≡◌, ◌⊎◌, ◌↔◌, length}
 use mathlib.Core.List.{List, [], ◌∷◌, ◌++◌, Memᴰ}
 use Rattle.definitions.specs.Location.{Location, moved}
-use Rattle.trie.specs.Trie.{Lists, Forest, leaf, more, Node, IsNode, lists_at}
+use Rattle.trie.specs.Trie.{Node, IsNode, lists_at}
 use Rattle.trie.specs.Rule.{Apart, Has, ListsSorted, Passes}
 
 -- l is a chunk or a suffix of a child of the node at the path

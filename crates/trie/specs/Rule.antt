@@ -1,7 +1,7 @@
 -- Document 01, "Index rule", of a finished index, in the document's own words. Assumes nothing.
 use Rattle.std.specs.Prelude.{ℕ, ◌+◌, ◌≤◌, ◌<◌, ◌≡◌, ◌↔◌, length, drop}
-use mathlib.Core.List.{List, [], ◌∷◌, ◌++◌, Memᴰ}
-use Rattle.definitions.specs.Location.{Location, moved, order, Sorted, Less}
+use mathlib.Core.List.{List, ◌++◌, Memᴰ}
+use Rattle.definitions.specs.Location.{Location, moved, Sorted, Less}
 use Rattle.definitions.specs.Calls.{last_number}
 use Rattle.trie.specs.Trie.{Lists, Forest, leaf, more, Node, Trie, empty, root, IsNode, lists_at}
 

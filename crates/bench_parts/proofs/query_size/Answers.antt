@@ -1,7 +1,5 @@
 use mathlib.Core.Path.{refl}
 use borrow.Author.Tests.{eq-eqb, ne_eqb, lt-ltb, le-ltb}
-use Rattle.bench_parts.proofs.query_size.Reads as reads
-use Rattle.bench_parts.proofs.query_size.Lts as lts
 use Rattle.bench_parts.proofs.query_size.Goals as goal
 
 -- src/lib.rt:46:9

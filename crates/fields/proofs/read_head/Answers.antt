@@ -2,10 +2,9 @@
 use Prim.Native.Nat.{◌+◌}
 use native.Mathlib.Omega.{arith}
 use mathlib.Core.Path.{◌∙◌, ◌≡◌, refl, sym}
-use lib.ListN.{get_or}
 use Rattle.fields.proofs.AnswerLaws.{head_right, head_with, list_refused, list_right}
 use Rattle.image_format.proofs.Heads.{head_end, head_lists, head_over, head_zero, list_bound, lists_cut, lists_cut_2, lists_cut_3, lists_ready}
-use Rattle.image_format.specs.Reading.{past, read_head, read_list, read_lists}
+use Rattle.image_format.specs.Reading.{past, read_list}
 use Rattle.fields.proofs.read_head.Goals as goal
 
 pub returns-then-at-s : goal.returns-then-at-s

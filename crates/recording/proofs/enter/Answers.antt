@@ -1,16 +1,11 @@
 -- `recording::enter` meets its contract: by the block's kind, and by what judging it gives. Assumes nothing.
-use mathlib.Core.Path.{◌≡◌, ap, sym, ◌∙◌}
-use mathlib.Core.List.{List}
-use lib.ListN.{length}
-use Prim.Native.Nat.{ℕ}
+use mathlib.Core.Path.{ap, sym, ◌∙◌}
 use Rattle.definitions.specs.Blocks.{Block}
 use Rattle.location.specs.Fits.{Fits}
 use Rattle.location.specs.Plain.{plain}
-use Rattle.memory_header.specs.Layout.{Header}
 use Rattle.memory_header.specs.Answers.{header_of}
-use Rattle.judging.specs.Judged.{Verdict, counted, refused}
+use Rattle.judging.specs.Judged.{counted, refused}
 use Rattle.judging.specs.Verdicts.{verdict_of}
-use Rattle.recording.specs.Enter.{judged_by_kind, entered, FilledAfter}
 use Rattle.recording.proofs.Entering.{Enters, kind_unknown, kind_other, kind_memory, tally_within, pending_stored, fitting, filled_told}
 use Rattle.recording.proofs.enter.Goals as goal
 

@@ -59,5 +59,5 @@ returns-in-Refused c =
       progress = c.halted.ensures.0 ∙ ap (on_or_halted (progress_of a.p) a.b.next) v;
       memory = c.enter.ensures.memory ∙ ap (λ (x : Location). entered a.mem.now h a.b.kind (record { bytes = bytes; at = x })) c.new-l.ensures;
       filled = c.halted.ensures.1 ∙ still-filled a.mem.now _ h a.b.kind (record { bytes = bytes; at = plain c.new-l.result }) c.in-Refused.n a.p.filled w c.enter.ensures.memory c.requires.1
-            ∙ ap (λ (x : Progress). filled (pieces_in c.enter.new.mem x.header)) (sym c.halted.ensures.0);
+          ∙ ap (λ (x : Progress). filled (pieces_in c.enter.new.mem x.header)) (sym c.halted.ensures.0);
     }
