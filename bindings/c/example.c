@@ -1,7 +1,7 @@
 /* Document 01's sample by calls: abc at 100 from tick 10 to 50, de behind it in two writes, which come as a stream; where did cd
  * stand?
  *
- *     rt staticlib helmapricot
+ *     ./archive helmapricot
  *     cd bindings/c && cc -Wall -Wextra example.c -L ../../target/staticlib -lhelmapricot -o ../../target/example
  *     ../../target/example
  *

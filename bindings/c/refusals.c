@@ -1,7 +1,7 @@
 /* Every number that a call can answer, by the calls of the header: each is provoked, and what is left is compared. Conflicts (18)
  * are tried in recording, in the middle of a stream and in loading, and beside the numbers that come before and after them.
  *
- *     rt staticlib helmapricot
+ *     ./archive helmapricot
  *     cd bindings/c && cc -Wall -Wextra refusals.c -L ../../target/staticlib -lhelmapricot -o ../../target/refusals
  *     ../../target/refusals
  *

@@ -1,4 +1,4 @@
-//! Finds libhelmapricot.a, which `rt staticlib helmapricot` builds: in HELMAPRICOT_LIB, or where it stands in the repository.
+//! Finds libhelmapricot.a, which `./archive helmapricot` builds: in HELMAPRICOT_LIB, or where it stands in the repository.
 use std::env;
 use std::path::PathBuf;
 
@@ -10,7 +10,7 @@ fn main() {
     };
     let archive = dir.join("libhelmapricot.a");
     if !archive.exists() {
-        panic!("{} is not there: run `rt staticlib helmapricot`, or name its directory in HELMAPRICOT_LIB", archive.display());
+        panic!("{} is not there: run `./archive helmapricot`, or name its directory in HELMAPRICOT_LIB", archive.display());
     }
     println!("cargo:rerun-if-changed={}", archive.display());
     println!("cargo:rustc-link-search=native={}", dir.display());

@@ -3,7 +3,7 @@
 //! A safe wrapper of the calls in libhelmapricot.a, which are proved to meet documents 01 and 02 for every input.
 //!
 //! ```text
-//! rt staticlib helmapricot
+//! ./archive helmapricot
 //! cd bindings/rust && cargo test --offline
 //! ```
 //!

@@ -1,6 +1,6 @@
 //! Times the calls against the published index on the same blocks, and the test of an image against reading it once.
 //!
-//!     rt staticlib helmapricot && rt staticlib bench_parts
+//!     ./archive helmapricot && ./archive bench_parts
 //!     cd oracle && cargo run --release --offline --features parts --bin bench
 //!
 //! Of request 2 it times the test of images with and without its part that looks for conflicts, on blocks, on label buffers and on

@@ -4,7 +4,7 @@
 //! them, so that its images have conflicts. Behind each query a donation number is typed that begins as it does,
 //! right or wrong, and a fifth of the recordings are of the characters of such numbers.
 //!
-//!     rt staticlib helmapricot && cd oracle && cargo run --release --offline --features calls --bin compare -- SEED COUNT
+//!     ./archive helmapricot && cd oracle && cargo run --release --offline --features calls --bin compare -- SEED COUNT
 //!
 //! SEED is 1 and COUNT 10,000 where they are left out; a third number, FIRST, begins at that recording. Prints how much of
 //! each thing was compared. At the first difference it prints the recording in the forms of `places`, and the smallest one

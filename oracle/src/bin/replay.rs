@@ -1,7 +1,7 @@
 //! The port's calls, driven by the forms of `places` on standard input, with the capacity that `places` has; (save) and (new)
 //! as in src/answers.rs. To see that the port gives the answers of the sample:
 //!
-//!     rt staticlib helmapricot
+//!     ./archive helmapricot
 //!     cd oracle && cargo run --release --offline --features calls --bin replay < ../crates/test_replay/data/recordings | cmp - ../crates/test_replay/stdout
 //!
 //! Lines are not checked for their form here.

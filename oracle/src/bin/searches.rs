@@ -1,7 +1,7 @@
 //! Times searches alone, the test of the image taken off, against the published index on the same blocks: many lives at an address,
 //! scratch of hardly more places than are counted, lives that enclose others, bytes that occur often, and the usual queries.
 //!
-//!     rt staticlib helmapricot && rt staticlib bench_parts
+//!     ./archive helmapricot && ./archive bench_parts
 //!     cd oracle && cargo run --release --offline --features parts --bin searches
 use oracle::bench_parts::search_image;
 use oracle::benching::{block, blocks, blocks_over, in_turn, middle, middle_of, published, queries, searches, text_of, timed, CHARACTERS, USUAL};

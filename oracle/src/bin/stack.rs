@@ -1,6 +1,6 @@
 //! How much stack each call takes at most, on an index near its capacity and on small ones.
 //!
-//!     rt staticlib helmapricot && cd oracle && cargo run --release --offline --features calls --bin stack
+//!     ./archive helmapricot && cd oracle && cargo run --release --offline --features calls --bin stack
 //!
 //! The stack below a call is filled with a pattern first; what the call changed of it is what it took.
 use oracle::linked::{self, Row};
