@@ -6,24 +6,23 @@ ghost use Rattle.std.specs.Io.{ReadsAtMost};
 ghost use Rattle.answering.specs.Cited.{TakesPart};
 
 use std::io;
-use std::io::{ErrorKind, Read};
+use std::io::Read;
 use std::process::ExitCode;
 
 // The input is read, and the output written, in parts of at most so many bytes.
 const PART_SIZE: usize = 65536;
 
-// Reads a part of the input: how many bytes, 0 at its end. What interrupts it is no failure.
-fn read_part<R: Read>(reader: &mut R, input: &mut [u8]) -> io::Result<usize>
+// Reads a part of the input: how many bytes, 0 at its end. Or says why that fails.
+fn read_part<R: Eprint, I: Read>(rt: &R, reader: &mut I, input: &mut [u8]) -> io::Result<usize>
     ensures { ReadsAtMost result input.new }
 {
-    for _ in 0..u64::MAX {
-        match reader.read(input) {
-            Ok(n) => return Ok(n),
-            Err(e) if e.kind() == ErrorKind::Interrupted => {}
-            Err(e) => return Err(e),
+    match reading::read_part(reader, input) {
+        Ok(n) => Ok(n),
+        Err(e) => {
+            let _ = eprintln!(rt; "places: input: {e}");
+            Err(e)
         }
     }
-    Err(io::Error::from(ErrorKind::Interrupted))
 }
 
 // Writes the answers out, or says why that fails.
@@ -76,13 +75,7 @@ fn run<R: Input + Print + Eprint>(
     let mut input = [0u8; PART_SIZE];
     let mut kept = 0;
     for _ in 0..u64::MAX {
-        let n = match read_part(&mut reader, &mut input) {
-            Ok(n) => n,
-            Err(e) => {
-                let _ = eprintln!(rt; "places: input: {e}");
-                return Err(e);
-            }
-        };
+        let n = read_part(rt, &mut reader, &mut input)?;
         if n == 0 {
             let at = answering::answer_end(mem, line, kept, out);
             return write_part(rt, &out[..at]);
