@@ -1,101 +1,97 @@
 // The program `places`: reads forms, a line each, and writes the answers of one index.
 #![tactic(auto)]
 
-ghost use Rattle.std.specs.Prelude.{◌≡◌, true, ◌≤◌, ◌<◌, length};
+ghost use Rattle.std.specs.Prelude.{◌≤◌, length, IfOk};
+ghost use Rattle.std.specs.Io.{ReadsAtMost};
 ghost use Rattle.answering.specs.Cited.{TakesPart};
 
-use libc::{STDIN_FILENO, STDOUT_FILENO};
+use std::io;
+use std::io::Read;
+use std::process::ExitCode;
 
-// Whether all was written; if so, how many bytes of an unfinished line are kept.
-#[derive(Clone, Copy)]
-struct Part {
-    pub written: bool,
-    pub kept: usize,
-}
+// The input is read, and the output written, in parts of at most so many bytes.
+const PART_SIZE: usize = 65536;
 
-// Reads a part of the input: how many bytes, 0 at its end, less where reading fails. What interrupts it is no failure.
-fn read_part(input: &mut [u8]) -> isize {
-    let mut turns = u64::MAX;
-    while 0 < turns {
-        turns -= 1;
-        let got = libc::read(STDIN_FILENO, input);
-        if 0 <= got {
-            return got;
-        }
-        if os::errno() != libc::EINTR {
-            return got;
+// Reads a part of the input: how many bytes, 0 at its end. Or says why that fails.
+fn read_part<R: Eprint, I: Read>(rt: &R, reader: &mut I, input: &mut [u8]) -> io::Result<usize>
+    ensures { ReadsAtMost result input.new }
+{
+    match reading::read_part(reader, input) {
+        Ok(n) => Ok(n),
+        Err(e) => {
+            let _ = eprintln!(rt; "places: input: {e}");
+            Err(e)
         }
     }
-    -1
 }
 
 // Writes the answers out, or says why that fails.
-fn write_part(answers: &[u8]) -> bool {
-    if io::write_all(STDOUT_FILENO, answers) {
-        return true;
+fn write_part<R: Print + Eprint>(rt: &R, answers: &[u8]) -> io::Result<()> {
+    match rt.write_all(answers) {
+        Ok(()) => Ok(()),
+        Err(e) => {
+            let _ = eprintln!(rt; "places: output: {e}");
+            Err(e)
+        }
     }
-    os::fail(b"places: output");
-    false
 }
 
-// Answers a part of the input, behind n bytes that are kept of a line, and writes the answers as often as the output is full.
-fn answer_part(mem: &mut [u8], line: &mut [u8], n: usize, input: &[u8], out: &mut [u8]) -> Part
+// Answers a part of the input, behind n bytes that are kept of a line, and writes the answers as often as the output is full:
+// how many bytes of an unfinished line are kept.
+fn answer_part<R: Print + Eprint>(
+    rt: &R,
+    mem: &mut [u8],
+    line: &mut [u8],
+    n: usize,
+    input: &[u8],
+    out: &mut [u8],
+) -> io::Result<usize>
     requires { (1024 ≤ length line.old) × (n ≤ 1025) × (4571 ≤ length out.old) }
-    ensures takes_part { result.written ≡ true → TakesPart mem.old line.old n input.now mem.new line.new result.kept }
-    ensures kept_bound { result.kept ≤ 1025 }
+    ensures takes_part { IfOk result (λ kept. TakesPart mem.old line.old n input.now mem.new line.new kept) }
+    ensures kept_bound { IfOk result (λ kept. kept ≤ 1025) }
 {
     let mut kept = n;
     let mut p = 0;
     while p < input.len() {
         let s = answering::answer_lines(mem, line, kept, input, p, out);
         let at = s.at;
-        if !write_part(&out[..at]) {
-            return Part {
-                written: false,
-                kept: 0,
-            };
-        }
+        write_part(rt, &out[..at])?;
         kept = s.kept;
         p = s.next;
     }
-    Part {
-        written: true,
-        kept,
-    }
+    Ok(kept)
 }
 
 // Reads all input, a part at a time, and writes the answers of each before the next is read. Stops where that fails.
-fn run(mem: &mut [u8], line: &mut [u8], out: &mut [u8])
+fn run<R: Input + Print + Eprint>(
+    rt: &R,
+    mem: &mut [u8],
+    line: &mut [u8],
+    out: &mut [u8],
+) -> io::Result<()>
     requires { (1024 ≤ length line.old) × (4571 ≤ length out.old) }
 {
-    let mut input = io::large_buffer();
+    let mut reader = rt.reader();
+    let mut input = [0u8; PART_SIZE];
     let mut kept = 0;
-    let mut turns = u64::MAX;
-    while 0 < turns {
-        turns -= 1;
-        let got = read_part(&mut input);
-        if got < 0 {
-            os::fail(b"places: input");
-            return;
-        }
-        if got == 0 {
+    for _ in 0..u64::MAX {
+        let n = read_part(rt, &mut reader, &mut input)?;
+        if n == 0 {
             let at = answering::answer_end(mem, line, kept, out);
-            write_part(&out[..at]);
-            return;
+            return write_part(rt, &out[..at]);
         }
-        let n = io::count(got, &input);
-        let s = answer_part(mem, line, kept, &input[..n], out);
-        if !s.written {
-            return;
-        }
-        kept = s.kept;
+        kept = answer_part(rt, mem, line, kept, &input[..n], out)?;
     }
+    Ok(())
 }
 
-fn main() {
+fn main(rt: HostRuntime) -> ExitCode {
     let mut mem = [0u8; answering::MEMORY_SIZE];
     let mut line = [0u8; lines::LINE_LIMIT];
-    let mut out = io::large_buffer();
+    let mut out = [0u8; PART_SIZE];
     form_answers::open(&mut mem);
-    run(&mut mem, &mut line, &mut out);
+    match run(&rt, &mut mem, &mut line, &mut out) {
+        Ok(()) => ExitCode::SUCCESS,
+        Err(_) => ExitCode::FAILURE,
+    }
 }

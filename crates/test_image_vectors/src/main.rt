@@ -7,7 +7,7 @@ ghost use Rattle.test_image_vectors.specs.Said.{said_image, same_said, said_afte
 ghost use Rattle.test_image_vectors.specs.Vector.{said_damaged, after_damaged, after_whole, after_vector};
 
 use fields::Layout;
-use libc::STDOUT_FILENO;
+use std::io;
 
 // What is said of an image, and how often in a row: a refusal's number, or 0 with its nodes and entries.
 #[derive(Clone, Copy)]
@@ -27,25 +27,28 @@ pub struct Cursor {
     pub said: Said,
 }
 
-fn print_number(n: u64) {
-    io::write_all(STDOUT_FILENO, b" ");
-    io::print_decimal(STDOUT_FILENO, n);
+// Where lines are printed, and the first failure to print one.
+#[derive(Drop)]
+struct Page<'a, P> {
+    rt: &'a P,
+    printed: io::Result<()>,
 }
 
-fn print(s: Said) {
+fn print_line<P: Print>(rt: &P, s: Said) -> io::Result<()> {
+    if s.refusal == 0 {
+        println!(rt; "{} (right {} {})", s.times, s.nodes, s.entries)
+    } else {
+        println!(rt; "{} (refused {})", s.times, s.refusal)
+    }
+}
+
+fn print<P: Print>(page: &mut Page<'_, P>, s: Said) {
     if s.times == 0 {
         return;
     }
-    io::print_decimal(STDOUT_FILENO, s.times);
-    if s.refusal == 0 {
-        io::write_all(STDOUT_FILENO, b" (right");
-        print_number(s.nodes as u64);
-        print_number(s.entries as u64);
-    } else {
-        io::write_all(STDOUT_FILENO, b" (refused");
-        print_number(s.refusal);
+    if page.printed.is_ok() {
+        page.printed = print_line(page.rt, s);
     }
-    io::write_all(STDOUT_FILENO, b")\n");
 }
 
 fn is_same(a: Said, b: Said) -> bool
@@ -81,7 +84,7 @@ fn judge(img: &[u8]) -> Said
 }
 
 // One more answer: the same again, or the last one printed.
-fn after(last: Said, next: Said) -> Said
+fn after<P: Print>(page: &mut Page<'_, P>, last: Said, next: Said) -> Said
     ensures { result ≡ said_after last next }
 {
     if is_same(last, next) {
@@ -94,18 +97,18 @@ fn after(last: Said, next: Said) -> Said
             };
         }
     }
-    print(last);
+    print(page, last);
     next
 }
 
 // Every part of an image from its start.
-fn judge_parts(img: &[u8], last: Said) -> Said
+fn judge_parts<P: Print>(page: &mut Page<'_, P>, img: &[u8], last: Said) -> Said
     ensures { result ≡ said_parts img.now (length img.now) 0 last }
 {
     let mut said = last;
     let mut n = 0;
     while n < img.len() {
-        said = after(said, judge(&img[0..n]));
+        said = after(page, said, judge(&img[0..n]));
         n += 1;
     }
     said
@@ -130,7 +133,7 @@ fn judge_damaged(bytes: &mut [u8], start: usize, len: usize, index: u64, byte: u
 }
 
 // Mode 2: an index and a byte.
-fn damaged(bytes: &mut [u8], c: Cursor) -> Cursor
+fn damaged<P: Print>(page: &mut Page<'_, P>, bytes: &mut [u8], c: Cursor) -> Cursor
     requires { (c.at + 10 ≤ length bytes.old) × (c.start + c.len ≤ length bytes.old) }
     ensures value { result ≡ after_damaged bytes.old c }
     ensures bytes_unchanged { bytes.new ≡ bytes.old }
@@ -144,18 +147,19 @@ fn damaged(bytes: &mut [u8], c: Cursor) -> Cursor
         at: at + 10,
         start: c.start,
         len: c.len,
-        said: after(c.said, said),
+        said: after(page, c.said, said),
     }
 }
 
 // The image, and before it every part of it where they are asked for.
-fn judge_image(img: &[u8], last: Said, parts: bool) -> Said
+fn judge_image<P: Print>(page: &mut Page<'_, P>, img: &[u8], last: Said, parts: bool) -> Said
     ensures { result ≡ said_whole img.now last parts }
 {
     if parts {
-        return after(judge_parts(img, last), judge(img));
+        let before = judge_parts(page, img, last);
+        return after(page, before, judge(img));
     }
-    after(last, judge(img))
+    after(page, last, judge(img))
 }
 
 fn at_most(n: u64, limit: usize) -> usize
@@ -168,7 +172,7 @@ fn at_most(n: u64, limit: usize) -> usize
 }
 
 // Modes 0 and 1: a length and an image.
-fn whole(bytes: &[u8], c: Cursor, parts: bool) -> Cursor
+fn whole<P: Print>(page: &mut Page<'_, P>, bytes: &[u8], c: Cursor, parts: bool) -> Cursor
     requires { c.at + 10 ≤ length bytes.now }
     ensures value { result ≡ after_whole bytes.now c parts }
     ensures at_lt_at { (c.at < result.at) × (result.at ≤ length bytes.now) × (result.start + result.len ≤ length bytes.now) }
@@ -178,7 +182,7 @@ fn whole(bytes: &[u8], c: Cursor, parts: bool) -> Cursor
     let room = bytes.len() - start;
     let len = at_most(n, room);
     let end = start + len;
-    let said = judge_image(&bytes[start..end], c.said, parts);
+    let said = judge_image(page, &bytes[start..end], c.said, parts);
     Cursor {
         at: end,
         start,
@@ -188,7 +192,7 @@ fn whole(bytes: &[u8], c: Cursor, parts: bool) -> Cursor
 }
 
 // One vector.
-fn step(bytes: &mut [u8], c: Cursor) -> Cursor
+fn step<P: Print>(page: &mut Page<'_, P>, bytes: &mut [u8], c: Cursor) -> Cursor
     requires { (c.at + 10 ≤ length bytes.old) × (c.start + c.len ≤ length bytes.old) }
     ensures value { result ≡ after_vector bytes.old c }
     ensures bytes_unchanged { bytes.new ≡ bytes.old }
@@ -197,12 +201,12 @@ fn step(bytes: &mut [u8], c: Cursor) -> Cursor
     let at = c.at;
     let mode = bytes[at];
     if mode == 2 {
-        return damaged(bytes, c);
+        return damaged(page, bytes, c);
     }
-    whole(bytes, c, mode == 1)
+    whole(page, bytes, c, mode == 1)
 }
 
-fn run(bytes: &mut [u8]) {
+fn run<P: Print>(page: &mut Page<'_, P>, bytes: &mut [u8]) {
     let mut c = Cursor {
         at: 0,
         start: 0,
@@ -215,19 +219,19 @@ fn run(bytes: &mut [u8]) {
         },
     };
     while c.at + 10 <= bytes.len() {
-        c = step(bytes, c);
+        c = step(page, bytes, c);
     }
-    print(c.said);
+    print(page, c.said);
 }
 
-fn main() {
+fn main(rt: HostRuntime) -> io::Result<()> {
     let mut bytes = [0u8; 524288];
-    let fd = os::open_read(b"images");
-    if fd < 0 {
-        os::fail(b"images");
-        return;
-    }
-    let n = io::read_full(fd, &mut bytes);
-    libc::close(fd);
-    run(&mut bytes[0..n]);
+    let n = reading::read_file(&rt, "images", &mut bytes)?;
+    let mut page = Page {
+        rt: &rt,
+        printed: Ok(()),
+    };
+    run(&mut page, &mut bytes[..n]);
+    let Page { rt: _, printed } = page;
+    printed
 }

@@ -8,164 +8,129 @@ ghost use Rattle.handing_over.specs.Search.{search_memory};
 ghost use Rattle.test_recordings.specs.Counting.{counting_up};
 ghost use Rattle.test_recordings.specs.Handed.{before, handed};
 
-use libc::STDOUT_FILENO;
 use location::SpacetimeLocation;
 use row_buffer::Finding;
+use std::io;
 use string_index::{Answer, Outcome, Recorded, Row, Saved};
 
-fn print_number(n: u64) {
-    io::write_all(STDOUT_FILENO, b" ");
-    io::print_decimal(STDOUT_FILENO, n);
-}
-
-fn print_line(n: u64) {
-    print_number(n);
-    io::write_all(STDOUT_FILENO, b"\n");
-}
-
-fn open(mem: &mut [u8], nodes: u64, entries: u64) {
+fn open<P: Print>(rt: &P, mem: &mut [u8], nodes: u64, entries: u64) -> io::Result<()> {
     match string_index::open(mem, nodes, entries) {
-        Outcome::Done => {}
-        Outcome::Refused(n) => {
-            io::write_all(STDOUT_FILENO, b"  opening refused");
-            print_line(n);
-        }
+        Outcome::Done => Ok(()),
+        Outcome::Refused(n) => println!(rt; "  opening refused {n}"),
     }
 }
 
-fn record_at(mem: &mut [u8], l: SpacetimeLocation, data: &[u8]) {
-    io::write_all(STDOUT_FILENO, b"  block of");
-    print_number(data.len() as u64);
+fn record_at<P: Print>(
+    rt: &P,
+    mem: &mut [u8],
+    l: SpacetimeLocation,
+    data: &[u8],
+) -> io::Result<()> {
+    print!(rt; "  block of {}", data.len())?;
     match string_index::record(mem, 1, l, data) {
-        Recorded::Taken => {
-            io::write_all(STDOUT_FILENO, b" taken\n");
-        }
-        Recorded::Refused(n) => {
-            io::write_all(STDOUT_FILENO, b" refused");
-            print_line(n);
-        }
+        Recorded::Taken => println!(rt; " taken"),
+        Recorded::Refused(n) => println!(rt; " refused {n}"),
     }
 }
 
 // Records a block at an address, from tick 1 to 2.
-fn record(mem: &mut [u8], address: u64, data: &[u8]) {
-    record_at(mem, SpacetimeLocation::new(address, 1, 2), data);
+fn record<P: Print>(rt: &P, mem: &mut [u8], address: u64, data: &[u8]) -> io::Result<()> {
+    record_at(rt, mem, SpacetimeLocation::new(address, 1, 2), data)
 }
 
-fn finish(mem: &mut [u8]) {
+fn finish<P: Print>(rt: &P, mem: &mut [u8]) -> io::Result<()> {
     match string_index::finish(mem) {
-        Outcome::Done => {}
-        Outcome::Refused(n) => {
-            io::write_all(STDOUT_FILENO, b"  finish refused");
-            print_line(n);
-        }
+        Outcome::Done => Ok(()),
+        Outcome::Refused(n) => println!(rt; "  finish refused {n}"),
     }
 }
 
 // Prints the first of the n rows at the front of scratch, where there is one.
-fn print_first(scratch: &[u8], n: usize)
+fn print_first<P: Print>(rt: &P, scratch: &[u8], n: usize) -> io::Result<()>
     requires { n * 24 ≤ length scratch.now }
 {
     if 0 < n {
-        io::write_all(STDOUT_FILENO, b" the first at");
         let l = location::location_at(scratch, 0);
-        print_number(l.address.0);
-        print_number(l.created_at.0);
-        print_number(l.destroyed_at.0);
+        print!(rt;
+            " the first at {} {} {}",
+            l.address.0, l.created_at.0, l.destroyed_at.0
+        )?;
     }
-    io::write_all(STDOUT_FILENO, b"\n");
+    println!(rt)
 }
 
 // The number of the refusal, or how many rows there are and the first.
-fn print_found(found: Finding, scratch: &[u8])
+fn print_found<P: Print>(rt: &P, found: Finding, scratch: &[u8]) -> io::Result<()>
     requires { found.count * 24 ≤ length scratch.now }
 {
     if found.refusal != 0 {
-        io::write_all(STDOUT_FILENO, b" refused");
-        print_line(found.refusal);
-        return;
+        return println!(rt; " refused {}", found.refusal);
     }
-    io::write_all(STDOUT_FILENO, b" has rows");
-    print_number(found.count as u64);
-    print_first(scratch, found.count);
+    print!(rt; " has rows {}", found.count)?;
+    print_first(rt, scratch, found.count)
 }
 
-fn find(mem: &[u8], q: &[u8]) {
+fn find<P: Print>(rt: &P, mem: &[u8], q: &[u8]) -> io::Result<()> {
     let mut scratch = [0u8; 240000];
-    io::write_all(STDOUT_FILENO, b"  query of");
-    print_number(q.len() as u64);
+    print!(rt; "  query of {}", q.len())?;
     let found = finding::find(mem, q, &mut scratch, 20);
-    print_found(found, &scratch);
+    print_found(rt, found, &scratch)
 }
 
 // The same for a number with its check character.
-fn find_number(mem: &[u8], typed: &[u8]) {
+fn find_number<P: Print>(rt: &P, mem: &[u8], typed: &[u8]) -> io::Result<()> {
     let mut scratch = [0u8; 2400];
-    io::write_all(STDOUT_FILENO, b"  number of");
-    print_number(typed.len() as u64);
+    print!(rt; "  number of {}", typed.len())?;
     let found = number_finding::find_number(mem, typed, &mut scratch, 20);
-    print_found(found, &scratch);
+    print_found(rt, found, &scratch)
 }
 
 // The image: its size, its first byte, and the number at an index.
-fn save(mem: &[u8], at: usize) {
+fn save<P: Print>(rt: &P, mem: &[u8], at: usize) -> io::Result<()> {
     let mut out = [0u8; 40000];
     match string_index::save(mem, &mut out) {
         Saved::Bytes(n) => {
-            io::write_all(STDOUT_FILENO, b"  image of");
-            print_number(n as u64);
-            io::write_all(STDOUT_FILENO, b" of kind");
-            print_number(words::wide(out[0]));
+            print!(rt; "  image of {n} of kind {}", out[0])?;
             if at < 39992 {
-                io::write_all(STDOUT_FILENO, b" with");
-                print_number(words::get64(&out, at));
+                print!(rt; " with {}", words::get64(&out, at))?;
             }
-            io::write_all(STDOUT_FILENO, b"\n");
+            println!(rt)
         }
-        Saved::Refused(n) => {
-            io::write_all(STDOUT_FILENO, b"  saving refused");
-            print_line(n);
-        }
+        Saved::Refused(n) => println!(rt; "  saving refused {n}"),
     }
 }
 
 // Loads an image, the first n bytes of a buffer.
-fn load(mem: &mut [u8], out: &[u8], n: usize) {
+fn load<P: Print>(rt: &P, mem: &mut [u8], out: &[u8], n: usize) -> io::Result<()> {
     if out.len() < n {
-        return;
+        return Ok(());
     }
-    io::write_all(STDOUT_FILENO, b"  image of");
-    print_number(n as u64);
+    print!(rt; "  image of {n}")?;
     match string_index::load(mem, &out[0..n]) {
-        Outcome::Done => {
-            io::write_all(STDOUT_FILENO, b" loaded\n");
-        }
-        Outcome::Refused(n) => {
-            io::write_all(STDOUT_FILENO, b" refused");
-            print_line(n);
-        }
+        Outcome::Done => println!(rt; " loaded"),
+        Outcome::Refused(n) => println!(rt; " refused {n}"),
     }
 }
 
 // Loads an image without its last byte.
-fn load_cut(mem: &mut [u8], out: &[u8], n: usize) {
+fn load_cut<P: Print>(rt: &P, mem: &mut [u8], out: &[u8], n: usize) -> io::Result<()> {
     if n == 0 {
-        return;
+        return Ok(());
     }
-    load(mem, out, n - 1);
+    load(rt, mem, out, n - 1)
 }
 
 // Saves an index, opens another in its memory, and loads the image there.
-fn reload(mem: &mut [u8], at: usize, q: &[u8]) {
+fn reload<P: Print>(rt: &P, mem: &mut [u8], at: usize, q: &[u8]) -> io::Result<()> {
     let mut out = [0u8; 40000];
     let Saved::Bytes(n) = string_index::save(mem, &mut out) else {
-        return;
+        return Ok(());
     };
-    open(mem, 300, 600);
-    load_cut(mem, &out, n);
-    load(mem, &out, n);
-    save(mem, at);
-    find(mem, q);
+    open(rt, mem, 300, 600)?;
+    load_cut(rt, mem, &out, n)?;
+    load(rt, mem, &out, n)?;
+    save(rt, mem, at)?;
+    find(rt, mem, q)
 }
 
 // What a search answers, and one of the rows that were lent to it.
@@ -194,67 +159,60 @@ fn search(mem: &[u8], q: &[u8], scratch: &mut [u8], at: usize) -> Handed
 }
 
 // One of the rows after a search.
-fn print_row(mem: &[u8], q: &[u8], at: usize)
+fn print_row<P: Print>(rt: &P, mem: &[u8], q: &[u8], at: usize) -> io::Result<()>
     requires { at < 4 }
 {
     let mut scratch = [0u8; 2400];
     let h = search(mem, q, &mut scratch, at);
-    io::write_all(STDOUT_FILENO, b"  row");
-    print_number(h.row.address);
-    print_number(h.row.created_at);
-    print_line(h.row.destroyed_at);
+    println!(rt;
+        "  row {} {} {}",
+        h.row.address, h.row.created_at, h.row.destroyed_at
+    )
 }
 
-fn print_answer(a: Answer) {
+fn print_answer<P: Print>(rt: &P, a: Answer) -> io::Result<()> {
     match a {
-        Answer::Rows(n) => {
-            io::write_all(STDOUT_FILENO, b" has rows");
-            print_line(n as u64);
-        }
-        Answer::Refused(n) => {
-            io::write_all(STDOUT_FILENO, b" refused");
-            print_line(n);
-        }
+        Answer::Rows(n) => println!(rt; " has rows {n}"),
+        Answer::Refused(n) => println!(rt; " refused {n}"),
     }
 }
 
 // The answer of a search, and the first three of the rows lent to it.
-fn show(mem: &[u8], q: &[u8]) {
+fn show<P: Print>(rt: &P, mem: &[u8], q: &[u8]) -> io::Result<()> {
     let mut scratch = [0u8; 2400];
-    io::write_all(STDOUT_FILENO, b"  search for");
-    print_number(q.len() as u64);
+    print!(rt; "  search for {}", q.len())?;
     let h = search(mem, q, &mut scratch, 0);
     let answer = h.answer;
-    print_answer(answer);
-    print_row(mem, q, 0);
-    print_row(mem, q, 1);
-    print_row(mem, q, 2);
+    print_answer(rt, answer)?;
+    print_row(rt, mem, q, 0)?;
+    print_row(rt, mem, q, 1)?;
+    print_row(rt, mem, q, 2)
 }
 
 // Records abc at 100, and de at 103 in two lives that touch.
-fn record_three(mem: &mut [u8]) {
-    record_at(mem, SpacetimeLocation::new(100, 10, 50), b"abc");
-    record_at(mem, SpacetimeLocation::new(103, 10, 30), b"de");
-    record_at(mem, SpacetimeLocation::new(103, 30, 50), b"de");
+fn record_three<P: Print>(rt: &P, mem: &mut [u8]) -> io::Result<()> {
+    record_at(rt, mem, SpacetimeLocation::new(100, 10, 50), b"abc")?;
+    record_at(rt, mem, SpacetimeLocation::new(103, 10, 30), b"de")?;
+    record_at(rt, mem, SpacetimeLocation::new(103, 30, 50), b"de")
 }
 
 // 1: cd stands at 102. A search before finish is refused, and leaves the rows.
-fn one(mem: &mut [u8]) {
-    io::write_all(STDOUT_FILENO, b"1\n");
-    open(mem, 100, 100);
-    record_three(mem);
-    show(mem, b"cd");
-    finish(mem);
-    show(mem, b"cd");
+fn one<P: Print>(rt: &P, mem: &mut [u8]) -> io::Result<()> {
+    println!(rt; "1")?;
+    open(rt, mem, 100, 100)?;
+    record_three(rt, mem)?;
+    show(rt, mem, b"cd")?;
+    finish(rt, mem)?;
+    show(rt, mem, b"cd")
 }
 
 // 6: aaa at 10; aa stands at 10 and 11.
-fn six(mem: &mut [u8]) {
-    io::write_all(STDOUT_FILENO, b"6\n");
-    open(mem, 100, 100);
-    record_at(mem, SpacetimeLocation::new(10, 1, 4), b"aaa");
-    finish(mem);
-    show(mem, b"aa");
+fn six<P: Print>(rt: &P, mem: &mut [u8]) -> io::Result<()> {
+    println!(rt; "6")?;
+    open(rt, mem, 100, 100)?;
+    record_at(rt, mem, SpacetimeLocation::new(10, 1, 4), b"aaa")?;
+    finish(rt, mem)?;
+    show(rt, mem, b"aa")
 }
 
 // Fills a slice with numbers that rise by 1, a byte each.
@@ -269,23 +227,23 @@ fn count_up(data: &mut [u8])
 }
 
 // 11: data of 4,096 and 4,097 bytes, a query of 256 and 257.
-fn eleven(mem: &mut [u8]) {
+fn eleven<P: Print>(rt: &P, mem: &mut [u8]) -> io::Result<()> {
     let mut bytes = [0u8; 4097];
     count_up(&mut bytes);
-    io::write_all(STDOUT_FILENO, b"11\n");
-    open(mem, 34817, 8192);
-    record(mem, 1000, &bytes);
-    record(mem, 1000, &bytes[0..4096]);
-    finish(mem);
-    find(mem, &bytes[0..256]);
-    find(mem, &bytes[5..261]);
-    find(mem, &bytes[0..257]);
+    println!(rt; "11")?;
+    open(rt, mem, 34817, 8192)?;
+    record(rt, mem, 1000, &bytes)?;
+    record(rt, mem, 1000, &bytes[0..4096])?;
+    finish(rt, mem)?;
+    find(rt, mem, &bytes[0..256])?;
+    find(rt, mem, &bytes[5..261])?;
+    find(rt, mem, &bytes[0..257])
 }
 
 // A root with n children, one for each of the first n bytes.
-fn root(mem: &mut [u8], n: usize) {
+fn root<P: Print>(rt: &P, mem: &mut [u8], n: usize) -> io::Result<()> {
     let mut byte = [0u8; 1];
-    open(mem, 300, 600);
+    open(rt, mem, 300, 600)?;
     let mut i = 0;
     while i < n {
         byte[0] = (i % 256) as u8;
@@ -293,105 +251,111 @@ fn root(mem: &mut [u8], n: usize) {
         string_index::record(mem, 1, l, &byte);
         i += 1;
     }
-    finish(mem);
-    save(mem, 40000);
-    find(mem, &byte);
+    finish(rt, mem)?;
+    save(rt, mem, 40000)?;
+    find(rt, mem, &byte)
 }
 
 // 12: roots of 8, 9, 96, 97 and 256 children.
-fn twelve(mem: &mut [u8]) {
-    io::write_all(STDOUT_FILENO, b"12\n");
-    root(mem, 8);
-    root(mem, 9);
-    root(mem, 96);
-    root(mem, 97);
-    reload(mem, 40000, b"`");
-    root(mem, 256);
+fn twelve<P: Print>(rt: &P, mem: &mut [u8]) -> io::Result<()> {
+    println!(rt; "12")?;
+    root(rt, mem, 8)?;
+    root(rt, mem, 9)?;
+    root(rt, mem, 96)?;
+    root(rt, mem, 97)?;
+    reload(rt, mem, 40000, b"`")?;
+    root(rt, mem, 256)
 }
 
 // 13: one block 61 at 5; the offset of its node stands at index 58 of the image.
-fn thirteen(mem: &mut [u8]) {
-    io::write_all(STDOUT_FILENO, b"13\n");
-    open(mem, 10, 10);
-    record(mem, 5, b"a");
-    finish(mem);
-    save(mem, 58);
-    reload(mem, 58, b"a");
+fn thirteen<P: Print>(rt: &P, mem: &mut [u8]) -> io::Result<()> {
+    println!(rt; "13")?;
+    open(rt, mem, 10, 10)?;
+    record(rt, mem, 5, b"a")?;
+    finish(rt, mem)?;
+    save(rt, mem, 58)?;
+    reload(rt, mem, 58, b"a")
 }
 
 // Opens an index and loads an image there.
-fn load_into(mem: &mut [u8], nodes: u64, entries: u64, img: &[u8]) {
-    open(mem, nodes, entries);
-    load(mem, img, img.len());
+fn load_into<P: Print>(
+    rt: &P,
+    mem: &mut [u8],
+    nodes: u64,
+    entries: u64,
+    img: &[u8],
+) -> io::Result<()> {
+    open(rt, mem, nodes, entries)?;
+    load(rt, mem, img, img.len())
 }
 
 // Loads an image where there is room for it, where there are too few nodes, and where there are too few entries.
-fn load_each(mem: &mut [u8], img: &[u8]) {
-    load_into(mem, 10, 10, img);
-    load_into(mem, 1, 10, img);
-    load_into(mem, 10, 1, img);
+fn load_each<P: Print>(rt: &P, mem: &mut [u8], img: &[u8]) -> io::Result<()> {
+    load_into(rt, mem, 10, 10, img)?;
+    load_into(rt, mem, 1, 10, img)?;
+    load_into(rt, mem, 10, 1, img)
 }
 
 // Two blocks at one address, and one that conflicts with both.
-fn record_conflicting(mem: &mut [u8]) {
-    record_at(mem, SpacetimeLocation::new(0, 1, 2), b"a");
-    record_at(mem, SpacetimeLocation::new(0, 3, 4), b"a");
-    record_at(mem, SpacetimeLocation::new(0, 1, 4), b"b");
+fn record_conflicting<P: Print>(rt: &P, mem: &mut [u8]) -> io::Result<()> {
+    record_at(rt, mem, SpacetimeLocation::new(0, 1, 2), b"a")?;
+    record_at(rt, mem, SpacetimeLocation::new(0, 3, 4), b"a")?;
+    record_at(rt, mem, SpacetimeLocation::new(0, 1, 4), b"b")
 }
 
 // The image of what is held; then with the second piece created in the life of the first: in the root's list alone, which
 // breaks the index rule, and in both lists, which is a conflict.
-fn load_moved(mem: &mut [u8]) {
+fn load_moved<P: Print>(rt: &P, mem: &mut [u8]) -> io::Result<()> {
     let mut out = [0u8; 172];
     string_index::save(mem, &mut out);
-    load_each(mem, &out);
+    load_each(rt, mem, &out)?;
     out[57] = 1;
-    load_each(mem, &out);
+    load_each(rt, mem, &out)?;
     out[140] = 1;
-    load_each(mem, &out);
+    load_each(rt, mem, &out)
 }
 
 // Blocks and images that conflict.
-fn conflicts(mem: &mut [u8]) {
-    io::write_all(STDOUT_FILENO, b"conflicts\n");
-    open(mem, 10, 10);
-    record_conflicting(mem);
-    finish(mem);
-    load_moved(mem);
+fn conflicts<P: Print>(rt: &P, mem: &mut [u8]) -> io::Result<()> {
+    println!(rt; "conflicts")?;
+    open(rt, mem, 10, 10)?;
+    record_conflicting(rt, mem)?;
+    finish(rt, mem)?;
+    load_moved(rt, mem)
 }
 
 // A number as it is, with two neighbours exchanged, with a small letter, with another check, without one.
-fn find_typed(mem: &[u8]) {
-    find_number(mem, b"G123498654321H");
-    find_number(mem, b"G123489654321H");
-    find_number(mem, b"g123498654321H");
-    find_number(mem, b"G123498654321*");
-    find_number(mem, b"G123498654321");
+fn find_typed<P: Print>(rt: &P, mem: &[u8]) -> io::Result<()> {
+    find_number(rt, mem, b"G123498654321H")?;
+    find_number(rt, mem, b"G123489654321H")?;
+    find_number(rt, mem, b"g123498654321H")?;
+    find_number(rt, mem, b"G123498654321*")?;
+    find_number(rt, mem, b"G123498654321")
 }
 
 // A number in two writes, typed before finish and behind it.
-fn numbers(mem: &mut [u8]) {
-    io::write_all(STDOUT_FILENO, b"numbers\n");
-    open(mem, 100, 100);
-    record_at(mem, SpacetimeLocation::new(4096, 10, 50), b"G1234986");
-    record_at(mem, SpacetimeLocation::new(4104, 12, 60), b"54321");
-    find_number(mem, b"G123489654321H");
-    finish(mem);
-    find_typed(mem);
+fn numbers<P: Print>(rt: &P, mem: &mut [u8]) -> io::Result<()> {
+    println!(rt; "numbers")?;
+    open(rt, mem, 100, 100)?;
+    record_at(rt, mem, SpacetimeLocation::new(4096, 10, 50), b"G1234986")?;
+    record_at(rt, mem, SpacetimeLocation::new(4104, 12, 60), b"54321")?;
+    find_number(rt, mem, b"G123489654321H")?;
+    finish(rt, mem)?;
+    find_typed(rt, mem)
 }
 
-fn run(mem: &mut [u8]) {
-    one(mem);
-    six(mem);
-    eleven(mem);
-    twelve(mem);
-    thirteen(mem);
-    conflicts(mem);
-    numbers(mem);
+fn run<P: Print>(rt: &P, mem: &mut [u8]) -> io::Result<()> {
+    one(rt, mem)?;
+    six(rt, mem)?;
+    eleven(rt, mem)?;
+    twelve(rt, mem)?;
+    thirteen(rt, mem)?;
+    conflicts(rt, mem)?;
+    numbers(rt, mem)
 }
 
 // The memory is what 34,817 nodes and 8,192 entries need: a block of 4,096 bytes charges as many.
-fn main() {
+fn main(rt: HostRuntime) -> io::Result<()> {
     let mut mem = [0u8; 3080320];
-    run(&mut mem);
+    run(&rt, &mut mem)
 }

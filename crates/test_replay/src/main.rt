@@ -2,12 +2,13 @@
 // The line (new) opens a fresh index, and (save) prints the image. The answers that are expected are the published index's.
 #![tactic(auto)]
 
-ghost use Rattle.std.specs.Prelude.{◌≡◌, [], ◌∷◌, ◌+◌, ◌*◌, ◌≤◌, ◌<◌, length};
+ghost use Rattle.std.specs.Prelude.{◌≡◌, true, [], ◌∷◌, ◌+◌, ◌*◌, ◌≤◌, ◌<◌, length, IfOk};
+ghost use Rattle.std.specs.Result.{result_unwrap_or};
 ghost use Rattle.definitions.specs.Program.{hex, hex_digit};
 ghost use Rattle.replies.specs.Written.{Written};
-ghost use Rattle.test_replay.specs.Replay.{is_word, image_line, save_answer, Replays, ReplaysNext};
+ghost use Rattle.test_replay.specs.Replay.{is_word, image_line, save_answer, Replays, next_line, ReplaysNext};
 
-use libc::STDOUT_FILENO;
+use std::io;
 use string_index::Saved;
 
 // The longest image of an index of the program's capacity.
@@ -86,45 +87,44 @@ fn replay_line(mem: &mut [u8], line: &[u8], out: &mut [u8]) -> usize
     form_answers::answer(mem, line, out, 0)
 }
 
-// Answers the line from index p on, and writes the answer out; where the next line begins, the input's end where writing fails.
-fn replay_next(mem: &mut [u8], input: &[u8], p: usize, out: &mut [u8]) -> usize
+// Answers the line from index p on, and writes the answer out: where the next line begins, or why writing fails.
+fn replay_next<P: Print>(
+    rt: &P,
+    mem: &mut [u8],
+    input: &[u8],
+    p: usize,
+    out: &mut [u8],
+) -> io::Result<usize>
     requires { (p < length input.now) × (147209 ≤ length out.old) }
-    ensures replays_next { ReplaysNext mem.old input.now p out.old mem.new out.new result }
-    ensures lower_bound { p < result }
+    ensures replays_next { ReplaysNext mem.old input.now p out.old mem.new out.new (result_unwrap_or result (length input.now)) }
+    ensures taken { IfOk result (λ next. next ≡ next_line input.now p true) }
+    ensures lower_bound { IfOk result (λ next. p < next) }
 {
     let e = lines::line_end(input, p);
     let at = replay_line(mem, &input[p..e], out);
-    if io::write_all(STDOUT_FILENO, &out[..at]) {
-        return e + 1;
-    }
-    os::fail(b"replay: output");
-    input.len()
+    rt.write_all(&out[..at])?;
+    Ok(e + 1)
 }
 
-fn run(mem: &mut [u8], input: &[u8], out: &mut [u8])
+fn run<P: Print>(rt: &P, mem: &mut [u8], input: &[u8], out: &mut [u8]) -> io::Result<()>
     requires { 147209 ≤ length out.old }
 {
     let mut p = 0;
     while p < input.len() {
-        p = replay_next(mem, input, p, out);
+        p = replay_next(rt, mem, input, p, out)?;
     }
+    Ok(())
 }
 
-fn replay_all(input: &[u8]) {
+fn replay_all<P: Print>(rt: &P, input: &[u8]) -> io::Result<()> {
     let mut mem = [0u8; answering::MEMORY_SIZE];
     let mut out = [0u8; OUTPUT_SIZE];
     form_answers::open(&mut mem);
-    run(&mut mem, input, &mut out);
+    run(rt, &mut mem, input, &mut out)
 }
 
-fn main() {
+fn main(rt: HostRuntime) -> io::Result<()> {
     let mut bytes = [0u8; 524288];
-    let fd = os::open_read(b"recordings");
-    if fd < 0 {
-        os::fail(b"recordings");
-        return;
-    }
-    let n = io::read_full(fd, &mut bytes);
-    libc::close(fd);
-    replay_all(&bytes[0..n]);
+    let n = reading::read_file(&rt, "recordings", &mut bytes)?;
+    replay_all(&rt, &bytes[..n])
 }

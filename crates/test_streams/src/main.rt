@@ -5,8 +5,9 @@
 ghost use Rattle.test_streams.specs.Step.{Onward};
 
 use block_stream::Read;
-use libc::STDOUT_FILENO;
 use location::SpacetimeLocation;
+use std::io;
+use std::rt::Files;
 use string_index::{Recorded, Saved, Streamed};
 
 // The capacity of an index, the memory that it needs, and its longest image.
@@ -17,6 +18,24 @@ const ENTRIES: u64 = 2000;
 const MEMORY_SIZE: usize = 720064;
 
 const IMAGE_SIZE: usize = 560000;
+
+// The files of data/, a stream each.
+const STREAMS: [&str; 14] = [
+    "whole",
+    "no_life",
+    "too_high",
+    "conflict",
+    "conflict_with_the_one_before",
+    "too_long",
+    "cut_in_data",
+    "cut_in_head",
+    "unknown_kind",
+    "length_past_the_end",
+    "too_many_nodes",
+    "too_many_entries",
+    "conflict_and_too_many",
+    "empty",
+];
 
 // How a recording ended: how many blocks were taken, and the number of what stopped it, 0 at the stream's end.
 #[derive(Clone, Copy)]
@@ -33,24 +52,17 @@ enum Step {
 }
 
 // Prints a number of the recording by one call and of that block by block.
-fn print_both(what: &[u8], n: u64, m: u64) {
-    io::write_all(STDOUT_FILENO, what);
-    io::print_decimal(STDOUT_FILENO, n);
-    io::write_all(STDOUT_FILENO, b" and ");
-    io::print_decimal(STDOUT_FILENO, m);
+fn print_both<P: Print>(rt: &P, what: &str, n: u64, m: u64) -> io::Result<()> {
+    print!(rt; "{what}{n} and {m}")?;
     if n != m {
-        io::write_all(STDOUT_FILENO, b", which differ");
+        print!(rt; ", which differ")?;
     }
-    io::write_all(STDOUT_FILENO, b"\n");
+    println!(rt)
 }
 
-fn print_same(what: &[u8], a: &[u8], b: &[u8]) {
-    io::write_all(STDOUT_FILENO, what);
-    if check::same(a, b) {
-        io::write_all(STDOUT_FILENO, b"the same\n");
-    } else {
-        io::write_all(STDOUT_FILENO, b"they differ\n");
-    }
+fn print_same<P: Print>(rt: &P, what: &str, a: &[u8], b: &[u8]) -> io::Result<()> {
+    let said = if a == b { "the same" } else { "they differ" };
+    println!(rt; "{what}{said}")
 }
 
 // Opens an index and records a stream by one call.
@@ -106,66 +118,63 @@ fn save(mem: &mut [u8], image: &mut [u8]) -> u64 {
 }
 
 // Both buffers have zeros behind the image, so they are the same where the images are.
-fn compare_images(mem: &mut [u8], other: &mut [u8], image: &mut [u8], other_image: &mut [u8]) {
+fn compare_images<P: Print>(
+    rt: &P,
+    mem: &mut [u8],
+    other: &mut [u8],
+    image: &mut [u8],
+    other_image: &mut [u8],
+) -> io::Result<()> {
     let n = save(mem, image);
     let m = save(other, other_image);
-    print_both(b"  image bytes: ", n, m);
-    print_same(b"  images: ", image, other_image);
+    print_both(rt, "  image bytes: ", n, m)?;
+    print_same(rt, "  images: ", image, other_image)
 }
 
 // Memories are compared before they are finished: finish drops repeats, so that images do not show them.
-fn compare(
+fn compare<P: Print>(
+    rt: &P,
     mem: &mut [u8],
     other: &mut [u8],
     image: &mut [u8],
     other_image: &mut [u8],
     stream: &[u8],
-) {
+) -> io::Result<()> {
     let a = record_stream(mem, stream);
     let b = record_singly(other, stream);
-    print_both(b"  taken: ", a.taken, b.taken);
-    print_both(b"  stopped by: ", a.number, b.number);
-    print_same(b"  memories: ", mem, other);
-    compare_images(mem, other, image, other_image);
+    print_both(rt, "  taken: ", a.taken, b.taken)?;
+    print_both(rt, "  stopped by: ", a.number, b.number)?;
+    print_same(rt, "  memories: ", mem, other)?;
+    compare_images(rt, mem, other, image, other_image)
 }
 
 // Compares in memory that nothing was recorded into before.
-fn compare_anew(stream: &[u8]) {
+fn compare_anew<P: Print>(rt: &P, stream: &[u8]) -> io::Result<()> {
     let mut mem = [0u8; MEMORY_SIZE];
     let mut other = [0u8; MEMORY_SIZE];
     let mut image = [0u8; IMAGE_SIZE];
     let mut other_image = [0u8; IMAGE_SIZE];
-    compare(&mut mem, &mut other, &mut image, &mut other_image, stream);
+    compare(
+        rt,
+        &mut mem,
+        &mut other,
+        &mut image,
+        &mut other_image,
+        stream,
+    )
 }
 
 // Compares the two recordings of the stream in a file.
-fn show(name: &[u8]) {
+fn show<R: Files + Print>(rt: &R, name: &str) -> io::Result<()> {
     let mut stream = [0u8; 8192];
-    let fd = os::open_read(name);
-    if fd < 0 {
-        os::fail(name);
-        return;
-    }
-    let n = io::read_full(fd, &mut stream);
-    libc::close(fd);
-    io::write_all(STDOUT_FILENO, name);
-    io::write_all(STDOUT_FILENO, b"\n");
-    compare_anew(&stream[..n]);
+    let n = reading::read_file(rt, name, &mut stream)?;
+    println!(rt; "{name}")?;
+    compare_anew(rt, &stream[..n])
 }
 
-fn main() {
-    show(b"whole");
-    show(b"no_life");
-    show(b"too_high");
-    show(b"conflict");
-    show(b"conflict_with_the_one_before");
-    show(b"too_long");
-    show(b"cut_in_data");
-    show(b"cut_in_head");
-    show(b"unknown_kind");
-    show(b"length_past_the_end");
-    show(b"too_many_nodes");
-    show(b"too_many_entries");
-    show(b"conflict_and_too_many");
-    show(b"empty");
+fn main(rt: HostRuntime) -> io::Result<()> {
+    for name in STREAMS {
+        show(&rt, name)?;
+    }
+    Ok(())
 }

@@ -3,7 +3,7 @@ use Prim.Native.Nat.{◌-◌, ◌≤◌}
 use Rattle.check_table.proofs.print_entries.Given as goal
 
 abbrev pub invariant-loop-p : goal.invariant-loop-p
-invariant-loop-p l = (1 ≤ l.p) × (l.p ≤ 14)
+invariant-loop-p g l = (1 ≤ l.p) × (l.p ≤ 14)
 
 abbrev pub decreases-loop-p : goal.decreases-loop-p
-decreases-loop-p l = 14 - l.p
+decreases-loop-p g l = 14 - l.p

@@ -3,7 +3,7 @@ use Prim.Native.Nat.{◌-◌, ◌≤◌}
 use Rattle.check_table.proofs.print_rows.Given as goal
 
 abbrev pub invariant-loop-v : goal.invariant-loop-v
-invariant-loop-v l = l.v ≤ 36
+invariant-loop-v g l = l.v ≤ 36
 
 abbrev pub decreases-loop-v : goal.decreases-loop-v
-decreases-loop-v l = 36 - l.v
+decreases-loop-v g l = 36 - l.v

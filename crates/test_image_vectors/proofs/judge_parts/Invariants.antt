@@ -6,7 +6,7 @@ use Rattle.test_image_vectors.specs.Said.{said_parts}
 use Rattle.test_image_vectors.proofs.judge_parts.Given as goal
 
 abbrev pub invariant-loop-n : goal.invariant-loop-n
-invariant-loop-n l = (l.n ≤ length l.img) × (said_parts l.img (length l.img - l.n) l.n l.said ≡ said_parts l.img (length l.img) 0 l.initial.said)
+invariant-loop-n g l = (l.n ≤ length l.img) × (said_parts l.img (length l.img - l.n) l.n l.said ≡ said_parts l.img (length l.img) 0 l.initial.said)
 
 abbrev pub decreases-loop-n : goal.decreases-loop-n
-decreases-loop-n l = length l.img - l.n
+decreases-loop-n g l = length l.img - l.n

@@ -4,18 +4,13 @@ use Rattle.test_image_vectors.proofs.Vectors.{vector_damaged, vector_whole}
 use Rattle.test_image_vectors.proofs.step.Goals as goal
 
 pub returns-then-mode-eq2 : goal.returns-then-mode-eq2
-returns-then-mode-eq2 c =
-    let g = c.args in
+returns-then-mode-eq2 g c =
+    let a = c.args in
     let d = c.damaged in
-    let w = (vector_damaged g.bytes.now g.c d.result c.if-mode-eq2.true d.ensures.value, d.ensures.bytes_unchanged) in
-    record { value = w.0; bytes_unchanged = w.1.0; at_lt_at = w.1.1 }
+    record { value = vector_damaged a.bytes.now a.c d.result c.if-mode-eq2.true d.ensures.value; bytes_unchanged = d.ensures.bytes_unchanged; at_lt_at = d.ensures.at_lt_at }
 
 pub returns : goal.returns
-returns c =
-    let g = c.args in
+returns g c =
+    let a = c.args in
     let w = c.whole in
-    record {
-      value = vector_whole g.bytes.now g.c w.result c.if-mode-eq2.false w.ensures.value;
-      bytes_unchanged = refl;
-      at_lt_at = w.ensures.at_lt_at;
-    }
+    record { value = vector_whole a.bytes.now a.c w.result c.if-mode-eq2.false w.ensures.value; bytes_unchanged = refl; at_lt_at = w.ensures.at_lt_at }

@@ -4,7 +4,7 @@ use Rattle.test_image_vectors.proofs.Vectors.{whole_leads}
 use Rattle.test_image_vectors.proofs.whole.Goals as goal
 
 pub returns : goal.returns
-returns c =
-    let g = c.args in
+returns g c =
+    let a = c.args in
     let n = c.at_most-len in
-    record { value = whole_leads g.bytes.now g.c g.parts c.get64-n.result n.result c.judge_image-said.result c.get64-n.ensures n.ensures c.judge_image-said.ensures; at_lt_at = (omega arith, omega arith, omega arith) }
+    record { value = whole_leads a.bytes.now a.c a.parts c.get64-n.result n.result c.judge_image-said.result c.get64-n.ensures n.ensures c.judge_image-said.ensures; at_lt_at = (omega arith, omega arith, omega arith) }

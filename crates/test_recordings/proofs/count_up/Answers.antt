@@ -33,9 +33,9 @@ loop-i-smaller c = simp length-set (omega arith)
 pub loop-i-preserved : goal.loop-i-preserved
 loop-i-preserved c =
     let l = c.loop-i in
-    (simp length-set (omega arith), simp length-set (omega arith), more l.«data» l.i (omega arith) l.invariant.2)
+    (simp length-set (omega arith), simp length-set (omega arith), more l.data l.i (omega arith) l.invariant.2)
 
 pub returns : goal.returns
 returns c =
     let l = c.loop-i in
-    all l.«data» l.i (length c.args.«data».now) (omega arith) (omega arith) l.invariant.2
+    all l.data l.i (length c.args.data.now) (omega arith) (omega arith) l.invariant.2

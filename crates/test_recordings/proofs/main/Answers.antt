@@ -9,9 +9,3 @@ zeros n = sym (length-replicate {A = ℕ} n 0)
 
 pub slice_bounds-run-end : goal.slice_bounds-run-end
 slice_bounds-run-end c = zeros 3080320
-
-pub run-requires : goal.run-requires
-run-requires c = tt
-
-pub returns : goal.returns
-returns c = tt

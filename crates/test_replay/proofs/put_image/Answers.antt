@@ -3,7 +3,6 @@ use Prim.Native.Nat.{ℕ, ◌-◌}
 use native.Mathlib.Omega.{arith}
 use mathlib.Core.Path.{◌≡◌, refl, subst}
 use mathlib.Core.List.{List}
-use borrow.Author.Rules.{rules}
 use Rattle.replies.specs.Written.{Written}
 use Rattle.replies.proofs.Writing.{written_both, written_same}
 use Rattle.test_replay.proofs.Replaying.{hex_more, hex_all}
@@ -17,14 +16,14 @@ moved {out} {xs} {out'} {at} {r} w e = subst (λ (i : ℕ). Written out i xs out
 pub loop-i-init : goal.loop-i-init
 loop-i-init c =
     let w = c.put_text-at.ensures in
-    (record { out = refl; next = omega (arith, w.next) }, omega (arith, w.next), omega arith, omega arith, refl)
+    (record { out = refl; next = omega (arith, w.next) }, omega (arith, w.next), omega arith)
 
 pub loop-i-preserved : goal.loop-i-preserved
 loop-i-preserved c =
     let s = c.args.image.now in
     let l = c.loop-i in
     let w = c.put_byte-at.ensures in
-    (written_same (hex_more s l.i (omega arith)) (written_both l.invariant.0 w), omega (arith, w.next), omega arith, omega arith, search rules)
+    (written_same (hex_more s l.i (omega arith)) (written_both l.invariant.0 w), omega (arith, w.next), omega arith)
 
 pub returns : goal.returns
 returns c =

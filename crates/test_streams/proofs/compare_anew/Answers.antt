@@ -8,19 +8,13 @@ zeros : (n : ℕ) → n ≡ length {A = ℕ} (replicate n 0)
 zeros n = sym (length-replicate {A = ℕ} n 0)
 
 pub slice_bounds-compare-end : goal.slice_bounds-compare-end
-slice_bounds-compare-end c = zeros 720064
+slice_bounds-compare-end g c = zeros 720064
 
 pub slice_bounds-compare-end-2 : goal.slice_bounds-compare-end-2
-slice_bounds-compare-end-2 c = zeros 720064
+slice_bounds-compare-end-2 g c = zeros 720064
 
 pub slice_bounds-compare-end-3 : goal.slice_bounds-compare-end-3
-slice_bounds-compare-end-3 c = zeros 560000
+slice_bounds-compare-end-3 g c = zeros 560000
 
 pub slice_bounds-compare-end-4 : goal.slice_bounds-compare-end-4
-slice_bounds-compare-end-4 c = zeros 560000
-
-pub compare-requires : goal.compare-requires
-compare-requires c = tt
-
-pub returns : goal.returns
-returns c = tt
+slice_bounds-compare-end-4 g c = zeros 560000
