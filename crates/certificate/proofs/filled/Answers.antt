@@ -23,8 +23,8 @@ overflow_add-k c = omega (arith, c.requires.0.1)
 
 pub loop-k-preserved : goal.loop-k-preserved
 loop-k-preserved c =
-    let e = filled_next c.args.mem.now c.args.pieces c.requires.0 c.requires.1 c.loop-k.k c.loop-k.count c.counted-count.result (omega arith) c.loop-k.invariant.2 c.counted-count.ensures in
-    (omega arith, omega (arith, e, filled_few c.args.mem.now c.args.pieces c.requires.0 c.requires.1 (c.loop-k.k + 1)), e)
+    let next = filled_next c.args.mem.now c.args.pieces c.requires.0 c.requires.1 c.loop-k.k c.loop-k.count c.counted-count.result (omega arith) c.loop-k.invariant.2 c.counted-count.ensures in
+    (omega arith, omega (arith, next, filled_few c.args.mem.now c.args.pieces c.requires.0 c.requires.1 (c.loop-k.k + 1)), next)
 
 pub returns : goal.returns
 returns c =

@@ -12,8 +12,8 @@ put_tail_location-requires c =
 
 pub returns-then-get64-eq1 : goal.returns-then-get64-eq1
 returns-then-get64-eq1 c =
-    let e = is_whole _ _ _ c.get64.ensures c.if-get64-eq1.true in
-    record { count = rw e refl; bytes = rw e c.put_tail_location.ensures }
+    let whole = is_whole _ _ _ c.get64.ensures c.if-get64-eq1.true in
+    record { count = rw whole refl; bytes = rw whole c.put_tail_location.ensures }
 
 pub returns : goal.returns
 returns c =
