@@ -13,7 +13,7 @@ use Rattle.words.specs.Holding.{Holds}
 use Rattle.words.proofs.Holding.{le_holds, stands_holds, holds_stands}
 use Rattle.definitions.specs.Location.{Location, location_at, meets}
 use Rattle.definitions.specs.Blocks.{Piece}
-use Rattle.definitions.specs.Conflicts.{end, free}
+use Rattle.definitions.specs.Conflicts.{free}
 use Rattle.definitions.specs.Calls.{last_number}
 use Rattle.definitions.proofs.Tests.{both, and_true, is_false, not_both, negated}
 use Rattle.definitions.proofs.Views.{lt_or_le}

@@ -11,7 +11,7 @@ use mathlib.Core.List.Memᴰ.{not-nil}
 use mathlib.Core.List.Memᴰ.{tail as later}
 use mathlib.Core.List.{List, [], ◌∷◌, Memᴰ as Mem}
 use lib.ListN.{length, get_or}
-use lib.Dec.{leb, eqb, is_le, compare_is_eq}
+use lib.Dec.{is_le, compare_is_eq}
 use borrow.Author.Tests.{leb-true, leb-false, eqb-true, eqb-false}
 use Rattle.definitions.specs.Location.{Location, order, or_else, placed, insert, normal, Sorted, Less}
 

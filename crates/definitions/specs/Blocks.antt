@@ -1,5 +1,5 @@
 -- Document 01, "Record": blocks, the pieces that a block is cut into, and what a piece charges. Assumes nothing.
-use Rattle.std.specs.Prelude.{ℕ, zero, suc, ◌+◌, ◌*◌, ◌/◌, ◌%◌, cond, List, [], ◌∷◌, ◌++◌, length, take, drop, leb}
+use Rattle.std.specs.Prelude.{ℕ, zero, suc, ◌+◌, ◌*◌, ◌/◌, cond, List, [], ◌∷◌, ◌++◌, length, take, drop, leb}
 use Rattle.definitions.specs.Location.{Location, location, moved}
 
 -- these bytes, at this address, from this tick to that

@@ -2,7 +2,6 @@
 use Prim.Native.Nat.{ℕ}
 use mathlib.Core.Path.{◌∙◌, ◌≡◌, ap, sym}
 use borrow.Author.Tests.{eq-eqb, ne_eqb}
-use Rattle.trie.specs.Trie.{entries, nodes}
 use Rattle.fields.specs.Answers.{head_of, list_of, step_of, table_in, table_of}
 use Rattle.image_format.specs.Reading.{cut, done, fault, head, no_head, no_table, past, table}
 use Rattle.fields.specs.declared.Children.{Children}

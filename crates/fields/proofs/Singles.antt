@@ -13,7 +13,7 @@ use Rattle.image_format.proofs.Nodes.{child_node, end_sparse, node_done, node_ta
 use Rattle.image_format.proofs.Tables.{open_ready, slot_arrival}
 use Rattle.image_format.proofs.Entries.{fault_end, fault_on}
 use Rattle.kinds.specs.Kinds.{fits}
-use Rattle.image_format.specs.Reading.{Step, Table, done, fault, head, offset, open_table, read_child, read_head, read_node, sparse_table, table}
+use Rattle.image_format.specs.Reading.{Step, Table, done, fault, head, open_table, read_child, read_head, read_node, sparse_table, table}
 use Rattle.fields.specs.Singles.{SingleBeforeChild, SinglesBelow}
 
 pub not_so : {P : Type 0} → false ≡ true → P

@@ -19,7 +19,6 @@ use Rattle.hex_pairs.specs.HexAnswers.{counted}
 use Rattle.numerals.specs.declared.Number.{Number}
 use Rattle.numerals.specs.declared.Number.TheVariants as N
 use Rattle.hex_pairs.specs.declared.Count.TheVariants as C
-use Rattle.forms.specs.declared.Form.{Form}
 use Rattle.forms.specs.declared.Form.TheVariants as F
 
 -- ── numbers and counts that the code holds ──

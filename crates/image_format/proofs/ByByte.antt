@@ -7,7 +7,6 @@ use mathlib.Core.Path.{◌∙◌, ◌≡◌, ap, refl, subst, sym}
 use lib.Dec.{eqb, ltb}
 use lib.ListN.{length}
 use borrow.Author.Tests.{eqb-false, eqb-true, le-ltb, lt-ltb, ltb-false, ltb-true, ne_eqb}
-use Rattle.trie.specs.Trie.{entries, nodes}
 use Rattle.image_format.proofs.KindThree.{AllRead, Distinct, Missing}
 use Rattle.image_format.specs.Image.{Child, ascending, children_size, entries_in, nodes_in, size_below, with_byte}
 

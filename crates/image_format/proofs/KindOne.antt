@@ -9,10 +9,10 @@ use Rattle.words.proofs.Parts.{length_bytes64}
 use Rattle.words.specs.Words.{bytes64, le64}
 use Rattle.words.specs.Holding.{Holds}
 use Rattle.words.proofs.Holding.{holds_at, holds_le, holds_left, holds_right}
-use Rattle.trie.specs.Trie.{Lists, entries, entries_of, nodes}
+use Rattle.trie.specs.Trie.{Lists, entries_of}
 use Rattle.image_format.proofs.ByByte.{Bytes, One, all_entries, all_length, all_nodes, at_most, at_read, just, nobody, one_at}
 use Rattle.image_format.proofs.Holding.{holds_head}
-use Rattle.kinds.proofs.KindRule.{fits_one, kind_one, one}
+use Rattle.kinds.proofs.KindRule.{fits_one, kind_one}
 use Rattle.image_format.proofs.KindThree.{AllRead, Distinct}
 use Rattle.image_format.proofs.Nodes.{child_node, child_none, end_dense, node_done}
 use Rattle.image_format.proofs.Tables.{open_dense, slot_dense}

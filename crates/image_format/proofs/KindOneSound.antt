@@ -11,7 +11,6 @@ use Rattle.words.proofs.Parts.{length_bytes64}
 use Rattle.words.specs.Words.{bytes64, le64}
 use Rattle.words.specs.Holding.{Holds}
 use Rattle.words.proofs.Holding.{holds_append, holds_at}
-use Rattle.trie.specs.Build.{grow}
 use Rattle.trie.specs.Trie.{Forest, Node, more}
 use Rattle.image_format.proofs.ByByte.{Bytes, Rising, at_absent, rising_absent, rising_less}
 use Rattle.image_format.proofs.BytesRead.{holds_read}

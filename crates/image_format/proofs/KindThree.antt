@@ -10,9 +10,9 @@ use Rattle.words.proofs.Parts.{length_bytes64}
 use Rattle.words.specs.Words.{bytes64, le64}
 use Rattle.words.specs.Holding.{Holds}
 use Rattle.words.proofs.Holding.{holds_at, holds_le, holds_left, holds_right}
-use Rattle.trie.specs.Trie.{Lists, entries, entries_of, nodes}
+use Rattle.trie.specs.Trie.{Lists, entries_of}
 use Rattle.image_format.proofs.Holding.{holds_head}
-use Rattle.kinds.proofs.KindRule.{fits_three, kind_three, one}
+use Rattle.kinds.proofs.KindRule.{fits_three, kind_three}
 use Rattle.image_format.proofs.Nodes.{child_node, end_sparse, node_done}
 use Rattle.image_format.proofs.Tables.{open_ready, slot_arrival}
 use Rattle.image_format.specs.Image.{Child, children_bytes, children_size, entries_in, lists_bytes, lists_size, node_bytes, node_size, nodes_in, table_by_arrival, table_bytes, table_size}

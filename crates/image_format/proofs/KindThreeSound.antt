@@ -8,11 +8,9 @@ use Rattle.words.proofs.Parts.{length_bytes64}
 use Rattle.words.specs.Words.{bytes64, le64}
 use Rattle.words.specs.Holding.{Holds}
 use Rattle.words.proofs.Holding.{holds_append, holds_at}
-use Rattle.trie.specs.Build.{grow}
 use Rattle.trie.specs.Trie.{Node, more}
 use Rattle.image_format.proofs.BytesRead.{holds_read}
 use Rattle.image_format.proofs.EndedWell.{Turned, by_gap, by_node, child_at, run_last, run_turn}
-use Rattle.kinds.proofs.KindRule.{one}
 use Rattle.image_format.proofs.KindThree.{TableAt}
 use Rattle.image_format.proofs.ReadBack.{Limits}
 use Rattle.image_format.proofs.Sound.{Sound}

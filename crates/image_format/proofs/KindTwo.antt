@@ -12,10 +12,10 @@ use Rattle.words.proofs.Parts.{length_bytes64}
 use Rattle.words.specs.Words.{bytes64, le64}
 use Rattle.words.specs.Holding.{Holds}
 use Rattle.words.proofs.Holding.{holds_at, holds_le, holds_left, holds_right}
-use Rattle.trie.specs.Trie.{Lists, entries, entries_of, nodes}
+use Rattle.trie.specs.Trie.{Lists, entries_of}
 use Rattle.image_format.proofs.ByByte.{Bytes, One, absent_at, all_entries, all_nodes, all_size, at_read, below_most, below_on, below_zero, just, nobody, one_at}
 use Rattle.image_format.proofs.Holding.{holds_head}
-use Rattle.kinds.proofs.KindRule.{fits_two, kind_two, one, three}
+use Rattle.kinds.proofs.KindRule.{fits_two, kind_two}
 use Rattle.image_format.proofs.KindThree.{AllRead, BytesAt, Distinct, fault_free, find_absent}
 use Rattle.image_format.proofs.Nodes.{child_node, child_skip, end_sparse, node_done}
 use Rattle.image_format.proofs.Tables.{open_ready, slot_byte, slot_skip}

@@ -12,12 +12,10 @@ use Rattle.words.specs.Words.{bytes64, le64}
 use Rattle.words.specs.Holding.{Holds}
 use Rattle.words.proofs.Holding.{holds_append, holds_at}
 use Rattle.definitions.proofs.Views.{lt}
-use Rattle.trie.specs.Build.{grow}
 use Rattle.trie.specs.Trie.{Node}
 use Rattle.image_format.proofs.ByByte.{One, at_absent, below_on, just, nobody, one_at}
 use Rattle.image_format.proofs.BytesRead.{holds_read}
 use Rattle.image_format.proofs.EndedWell.{Turned, by_gap, by_node, child_at, child_skipped, fault_apart, find_none, find_self, run_last, run_turn}
-use Rattle.kinds.proofs.KindRule.{one, three}
 use Rattle.image_format.proofs.KindThree.{BytesAt, Distinct, Missing}
 use Rattle.image_format.proofs.KindTwo.{OffsAt}
 use Rattle.image_format.proofs.ReadBack.{Limits}

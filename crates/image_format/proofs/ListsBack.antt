@@ -11,7 +11,6 @@ use Rattle.words.proofs.Holding.{holds_at, holds_le, holds_left, holds_right}
 use Rattle.definitions.specs.Location.{Location, locations_in, locations_bytes}
 use Rattle.trie.specs.Trie.{Lists, entries_of}
 use Rattle.image_format.proofs.Holding.{list_length}
-use Rattle.kinds.proofs.KindRule.{one, two}
 use Rattle.image_format.specs.Held.{list_end, lists_in}
 use Rattle.image_format.specs.Image.{list_bytes, lists_bytes, lists_size}
 use Rattle.image_format.specs.Savable.{ListsFit, LocationsFit}

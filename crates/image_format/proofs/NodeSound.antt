@@ -2,13 +2,12 @@
 use Prim.Native.Nat.{◌*◌, ◌+◌, ◌<◌, ◌≤◌, suc, zero, ℕ}
 use native.Mathlib.Omega.{arith}
 use mathlib.Core.List.{List, [], ◌++◌, ◌∷◌}
-use mathlib.Core.Path.{◌∙◌, ◌≡◌, ap, refl, subst, sym}
+use mathlib.Core.Path.{◌∙◌, ◌≡◌, refl, subst, sym}
 use lib.ListN.{get_or, length}
 use Rattle.words.proofs.Parts.{length_bytes64}
 use Rattle.words.specs.Words.{bytes64, le64}
 use Rattle.words.specs.Holding.{Holds}
 use Rattle.words.proofs.Holding.{holds_append, holds_at}
-use Rattle.trie.specs.Build.{grow}
 use Rattle.trie.specs.Trie.{Forest, Lists, Node, leaf, more}
 use Rattle.image_format.proofs.ByByte.{Bytes, below_zero}
 use Rattle.image_format.proofs.BytesRead.{holds_read}

@@ -18,7 +18,6 @@ use Rattle.image_format.proofs.KindTwo.{OffsAt}
 use Rattle.image_format.proofs.Slots.{at_self, past_offsets, past_size, past_slots}
 use Rattle.image_format.specs.Held.{Entry, dense_entries, sparse_entries}
 use Rattle.image_format.specs.Image.{Child, as_child, ascending, children_bytes, children_of, children_size, node_bytes, node_size, size_below, slot_bytes, slot_offsets, slot_size, slots_bytes, slots_size, with_byte}
-use Rattle.kinds.specs.Kinds.{fits}
 
 -- each entry leads to the child's bytes
 unfoldable pub Spots : List ℕ → List Entry → Forest → Type 0

@@ -4,13 +4,11 @@ use Prim.Native.Nat.{◌*◌, ◌+◌, ◌<◌, ◌≤◌, suc, zero, ℕ}
 use native.Mathlib.Omega.{arith}
 use mathlib.Core.Bool.{Bool, cond, false, true}
 use mathlib.Core.List.{List}
-use mathlib.Core.Option.{none}
 use mathlib.Core.Path.{◌≡◌, ap, refl, sym}
 use lib.Dec.{eqb, leb, ltb}
 use lib.ListN.{get_or, length}
 use borrow.Author.Tests.{eq-eqb, eqb-false, eqb-true, le-leb, le-ltb, leb-true, lt-leb, lt-ltb, ltb-false, ne_eqb}
 use Rattle.words.specs.Words.{le64}
-use Rattle.trie.specs.Trie.{entries}
 use Rattle.kinds.proofs.KindRule.{Fits, fits_view, one, three, two}
 use Rattle.image_format.specs.Turns.{Skips, Within}
 use Rattle.image_format.specs.Entries.{Least}

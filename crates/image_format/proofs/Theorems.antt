@@ -12,7 +12,6 @@ use Rattle.words.proofs.Parts.{length_bytes64}
 use Rattle.words.specs.Words.{bytes64, le64}
 use Rattle.words.specs.Holding.{Holds}
 use Rattle.words.proofs.Holding.{holds_append, holds_get}
-use Rattle.trie.specs.Build.{grow}
 use Rattle.trie.specs.Trie.{Lists, Node, Trie, empty, entries, entries_of, forest_entries, forest_nodes, leaf, nodes, root}
 use Rattle.image_format.proofs.ByByte.{Bytes, at_most}
 use Rattle.image_format.proofs.BytesRead.{holds_read}

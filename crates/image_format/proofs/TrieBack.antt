@@ -23,7 +23,6 @@ use Rattle.image_format.proofs.ReadBack.{Limits, Up, all_read}
 use Rattle.image_format.proofs.Spots.{Spots, spot_at, spots_one, spots_three, spots_two}
 use Rattle.image_format.specs.Held.{Entry, dense_entries, forest_by, list_end, lists_in, node_in, sparse_entries, table_entries}
 use Rattle.image_format.specs.Image.{ascending, children_bytes, children_of, children_size, lists_bytes, lists_size, node_bytes, node_size, size_below, slot_offsets, slots_bytes, table_by_arrival, table_by_byte}
-use Rattle.kinds.specs.Kinds.{fits}
 use Rattle.image_format.specs.Savable.{AllFit, ListsFit}
 
 pub entries_sparse : (s : List ℕ) (at t n : ℕ) → (get_or s at 0 ≡ 1 → ⊥) → list_end s (list_end s (list_end s (at + 1))) ≡ t → n ≡ le64 s t → sparse_entries s (t + 8) n 0 ≡ table_entries s at

@@ -1,5 +1,5 @@
 -- What a reader may conclude of the memory that recording leaves. Assumes nothing.
-use Rattle.std.specs.Prelude.{ℕ, ◌+◌, ◌≡◌, List, ◌++◌, length}
+use Rattle.std.specs.Prelude.{ℕ, ◌≡◌, List, ◌++◌, length}
 use Rattle.std.proofs.Math.Option.{none}
 use Rattle.definitions.specs.Blocks.{Block, Piece, pieces}
 use Rattle.definitions.specs.Causes.{first_cause}

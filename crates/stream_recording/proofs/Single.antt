@@ -10,7 +10,7 @@ use lib.Dec.{eqb}
 use borrow.Author.Tests.{eqb-true, eqb-false}
 use Rattle.definitions.specs.Blocks.{Block}
 use Rattle.definitions.specs.BlockStream.{Read, block, nothing, refused, read_block}
-use Rattle.definitions.specs.Causes.{Cause, number, first_cause}
+use Rattle.definitions.specs.Causes.{Cause, first_cause}
 use Rattle.definitions.specs.Calls.{stream_checks}
 use Rattle.definitions.proofs.Checks.{number_some}
 use Rattle.index_memory.specs.Index.{standing_of, read_index}

@@ -1,5 +1,5 @@
 -- The simultaneous walk over sorted lists tells whether a list is the union of others. Assumes nothing.
-use Prim.Native.Nat.{ℕ, ◌+◌, ◌-◌, ◌≤◌, Ordering}
+use Prim.Native.Nat.{ℕ, ◌+◌, ◌≤◌, Ordering}
 use native.Mathlib.Omega.{arith}
 use mathlib.Core.Path.{◌≡◌, refl, sym, ap, ◌∙◌, subst}
 use mathlib.Core.Bool.{Bool, true, false, ◌&&◌, ◌||◌, cond}

@@ -1,5 +1,5 @@
 -- The trie that a log of pieces makes: children by first arrival, lists sorted and without repeats. Assumes nothing.
-use Rattle.std.specs.Prelude.{ℕ, zero, suc, ◌+◌, ◌<◌, Bool, true, false, cond, length, eqb, leb}
+use Rattle.std.specs.Prelude.{ℕ, zero, suc, ◌<◌, Bool, true, false, cond, length, eqb, leb}
 use mathlib.Core.List.{List, [], ◌∷◌, ◌++◌, Memᴰ}
 use Rattle.definitions.specs.Location.{Location, moved, normal}
 use Rattle.definitions.specs.Blocks.{Piece}

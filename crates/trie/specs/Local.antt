@@ -1,6 +1,6 @@
 -- The index rule by local conditions: a node against its children, and against the nodes with one byte more in front.
 -- Assumes nothing.
-use Rattle.std.specs.Prelude.{ℕ, ◌+◌, ◌≤◌, ◌<◌, ◌≡◌, ◌⊎◌, ◌↔◌, length}
+use Rattle.std.specs.Prelude.{ℕ, ◌≤◌, ◌<◌, ◌≡◌, ◌⊎◌, ◌↔◌, length}
 use mathlib.Core.List.{List, [], ◌∷◌, ◌++◌, Memᴰ}
 use Rattle.definitions.specs.Location.{Location, moved}
 use Rattle.trie.specs.Trie.{Node, IsNode, lists_at}

@@ -1,4 +1,3 @@
-use Prim.Native.Nat.{◌-◌}
 use mathlib.Core.Path.{refl}
 use Rattle.bench_parts.proofs.Queries.{tail_is, answers_last}
 use Rattle.bench_parts.proofs.search_each.Goals as goal

@@ -1,5 +1,5 @@
 -- `certificate::created_from` meets its contract: those before r are created before the tick. Assumes nothing.
-use Prim.Native.Nat.{ℕ, ◌-◌, ◌<◌}
+use Prim.Native.Nat.{ℕ, ◌<◌}
 use native.Mathlib.Omega.{arith}
 use mathlib.Core.Path.{ap}
 use borrow.Author.Tests.{leb-true, leb-false}

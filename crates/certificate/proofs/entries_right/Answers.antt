@@ -1,8 +1,6 @@
 -- `certificate::entries_right` meets its contract: the entries before i pass. Assumes nothing.
-use Prim.Native.Nat.{◌-◌}
 use native.Mathlib.Omega.{arith}
 use mathlib.Core.Path.{sym, ◌∙◌}
-use mathlib.Core.Bool.{true}
 use Rattle.certificate.specs.Entries.{entry_right}
 use Rattle.certificate.proofs.All.{all_start, all_next, all_fails, all_done}
 use Rattle.certificate.proofs.entries_right.Goals as goal

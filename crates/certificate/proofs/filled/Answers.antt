@@ -1,5 +1,5 @@
 -- `certificate::filled` meets its contract: the pieces before k are counted. Assumes nothing.
-use Prim.Native.Nat.{ℕ, ◌+◌, ◌-◌}
+use Prim.Native.Nat.{ℕ, ◌+◌}
 use native.Mathlib.Omega.{arith}
 use mathlib.Core.Path.{◌≡◌, ap, ◌∙◌}
 use Rattle.conflicts.specs.Promises.{filled}

@@ -1,5 +1,5 @@
 -- `certificate::group_end` meets its contract: those from g to e - 1 are at one address. Assumes nothing.
-use Prim.Native.Nat.{ℕ, ◌-◌}
+use Prim.Native.Nat.{ℕ}
 use native.Mathlib.Omega.{arith}
 use mathlib.Core.Path.{◌≡◌, ap}
 use borrow.Author.Tests.{ltb-true, ltb-false}

@@ -1,8 +1,7 @@
 -- `certificate::none_inside` meets its contract: inside the pieces of the entries before i none lives. Assumes nothing.
-use Prim.Native.Nat.{◌-◌}
 use native.Mathlib.Omega.{arith}
 use mathlib.Core.Path.{sym, subst, ◌∙◌}
-use mathlib.Core.Bool.{Bool, true, not}
+use mathlib.Core.Bool.{Bool, not}
 use Rattle.definitions.proofs.Tests.{negated}
 use Rattle.lined_locations.specs.Line.{location_of}
 use Rattle.certificate.specs.Entries.{piece_end, lives_inside}

@@ -1,5 +1,5 @@
 -- `certificate::reach` meets its contract: the pieces before entry j don't go beyond the end so far. Assumes nothing.
-use Prim.Native.Nat.{ℕ, ◌-◌, ◌≤◌}
+use Prim.Native.Nat.{ℕ, ◌≤◌}
 use native.Mathlib.Omega.{arith}
 use borrow.Author.Tests.{ltb-true, ltb-false}
 use Rattle.certificate.specs.Entries.{piece_end}

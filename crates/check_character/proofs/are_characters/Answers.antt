@@ -1,6 +1,5 @@
 -- `check_character::are_characters` meets its contract: behind characters of a number the rest decides. Assumes nothing.
 use native.Mathlib.Omega.{arith}
-use Prim.Native.Nat.{◌-◌}
 use mathlib.Core.Path.{◌∙◌}
 use Rattle.check_character.proofs.Characters.{characters_end, characters_off, characters_on}
 use Rattle.check_character.proofs.are_characters.Goals as goal

@@ -1,6 +1,6 @@
 -- `check_character::sum_of` meets its contract: what was summed and what is left are the sum. Assumes nothing.
 use native.Mathlib.Omega.{arith}
-use Prim.Native.Nat.{◌+◌, ◌-◌}
+use Prim.Native.Nat.{◌+◌}
 use Rattle.check_character.proofs.Characters.{character_at, sum_end, summed}
 use Rattle.check_character.proofs.sum_of.Goals as goal
 

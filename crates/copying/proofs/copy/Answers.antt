@@ -1,5 +1,4 @@
 -- `copying::copy` meets its contract: what is still to be written, written, is always the same.
-use Prim.Native.Nat.{◌-◌}
 use native.Mathlib.Omega.{arith}
 use mathlib.Core.Path.{refl, sym, ◌∙◌}
 use lib.ListN.{length-set}

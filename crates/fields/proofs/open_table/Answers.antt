@@ -3,7 +3,7 @@ use Prim.Native.Nat.{ℕ}
 use native.Mathlib.Omega.{arith}
 use mathlib.Core.Path.{◌∙◌, ap, refl, sym}
 use Rattle.fields.proofs.AnswerLaws.{table_right, table_with}
-use Rattle.image_format.proofs.Tables.{open_count, open_cut, open_dense, open_fault, open_ready, range_most, table_turns}
+use Rattle.image_format.proofs.Tables.{open_count, open_cut, open_fault, open_ready, range_most, table_turns}
 use Rattle.image_format.specs.Reading.{open_table}
 use Rattle.fields.proofs.open_table.Goals as goal
 

@@ -1,5 +1,4 @@
 -- `fields::singles_below` meets its contract. Assumes nothing.
-use Prim.Native.Nat.{◌-◌}
 use native.Mathlib.Omega.{arith}
 use Rattle.fields.proofs.Singles.{run_more, run_none}
 use Rattle.fields.proofs.singles_below.Goals as goal

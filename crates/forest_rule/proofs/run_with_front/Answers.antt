@@ -1,5 +1,5 @@
 -- `forest_rule::run_with_front` meets its contract: no run, one that ends at leaves, or one with its last front on the stack. Assumes nothing.
-use Prim.Native.Nat.{ℕ, ◌-◌}
+use Prim.Native.Nat.{ℕ}
 use native.Mathlib.Omega.{arith}
 use mathlib.Core.Bool.{false}
 use mathlib.Core.Path.{subst, sym}

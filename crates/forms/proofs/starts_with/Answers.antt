@@ -1,6 +1,5 @@
 -- `forms::starts_with` meets its contract: behind equal bytes the rest of the word decides. Assumes nothing.
 use native.Mathlib.Omega.{arith}
-use Prim.Native.Nat.{◌-◌}
 use mathlib.Core.Path.{refl, ◌∙◌}
 use Rattle.numerals.proofs.Steps.{starts_all, starts_out, starts_off, starts_on}
 use Rattle.forms.proofs.starts_with.Goals as goal

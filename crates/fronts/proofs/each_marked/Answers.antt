@@ -1,5 +1,4 @@
 -- `fronts::each_marked` meets its contract: the fronts ahead decide. Assumes nothing.
-use Prim.Native.Nat.{◌-◌}
 use native.Mathlib.Omega.{arith}
 use Rattle.fronts.specs.Marks.{MarksOf}
 use Rattle.fronts.proofs.WithinLaws.{passing_start, passing_table, passing_lost, passing_on, passing_done}

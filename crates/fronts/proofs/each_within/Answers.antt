@@ -1,5 +1,4 @@
 -- `fronts::each_within` meets its contract: the fronts ahead decide. Assumes nothing.
-use Prim.Native.Nat.{◌-◌}
 use native.Mathlib.Omega.{arith}
 use mathlib.Core.Bool.{true, false}
 use Rattle.fronts.proofs.WithinLaws.{Led, led_within, led_fronts, passing_start, passing_table, passing_lost, passing_on, passing_done}

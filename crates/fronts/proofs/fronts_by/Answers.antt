@@ -1,5 +1,5 @@
 -- `fronts::fronts_by` meets its contract: the fronts found, and then those of the fronts ahead, are all. Assumes nothing.
-use Prim.Native.Nat.{◌+◌, ◌*◌, ◌-◌}
+use Prim.Native.Nat.{◌+◌, ◌*◌}
 use native.Mathlib.Omega.{arith}
 use mathlib.Core.Path.{sym, ap, ◌∙◌}
 use Rattle.image_walk.specs.Answers.{child_of_answer}

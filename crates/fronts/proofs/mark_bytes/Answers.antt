@@ -1,5 +1,4 @@
 -- `fronts::mark_bytes` meets its contract: a byte with a child is marked or ahead. Assumes nothing.
-use Prim.Native.Nat.{◌-◌}
 use native.Mathlib.Omega.{arith}
 use mathlib.Core.Path.{refl, sym, ap, ◌∙◌}
 use lib.ListN.{length-set}

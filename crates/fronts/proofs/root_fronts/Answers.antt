@@ -1,5 +1,5 @@
 -- `fronts::root_fronts` meets its contract: the fronts put, and then the siblings ahead, are all siblings. Assumes nothing.
-use Prim.Native.Nat.{◌*◌, ◌-◌}
+use Prim.Native.Nat.{◌*◌}
 use native.Mathlib.Omega.{arith}
 use mathlib.Core.Path.{sym, ap, ◌∙◌}
 use Rattle.image_walk.specs.Answers.{entry_of_answer}

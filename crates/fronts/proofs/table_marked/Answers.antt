@@ -1,5 +1,4 @@
 -- `fronts::table_marked` meets its contract: the entries ahead decide. Assumes nothing.
-use Prim.Native.Nat.{◌-◌}
 use native.Mathlib.Omega.{arith}
 use mathlib.Core.Path.{sym, ap, ◌∙◌}
 use Rattle.image_walk.specs.Answers.{entry_of_answer}

@@ -1,5 +1,4 @@
 -- `fronts::table_within` meets its contract: the entries ahead decide. Assumes nothing.
-use Prim.Native.Nat.{◌-◌}
 use native.Mathlib.Omega.{arith}
 use mathlib.Core.Path.{sym, ap, ◌∙◌}
 use mathlib.Core.Bool.{true, false}

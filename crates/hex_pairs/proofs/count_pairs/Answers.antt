@@ -1,6 +1,6 @@
 -- `hex_pairs::count_pairs` meets its contract: the pairs passed, and what is still to be counted, are always the same. Assumes nothing.
 use native.Mathlib.Omega.{arith}
-use Prim.Native.Nat.{◌+◌, ◌-◌}
+use Prim.Native.Nat.{◌+◌}
 use mathlib.Core.Path.{refl, sym, ap, ◌∙◌}
 use lib.ListN.{drop}
 use Rattle.hex_pairs.proofs.Steps.{pairs_out, pairs_odd, pairs_end, pairs_on, counted_one}

@@ -1,6 +1,5 @@
 -- `hex_pairs::decode` meets its contract: what is still to be written, written, is always the same. Assumes nothing.
 use native.Mathlib.Omega.{arith}
-use Prim.Native.Nat.{◌-◌}
 use mathlib.Core.Path.{refl, ◌∙◌}
 use lib.ListN.{length-set}
 use Rattle.hex_pairs.proofs.Decoding.{decode_start, decode_turn, decode_done, decode_full}

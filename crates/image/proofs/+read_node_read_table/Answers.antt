@@ -7,7 +7,7 @@ use Rattle.image_format.proofs.Heads.{head_bound}
 use Rattle.image_format.proofs.Nodes.{child_by, child_sum, node_done, node_head, node_open, node_table, node_zero, run_end, run_on, run_refused, run_skip, run_start, run_to, table_sum, turn_there, turn_wrong}
 use Rattle.image_format.proofs.Tables.{open_within}
 use Rattle.fields.specs.Answers.{table_in, turn_of}
-use Rattle.image_format.specs.Reading.{all_met, child, gap, none_due, turn_at, wrong}
+use Rattle.image_format.specs.Reading.{child, gap, none_due, wrong}
 use Rattle.image.proofs.+read_node_read_table.Goals as goal
 
 pub read_node-returns-then-levels-eq0 : goal.read_node-returns-then-levels-eq0

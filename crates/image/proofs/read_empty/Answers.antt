@@ -1,5 +1,5 @@
 -- `image::read_empty` meets its contract. Assumes nothing.
-use Prim.Native.Nat.{◌*◌, ◌+◌, ◌-◌, ℕ}
+use Prim.Native.Nat.{◌*◌, ◌+◌, ℕ}
 use native.Mathlib.Omega.{arith}
 use mathlib.Core.Path.{◌∙◌, ◌≡◌, ap, refl, sym}
 use Rattle.fields.proofs.AnswerLaws.{step_right, step_with}

@@ -3,7 +3,6 @@ use native.Mathlib.Omega.{arith}
 use mathlib.Core.Path.{◌∙◌}
 use Rattle.fields.proofs.AnswerLaws.{step_with}
 use Rattle.image_format.proofs.Roots.{root_cut, root_empty, root_node}
-use Rattle.image_format.specs.Reading.{read_node}
 use Rattle.image.proofs.read_root.Goals as goal
 
 pub returns-then-s-eq0 : goal.returns-then-s-eq0

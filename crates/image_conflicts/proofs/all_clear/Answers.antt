@@ -1,5 +1,4 @@
 -- `image_conflicts::all_clear` meets its contract: one chunk after another. Assumes nothing.
-use Prim.Native.Nat.{◌-◌}
 use native.Mathlib.Omega.{arith}
 use mathlib.Core.Path.{sym, ap, ◌∙◌}
 use Rattle.definitions.specs.Location.{Location, locations_in}

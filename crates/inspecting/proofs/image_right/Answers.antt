@@ -1,5 +1,4 @@
 -- `inspecting::image_right` meets its contract: the layout and the rule, and then the tally. Assumes nothing.
-use Prim.Native.Nat.{◌-◌}
 use mathlib.Core.Path.{sym, ap, ◌∙◌}
 use Rattle.fields.specs.Answers.{layout_of}
 use Rattle.memory_header.specs.Answers.{header_of}

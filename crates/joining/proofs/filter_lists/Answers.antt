@@ -1,5 +1,4 @@
 -- `joining::filter_lists` meets its contract: the locations so far are joined, and a refused set stays refused. Assumes nothing.
-use Prim.Native.Nat.{◌-◌}
 use native.Mathlib.Omega.{arith}
 use Rattle.joining.specs.Lists.{listed}
 use Rattle.joining.proofs.Lists.{lists_start, lists_refused, lists_next, lists_done}

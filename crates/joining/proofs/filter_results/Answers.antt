@@ -1,5 +1,4 @@
 -- `joining::filter_results` meets its contract: the places so far are joined, and each is read as it was at entry. Assumes nothing.
-use Prim.Native.Nat.{◌-◌}
 use native.Mathlib.Omega.{arith}
 use mathlib.Core.Path.{refl}
 use Rattle.joining.specs.Lists.{listed}

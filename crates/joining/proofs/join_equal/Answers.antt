@@ -1,5 +1,4 @@
 -- `joining::join_equal` meets its contract: those so far are joined, and behind one above the key none has it. Assumes nothing.
-use Prim.Native.Nat.{◌-◌}
 use native.Mathlib.Omega.{arith}
 use Rattle.location.specs.Plain.{plain}
 use Rattle.joining.proofs.Joining.{equal_start, equal_refused, equal_stop, equal_next, equal_done}

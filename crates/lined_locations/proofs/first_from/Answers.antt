@@ -1,5 +1,4 @@
 -- `lined_locations::first_from` meets its contract: the first that does not come before is at lo or after, and at hi or before. Assumes nothing.
-use Prim.Native.Nat.{◌-◌}
 use native.Mathlib.Omega.{arith}
 use mathlib.Core.Path.{sym, ◌∙◌}
 use Rattle.lined_locations.specs.Line.{location_of}

@@ -1,8 +1,7 @@
 -- `lined_locations::in_line` meets its contract: the locations before i are in line. Assumes nothing.
-use Prim.Native.Nat.{◌-◌}
 use native.Mathlib.Omega.{arith}
 use mathlib.Core.Path.{ap}
-use mathlib.Core.Bool.{true, not}
+use mathlib.Core.Bool.{not}
 use borrow.Author.Tests.{ltb-true, ltb-false}
 use Rattle.lined_locations.specs.Line.{location_of}
 use Rattle.lined_locations.proofs.Neighbours.{line_start, line_next, line_refused, line_done}

@@ -1,6 +1,5 @@
 -- `lines::line_end` meets its contract: where the line ends is the same from each byte of it on. Assumes nothing.
 use native.Mathlib.Omega.{arith}
-use Prim.Native.Nat.{◌-◌}
 use mathlib.Core.Path.{◌∙◌}
 use Rattle.lines.proofs.LineEnds.{end_out, end_here, end_on}
 use Rattle.lines.proofs.line_end.Goals as goal

@@ -1,5 +1,4 @@
 -- `list_writer::put_run` meets its contract: the locations of the tails passed are copied. Assumes nothing.
-use Prim.Native.Nat.{◌-◌}
 use native.Mathlib.Omega.{arith}
 use Rattle.list_writer.proofs.Copying.{copy_start, copy_asks, copy_turn, copy_done}
 use Rattle.list_writer.proofs.put_run.Goals as goal

@@ -1,5 +1,4 @@
 -- `list_writer::put_wholes` meets its contract: the locations of the whole pieces passed are copied. Assumes nothing.
-use Prim.Native.Nat.{◌-◌}
 use native.Mathlib.Omega.{arith}
 use Rattle.list_writer.proofs.Copying.{whole_start, whole_asks, whole_turn, copy_done}
 use Rattle.list_writer.proofs.put_wholes.Goals as goal

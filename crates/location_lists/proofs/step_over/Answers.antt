@@ -1,5 +1,4 @@
 -- `location_lists::step_over` meets its contract: stepping over the key in what is left of the lists gives what it gives in all. Assumes nothing.
-use Prim.Native.Nat.{◌-◌}
 use native.Mathlib.Omega.{arith}
 use Rattle.location.specs.Plain.{plain}
 use Rattle.location_lists.proofs.Walk.{times_le, stepping_start, stepping_again, stepping_done}

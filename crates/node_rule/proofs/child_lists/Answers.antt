@@ -1,5 +1,4 @@
 -- `node_rule::child_lists` meets its contract: the lists gone over, and then those of the entries ahead, are those of all children. Assumes nothing.
-use Prim.Native.Nat.{◌-◌}
 use native.Mathlib.Omega.{arith}
 use mathlib.Core.Path.{sym, ap, ◌∙◌}
 use Rattle.image_walk.specs.Answers.{entry_of_answer}

@@ -1,6 +1,6 @@
 -- `numerals::read_digits` meets its contract: the digits passed make x, and what stands behind them decides. Assumes nothing.
 use native.Mathlib.Omega.{arith}
-use Prim.Native.Nat.{◌+◌, ◌-◌, ◌*◌}
+use Prim.Native.Nat.{◌+◌, ◌*◌}
 use mathlib.Core.Path.{refl, sym, ◌∙◌}
 use mathlib.Core.Bool.{true}
 use lib.ListN.{get_or}

@@ -1,5 +1,5 @@
 -- `ordering::enter_pieces` meets its contract: after each new piece the certificate in memory has room for those to come. Assumes nothing.
-use Prim.Native.Nat.{◌+◌, ◌-◌, ◌*◌, ◌≤◌}
+use Prim.Native.Nat.{◌+◌, ◌*◌, ◌≤◌}
 use native.Mathlib.Omega.{arith}
 use lib.ListN.{length}
 use Rattle.location.specs.Plain.{plain}

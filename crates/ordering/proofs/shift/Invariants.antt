@@ -1,5 +1,5 @@
 -- `ordering::shift` meets its contract: the entries from number k on are moved, those before it are as they were. Assumes nothing.
-use Prim.Native.Nat.{◌-◌, ◌≤◌}
+use Prim.Native.Nat.{◌≤◌}
 use mathlib.Core.Path.{◌≡◌}
 use lib.ListN.{length}
 use Rattle.ordering.proofs.Writes.{moved}

@@ -1,5 +1,4 @@
 -- `place_buffer::take_each` meets its contract: the locations so far are added, and a refused set stays refused. Assumes nothing.
-use Prim.Native.Nat.{◌-◌}
 use native.Mathlib.Omega.{arith}
 use Rattle.place_buffer.proofs.Adding.{take_start, take_next, take_refused, take_done}
 use Rattle.place_buffer.proofs.take_each.Goals as goal

@@ -1,5 +1,4 @@
 -- `place_lookup::ascends` meets its contract: those so far ascend. Assumes nothing.
-use Prim.Native.Nat.{◌-◌}
 use native.Mathlib.Omega.{arith}
 use mathlib.Core.Path.{sym, ◌∙◌}
 use Rattle.place_lookup.proofs.Order.{ascends_none, ascends_one, ascends_on, ascends_no, ascends_all}

@@ -1,5 +1,4 @@
 -- `place_lookup::count_both` meets its contract: the places of the second list so far are counted with those of the first. Assumes nothing.
-use Prim.Native.Nat.{◌-◌}
 use native.Mathlib.Omega.{arith}
 use Rattle.place_lookup.proofs.Counting.{both_start, both_next, both_done}
 use Rattle.place_lookup.proofs.count_both.Goals as goal

@@ -1,5 +1,4 @@
 -- `row_buffer::row_end` meets its contract: the places so far are of the row, and of those left as many as go on with it. Assumes nothing.
-use Prim.Native.Nat.{◌-◌}
 use mathlib.Core.Path.{sym, ◌∙◌}
 use Rattle.row_buffer.proofs.Rows.{going_start, going_again, going_stop, going_done}
 use Rattle.row_buffer.proofs.row_end.Goals as goal

@@ -1,5 +1,5 @@
 -- `row_replies::put_rows` meets its contract: the rows before index i are written. Assumes nothing.
-use Prim.Native.Nat.{◌-◌, ◌*◌}
+use Prim.Native.Nat.{◌*◌}
 use native.Mathlib.Omega.{arith}
 use borrow.Author.Rules.{rules}
 use Rattle.definitions.specs.Location.{location_at}

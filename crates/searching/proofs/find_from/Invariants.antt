@@ -1,5 +1,5 @@
 -- `searching::find_from` meets its contract. The loop's invariant: the places from i on stand in scratch, but for those of the last byte. Assumes nothing.
-use Prim.Native.Nat.{◌+◌, ◌-◌, ◌≤◌, ◌<◌}
+use Prim.Native.Nat.{◌+◌, ◌≤◌, ◌<◌}
 use mathlib.Core.Path.{◌≡◌}
 use lib.ListN.{length, get_or}
 use Rattle.definitions.specs.Places.{sizes}

@@ -1,5 +1,4 @@
 -- `single_runs::common_run` meets its contract. Assumes nothing.
-use Prim.Native.Nat.{◌-◌}
 use native.Mathlib.Omega.{arith}
 use borrow.Author.Tests.{not-false}
 use Rattle.single_runs.proofs.RunLaws.{run_more, run_none, run_other, run_table}

@@ -1,5 +1,4 @@
 -- `single_runs::single_run` meets its contract. Assumes nothing.
-use Prim.Native.Nat.{◌-◌}
 use native.Mathlib.Omega.{arith}
 use Rattle.single_runs.proofs.SingleLaws.{singles_more, singles_none, singles_table}
 use Rattle.single_runs.proofs.single_run.Goals as goal

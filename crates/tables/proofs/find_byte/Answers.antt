@@ -1,5 +1,5 @@
 -- `tables::find_byte` meets its contract. Assumes nothing.
-use Prim.Native.Nat.{◌-◌, ℕ}
+use Prim.Native.Nat.{ℕ}
 use native.Mathlib.Omega.{arith}
 use mathlib.Core.Path.{◌∙◌, ◌≡◌, ap}
 use Rattle.image_format.proofs.Entries.{find_end, find_here, find_on}

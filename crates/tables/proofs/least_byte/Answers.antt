@@ -1,5 +1,5 @@
 -- `tables::least_byte` meets its contract. Assumes nothing.
-use Prim.Native.Nat.{◌*◌, ◌+◌, ◌-◌, ℕ}
+use Prim.Native.Nat.{◌*◌, ◌+◌, ℕ}
 use native.Mathlib.Omega.{arith}
 use mathlib.Core.Path.{◌≡◌, subst}
 use Rattle.image_format.proofs.Entries.{least_more, least_none}

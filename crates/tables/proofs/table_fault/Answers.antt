@@ -1,5 +1,5 @@
 -- `tables::table_fault` meets its contract. Assumes nothing.
-use Prim.Native.Nat.{◌-◌, ℕ}
+use Prim.Native.Nat.{ℕ}
 use native.Mathlib.Omega.{arith}
 use mathlib.Core.Path.{◌∙◌, ap}
 use Rattle.image_format.proofs.Entries.{fault_cut, fault_end, fault_on, fault_short, fault_twice}

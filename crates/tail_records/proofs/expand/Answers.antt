@@ -1,6 +1,5 @@
 -- `tail_records::expand` meets its contract: what is still to be written of the log, written, is always the same.
 -- Assumes nothing.
-use Prim.Native.Nat.{◌-◌}
 use Rattle.tail_records.proofs.Entering.{expanding_start, expanding_asks, expanding_turn, expanding_count, expanding_done}
 use Rattle.tail_records.proofs.expand.Goals as goal
 

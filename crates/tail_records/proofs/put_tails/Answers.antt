@@ -1,6 +1,5 @@
 -- `tail_records::put_tails` meets its contract: what is still to be written of the piece, written, is always the same.
 -- Assumes nothing.
-use Prim.Native.Nat.{◌-◌}
 use native.Mathlib.Omega.{arith}
 use mathlib.Core.Path.{refl}
 use lib.ListN.{length-take, length-drop}

@@ -1,5 +1,5 @@
 -- `tail_words::high_word` meets its contract: after k bytes it has the number of k bytes. Assumes nothing.
-use Prim.Native.Nat.{ℕ, ◌-◌}
+use Prim.Native.Nat.{ℕ}
 use native.Mathlib.Omega.{arith}
 use mathlib.Core.Path.{◌≡◌, refl, ap, ◌∙◌}
 use lib.ListN.{take, drop}
