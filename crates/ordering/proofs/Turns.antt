@@ -4,7 +4,7 @@ use native.Mathlib.Omega.{arith}
 use mathlib.Core.Path.{◌≡◌, refl, sym, ap, ◌∙◌, subst}
 use mathlib.Core.Bool.{true}
 use mathlib.Core.List.{List, ◌++◌}
-use lib.ListN.{get_or}
+use lib.ListN.{length, get_or}
 use lib.Seq.{sets}
 use Rattle.words.specs.Words.{bytes64}
 use Rattle.definitions.specs.Location.{Location, location_at}
@@ -54,6 +54,10 @@ module _ {m₀ : List ℕ} {h : Header} {count new : ℕ} (t : Turn m₀ h count
 
     pub turn_low : k ≤ t.upto
     turn_low = moving_low m₀ t.bytes h count new t.entering t.m t.upto t.j t.moving t.more k found
+
+    -- the entries up to its place, moved, lie within the memory
+    pub turn_held : t.base + 16 * (k + new) ≤ length m₀
+    turn_held = omega (arith, turn_low, t.entering.room, t.there, t.moving.old)
 
     pub turn_on : (m₁ m₂ : List ℕ) → m₁ ≡ moved t.m t.base k t.upto (new - t.j) → m₂ ≡ sets m₁ (t.base + 16 * (k + new - t.j - 1)) (bytes64 (h.payload + t.j) ++ bytes64 x.destroyed) → Moving m₀ h count new m₂ k (t.j + 1)
     turn_on m₁ m₂ u v =

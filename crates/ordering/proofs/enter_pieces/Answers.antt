@@ -1,11 +1,9 @@
 -- `ordering::enter_pieces` meets its contract: after each new piece the certificate in memory has room for those to come. Assumes nothing.
-use Prim.Native.Nat.{◌+◌, ◌*◌, ◌≤◌}
 use native.Mathlib.Omega.{arith}
-use lib.ListN.{length}
 use Rattle.location.specs.Plain.{plain}
 use Rattle.memory_header.specs.Answers.{header_of}
 use Rattle.ordering.proofs.Moving.{moving_start, moving_end}
-use Rattle.ordering.proofs.Turns.{Turn, turn_within, turn_lined, turn_low, turn_on}
+use Rattle.ordering.proofs.Turns.{Turn, turn_within, turn_lined, turn_low, turn_held, turn_on}
 use Rattle.ordering.proofs.enter_pieces.Goals as goal
 
 pub certificate_at-base-requires : goal.certificate_at-base-requires
@@ -65,9 +63,7 @@ overflow_add-place c =
       moving = c.loop-j.invariant;
       more = c.loop-j-test.true;
     } in
-    let low = turn_low t (plain c.location_at-l.result) c.location_at-l.ensures c.first_from-k.result c.first_from-k.ensures in
-    -- the entries up to its place, moved, lie within the memory
-    let held : t.base + 16 * (c.first_from-k.result + a.new) ≤ length a.mem.now = omega (arith, low, t.entering.room, t.there, t.moving.old) in
+    let held = turn_held t (plain c.location_at-l.result) c.location_at-l.ensures c.first_from-k.result c.first_from-k.ensures in
     omega (arith, held, c.well_formed.0)
 
 pub overflow_mul-place : goal.overflow_mul-place
@@ -84,9 +80,7 @@ overflow_mul-place c =
       moving = c.loop-j.invariant;
       more = c.loop-j-test.true;
     } in
-    let low = turn_low t (plain c.location_at-l.result) c.location_at-l.ensures c.first_from-k.result c.first_from-k.ensures in
-    -- the entries up to its place, moved, lie within the memory
-    let held : t.base + 16 * (c.first_from-k.result + a.new) ≤ length a.mem.now = omega (arith, low, t.entering.room, t.there, t.moving.old) in
+    let held = turn_held t (plain c.location_at-l.result) c.location_at-l.ensures c.first_from-k.result c.first_from-k.ensures in
     omega (arith, held, c.well_formed.0)
 
 pub overflow_add-place-in-loop-j : goal.overflow_add-place-in-loop-j
@@ -103,9 +97,7 @@ overflow_add-place-in-loop-j c =
       moving = c.loop-j.invariant;
       more = c.loop-j-test.true;
     } in
-    let low = turn_low t (plain c.location_at-l.result) c.location_at-l.ensures c.first_from-k.result c.first_from-k.ensures in
-    -- the entries up to its place, moved, lie within the memory
-    let held : t.base + 16 * (c.first_from-k.result + a.new) ≤ length a.mem.now = omega (arith, low, t.entering.room, t.there, t.moving.old) in
+    let held = turn_held t (plain c.location_at-l.result) c.location_at-l.ensures c.first_from-k.result c.first_from-k.ensures in
     omega (arith, held, c.well_formed.0)
 
 pub put_entry-requires : goal.put_entry-requires
@@ -122,9 +114,7 @@ put_entry-requires c =
       moving = c.loop-j.invariant;
       more = c.loop-j-test.true;
     } in
-    let low = turn_low t (plain c.location_at-l.result) c.location_at-l.ensures c.first_from-k.result c.first_from-k.ensures in
-    -- the entries up to its place, moved, lie within the memory
-    let held : t.base + 16 * (c.first_from-k.result + a.new) ≤ length a.mem.now = omega (arith, low, t.entering.room, t.there, t.moving.old) in
+    let held = turn_held t (plain c.location_at-l.result) c.location_at-l.ensures c.first_from-k.result c.first_from-k.ensures in
     omega (arith, held, t.moving.long, t.more, c.shift.auto.mem)
 
 pub loop-j-preserved : goal.loop-j-preserved
