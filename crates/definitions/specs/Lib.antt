@@ -6,6 +6,8 @@ pub mod Rows
 pub mod Runs
 pub mod Conflicts
 pub mod Causes
+pub mod Refusals
+pub mod SpaceKinds
 pub mod Calls
 pub mod Recording
 pub mod BlockStream

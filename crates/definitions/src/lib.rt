@@ -1,6 +1,12 @@
 // The numbers of documents 01 and 02 that the code shares: refusals, and limits.
 #![tactic(auto)]
 
+pub mod refusal;
+pub mod space_kind;
+
+pub use refusal::Refusal;
+pub use space_kind::{SpaceKind, UnknownKind};
+
 // Opening with 0 or over 1,048,576 nodes or entries, or with more than the lent memory holds.
 pub const CAPACITY_REFUSED: u64 = 16;
 // Lent memory breaks the index rule.
