@@ -3,14 +3,47 @@
 #![tactic(auto)]
 
 ghost use Rattle.std.specs.Prelude.{◌≡◌, ◌+◌, ◌^◌, ◌<◌};
+ghost use Rattle.tally.specs.Phases.{phase_number, Decodes};
 ghost use Rattle.tally.specs.Tallied.{recorded, finished};
 
-// The phase is 0 in an open index and 1 in a finished one.
-#[derive(Clone, Copy)]
+// An open index takes blocks, a finished one is searched. The header has the number in the declaration.
+#[derive(Clone, Copy, Debug, PartialEq, Eq)]
+pub enum Phase {
+    Open = 0,
+    Finished = 1,
+}
+
+// A number that is no phase's.
+#[derive(Clone, Copy, Debug, PartialEq, Eq)]
+pub struct UnknownPhase(pub u64);
+
+impl Phase {
+    pub fn number(self) -> u64
+        ensures { result ≡ phase_number self }
+    {
+        self as u64
+    }
+}
+
+impl TryFrom<u64> for Phase {
+    type Error = UnknownPhase;
+
+    ghost try_from_gives = { Decodes };
+
+    fn try_from(n: u64) -> Result<Self, UnknownPhase> {
+        match n {
+            0 => Ok(Phase::Open),
+            1 => Ok(Phase::Finished),
+            _ => Err(UnknownPhase(n)),
+        }
+    }
+}
+
+#[derive(Clone, Copy, Debug, PartialEq, Eq)]
 pub struct Tally {
     pub nodes: usize,
     pub entries: usize,
-    pub phase: u64,
+    pub phase: Phase,
 }
 
 // The tally after a block that charges these nodes and entries.
@@ -21,18 +54,18 @@ fn recorded(t: Tally, nodes: usize, entries: usize) -> Tally
     Tally {
         nodes: t.nodes + nodes,
         entries: t.entries + entries,
-        phase: t.phase,
+        ..t
     }
 }
 
-// The tally of a finished index that is left with these nodes and entries, whatever it was before.
-fn finished(t: Tally, nodes: usize, entries: usize) -> Tally
+// The tally of a finished index that is left with these nodes and entries.
+fn finished(nodes: usize, entries: usize) -> Tally
     ensures { result ≡ finished nodes entries }
 {
     Tally {
         nodes,
         entries,
-        phase: 1,
+        phase: Phase::Finished,
     }
 }
 
@@ -44,9 +77,9 @@ pub fn record(t: &mut Tally, nodes: usize, entries: usize)
     *t = recorded(*t, nodes, entries);
 }
 
-// Sets the lent tally as finish does.
+// Sets the lent tally as finish does, whatever it was before.
 pub fn finish(t: &mut Tally, nodes: usize, entries: usize)
     ensures { t.new ≡ finished nodes entries }
 {
-    *t = finished(*t, nodes, entries);
+    *t = finished(nodes, entries);
 }
