@@ -1,0 +1,2 @@
+-- The steps of the search by halves.
+pub mod Halves

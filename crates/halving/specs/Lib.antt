@@ -1,0 +1,2 @@
+-- What a test that is asked by number parts.
+pub mod Halving
