@@ -1,14 +1,14 @@
 -- Writing tails: the numbers of one record, what is read of a piece, and one tail after the other. Assumes nothing.
-use Prim.Native.Nat.{ℕ, suc, ◌+◌, ◌-◌, ◌*◌, ◌≤◌, ◌<◌}
+use Prim.Native.Nat.{ℕ, suc, ◌+◌, ◌-◌, ◌*◌, ◌≤◌, ◌<◌, min}
 use native.Mathlib.Numerals.{add-one}
 use native.Mathlib.Omega.{arith}
 use mathlib.Core.Path.{◌≡◌, refl, sym, ap, ◌∙◌}
 use mathlib.Core.Bool.{Bool}
 use mathlib.Core.List.{List, [], ◌∷◌, ◌++◌}
 use lib.ListN.{length, get_or, take, drop, length-take, length-drop}
-use lib.Seq.{sets, length-sets, take_all, take-take, ext_get_or}
+use lib.Seq.{sets, take-take, ext_get_or}
 use Rattle.words.specs.Words.{le64, set_le64}
-use Rattle.words.proofs.Parts.{set_le64_sets, take_sets}
+use Rattle.words.proofs.Parts.{set_le64_sets}
 use Rattle.definitions.specs.Location.{Location, location_at, location_bytes}
 use Rattle.definitions.specs.Blocks.{Piece}
 use Rattle.definitions.specs.Calls.{last_number}
@@ -53,25 +53,18 @@ module _ (at first second mark : ℕ) (l : Location) (arrival : ℕ) where
   record_in_turn xs ys zs us vs ws p q r s t = cc (all_numbers xs)
 
 -- the numbers of a tail: the second is made of what is behind the first eight bytes of its path, or of none
-module _ (bs : List ℕ) (whole : Bool) (n o first second mark arrival : ℕ) (l : Location) where
-  pub tail_numbers : n ≡ length bs → o ≡ n - 8 → first ≡ high 8 (take n (drop 0 bs)) 0 → second ≡ high 8 (take o (drop (n - o) bs)) 0
-      → mark ≡ 2 * n + mark_of whole → numbers first second mark l arrival ≡ tail_record (record { entry = record { path = bs; at = l; whole = whole }; arrival = arrival })
-  tail_numbers e f p q r =
-      let a : first ≡ high 8 bs 0 = p ∙ ap (λ (ys : List ℕ). high 8 ys 0) (take_all n bs (omega arith)) in
-      let b : second ≡ high 8 (drop 8 bs) 0 = q ∙ ap (λ (ys : List ℕ). high 8 ys 0) rest in
-      let c : mark ≡ 2 * length bs + mark_of whole = r ∙ ap (λ (m : ℕ). 2 * m + mark_of whole) e in
-      λ j. numbers (a j) (b j) (c j) l arrival
+module _ (bs : List ℕ) (whole : Bool) (n first second mark arrival : ℕ) (l : Location) where
+  pub tail_numbers : n ≡ min (length bs) 8 → first ≡ high 8 bs 0 → second ≡ high 8 (drop n bs) 0 → mark ≡ 2 * length bs + mark_of whole
+      → numbers first second mark l arrival ≡ tail_record (record { entry = record { path = bs; at = l; whole = whole }; arrival = arrival })
+  tail_numbers e p q r =
+      let f : drop n bs ≡ drop 8 bs = ext_get_or 0 (drop n bs) (drop 8 bs) (omega (arith, length-drop n bs, length-drop 8 bs)) (λ k h. same k (omega (arith, length-drop n bs))) in
+      let b : second ≡ high 8 (drop 8 bs) 0 = q ∙ ap (λ (ys : List ℕ). high 8 ys 0) f in
+      λ j. numbers (p j) (b j) (r j) l arrival
     where
-      same : (k : ℕ) → k < o → get_or (drop (n - o) bs) k 0 ≡ get_or (drop 8 bs) k 0
+      same : (k : ℕ) → n + k < length bs → get_or (drop n bs) k 0 ≡ get_or (drop 8 bs) k 0
       same k h =
-          let g : n - o ≡ 8 = omega (arith, f) in
+          let g : n ≡ 8 = omega arith in
           ap (λ (j : ℕ). get_or (drop j bs) k 0) g
-
-      rest : take o (drop (n - o) bs) ≡ drop 8 bs
-      rest =
-          take_all o (drop (n - o) bs) (omega (arith, length-drop (n - o) bs))
-          ∙ ext_get_or 0 (drop (n - o) bs) (drop 8 bs) (omega (arith, length-drop (n - o) bs, length-drop 8 bs))
-          (λ k h. same k (omega (arith, length-drop (n - o) bs)))
 
 -- ── a piece ──
 
@@ -88,28 +81,20 @@ pub record Read (p : Piece) (m : ℕ) (l : Location) (bytes : List ℕ) : Type 0
   pub address : l.address + m ≤ last_number
   pub part : (i : ℕ) → take (m - i) (drop i bytes) ≡ drop i p.bytes
 
-pub piece_read : (s : List ℕ) (piece m : ℕ) (l : Location) (bytes zs : List ℕ) → SoundPiece s piece → piece + 48 ≤ length s
-    → m ≡ le64 s piece → l ≡ location_at s (piece + 24) → length zs ≡ 16 → bytes ≡ sets zs 0 (take 16 (drop (piece + 8) s)) → Read (piece_in s piece) m l bytes
-piece_read s piece m l bytes zs sound room e f z g = record {
+pub piece_read : (s : List ℕ) (piece m : ℕ) (l : Location) (bytes : List ℕ) → SoundPiece s piece → piece + 48 ≤ length s
+    → m ≡ le64 s piece → l ≡ location_at s (piece + 24) → bytes ≡ take 16 (drop (piece + 8) s) → Read (piece_in s piece) m l bytes
+piece_read s piece m l bytes sound room e f g = record {
   short = omega arith;
-  long = ap length g ∙ length-sets zs 0 from ∙ z;
+  long = ap length g ∙ omega (arith, length-take 16 (drop (piece + 8) s), length-drop (piece + 8) s);
   size = piece_length s piece sound.short (omega arith) ∙ sym e;
   place = f;
   address = omega (arith, ap (λ (k : Location). k.address) f);
   part = part;
 }
   where
-    from : List ℕ
-    from = take 16 (drop (piece + 8) s)
-
-    all : bytes ≡ from
-    all =
-        let n : length from ≡ 16 = omega (arith, length-take 16 (drop (piece + 8) s), length-drop (piece + 8) s) in
-        g ∙ sym (take_all (length from) (sets zs 0 from) (omega (arith, length-sets zs 0 from))) ∙ take_sets from zs 0 (omega arith)
-
     part : (i : ℕ) → take (m - i) (drop i bytes) ≡ drop i (piece_in s piece).bytes
     part i =
-        ap (λ (bs : List ℕ). take (m - i) (drop i bs)) all
+        ap (λ (bs : List ℕ). take (m - i) (drop i bs)) g
         ∙ ap (take (m - i)) (part_drop 16 s (piece + 8) i (16 - i) (piece + 8 + i) refl refl)
         ∙ take-take (m - i) (16 - i) (drop (piece + 8 + i) s) (omega arith)
         ∙ sym (part_drop (le64 s piece) s (piece + 8) i (m - i) (piece + 8 + i) (omega arith) refl)

@@ -1,11 +1,7 @@
 -- `tail_records::expand` meets its contract: what is still to be written of the log, written, is always the same.
 -- Assumes nothing.
-use Prim.Native.Nat.{◌-◌}
 use Rattle.tail_records.proofs.Entering.{Expanding}
 use Rattle.tail_records.proofs.expand.Given as goal
 
 abbrev pub invariant-loop-j : goal.invariant-loop-j
 invariant-loop-j l = Expanding l.initial.mem l.pieces l.work l.mem l.t l.j
-
-abbrev pub decreases-loop-j : goal.decreases-loop-j
-decreases-loop-j l = l.pieces - l.j

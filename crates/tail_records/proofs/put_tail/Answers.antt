@@ -14,4 +14,4 @@ returns c =
     let a = c.args in
     record_in_turn a.at c.high_word.result c.high_word-2.result c.third.result (plain a.l) a.arrival a.mem.now _ _ _ _ _ c.put64.ensures c.put64-2.ensures c.put64-3.ensures c.put_location.ensures c.put64-4.ensures
     ∙ ap (λ (q : List ℕ). sets a.mem.now a.at (record_bytes q))
-    (tail_numbers a.path.now a.whole (length a.path.now) c.over8-over.result c.high_word.result c.high_word-2.result c.third.result a.arrival (plain a.l) refl c.over8-over.ensures c.high_word.ensures c.high_word-2.ensures c.third.ensures)
+    (tail_numbers a.path.now a.whole c.min.result c.high_word.result c.high_word-2.result c.third.result a.arrival (plain a.l) c.min.ensures c.high_word.ensures c.high_word-2.ensures c.third.ensures)

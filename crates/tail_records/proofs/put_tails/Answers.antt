@@ -10,7 +10,7 @@ use Rattle.tail_records.proofs.put_tails.Goals as goal
 pub loop-i-init : goal.loop-i-init
 loop-i-init c =
     let p = c.requires in
-    putting_start (piece_read _ _ _ _ _ _ p.0 (omega arith) c.get64-m.ensures c.location_at-l.ensures refl c.copy.ensures) p.2
+    putting_start (piece_read _ _ _ _ _ p.0 (omega arith) c.get64-m.ensures c.location_at-l.ensures c.copy_from_slice.ensures) p.2
 
 pub overflow_mul-t : goal.overflow_mul-t
 overflow_mul-t c = omega (arith, putting_room c.loop-i.invariant)
