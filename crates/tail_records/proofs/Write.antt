@@ -6,7 +6,7 @@ use mathlib.Core.Path.{◌≡◌, refl, sym, ap, ◌∙◌}
 use mathlib.Core.Bool.{Bool}
 use mathlib.Core.List.{List, [], ◌∷◌, ◌++◌}
 use lib.ListN.{length, get_or, take, drop, length-take, length-drop}
-use lib.Seq.{sets, take-take, ext_get_or}
+use lib.Seq.{sets, take_all, take-take, ext_get_or}
 use Rattle.words.specs.Words.{le64, set_le64}
 use Rattle.words.proofs.Parts.{set_le64_sets}
 use Rattle.definitions.specs.Location.{Location, location_at, location_bytes}
@@ -54,10 +54,11 @@ module _ (at first second mark : ℕ) (l : Location) (arrival : ℕ) where
 
 -- the numbers of a tail: the second is made of what is behind the first eight bytes of its path, or of none
 module _ (bs : List ℕ) (whole : Bool) (n first second mark arrival : ℕ) (l : Location) where
-  pub tail_numbers : n ≡ min (length bs) 8 → first ≡ high 8 bs 0 → second ≡ high 8 (drop n bs) 0 → mark ≡ 2 * length bs + mark_of whole
+  pub tail_numbers : n ≡ min (length bs) 8 → first ≡ high 8 bs 0 → second ≡ high 8 (take (length bs - n) (drop n bs)) 0 → mark ≡ 2 * length bs + mark_of whole
       → numbers first second mark l arrival ≡ tail_record (record { entry = record { path = bs; at = l; whole = whole }; arrival = arrival })
   tail_numbers e p q r =
-      let f : drop n bs ≡ drop 8 bs = ext_get_or 0 (drop n bs) (drop 8 bs) (omega (arith, length-drop n bs, length-drop 8 bs)) (λ k h. same k (omega (arith, length-drop n bs))) in
+      let f : take (length bs - n) (drop n bs) ≡ drop 8 bs =
+      take_all (length bs - n) (drop n bs) (omega (arith, length-drop n bs)) ∙ ext_get_or 0 (drop n bs) (drop 8 bs) (omega (arith, length-drop n bs, length-drop 8 bs)) (λ k h. same k (omega (arith, length-drop n bs))) in
       let b : second ≡ high 8 (drop 8 bs) 0 = q ∙ ap (λ (ys : List ℕ). high 8 ys 0) f in
       λ j. numbers (p j) (b j) (r j) l arrival
     where
@@ -82,19 +83,24 @@ pub record Read (p : Piece) (m : ℕ) (l : Location) (bytes : List ℕ) : Type 0
   pub part : (i : ℕ) → take (m - i) (drop i bytes) ≡ drop i p.bytes
 
 pub piece_read : (s : List ℕ) (piece m : ℕ) (l : Location) (bytes : List ℕ) → SoundPiece s piece → piece + 48 ≤ length s
-    → m ≡ le64 s piece → l ≡ location_at s (piece + 24) → bytes ≡ take 16 (drop (piece + 8) s) → Read (piece_in s piece) m l bytes
+    → m ≡ le64 s piece → l ≡ location_at s (piece + 24) → bytes ≡ take (piece + 8 + 16 - (piece + 8)) (drop (piece + 8) s) → Read (piece_in s piece) m l bytes
 piece_read s piece m l bytes sound room e f g = record {
   short = omega arith;
-  long = ap length g ∙ omega (arith, length-take 16 (drop (piece + 8) s), length-drop (piece + 8) s);
+  long = ap length all ∙ omega (arith, length-take 16 (drop (piece + 8) s), length-drop (piece + 8) s);
   size = piece_length s piece sound.short (omega arith) ∙ sym e;
   place = f;
   address = omega (arith, ap (λ (k : Location). k.address) f);
   part = part;
 }
   where
+    all : bytes ≡ take 16 (drop (piece + 8) s)
+    all =
+        let n : piece + 8 + 16 - (piece + 8) ≡ 16 = omega arith in
+        g ∙ ap (λ (k : ℕ). take k (drop (piece + 8) s)) n
+
     part : (i : ℕ) → take (m - i) (drop i bytes) ≡ drop i (piece_in s piece).bytes
     part i =
-        ap (λ (bs : List ℕ). take (m - i) (drop i bs)) g
+        ap (λ (bs : List ℕ). take (m - i) (drop i bs)) all
         ∙ ap (take (m - i)) (part_drop 16 s (piece + 8) i (16 - i) (piece + 8 + i) refl refl)
         ∙ take-take (m - i) (16 - i) (drop (piece + 8 + i) s) (omega arith)
         ∙ sym (part_drop (le64 s piece) s (piece + 8) i (m - i) (piece + 8 + i) (omega arith) refl)

@@ -1,8 +1,7 @@
 -- `tail_records::put_tail` meets its contract: what it writes, one after the other, are the numbers of the tail. Assumes nothing.
 use Prim.Native.Nat.{ℕ}
-use mathlib.Core.Path.{refl, ap, ◌∙◌}
+use mathlib.Core.Path.{ap, ◌∙◌}
 use mathlib.Core.List.{List}
-use lib.ListN.{length}
 use lib.Seq.{sets}
 use Rattle.location.specs.Plain.{plain}
 use Rattle.records.specs.Records.{record_bytes}

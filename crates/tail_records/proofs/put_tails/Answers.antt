@@ -1,7 +1,6 @@
 -- `tail_records::put_tails` meets its contract: what is still to be written of the piece, written, is always the same.
 -- Assumes nothing.
 use native.Mathlib.Omega.{arith}
-use mathlib.Core.Path.{refl}
 use lib.ListN.{length-take, length-drop}
 use Rattle.tail_records.proofs.Write.{piece_read}
 use Rattle.tail_records.proofs.Entering.{putting_start, putting_room, putting_turn, putting_count, putting_done}
@@ -10,7 +9,7 @@ use Rattle.tail_records.proofs.put_tails.Goals as goal
 pub loop-i-init : goal.loop-i-init
 loop-i-init c =
     let p = c.requires in
-    putting_start (piece_read _ _ _ _ _ p.0 (omega arith) c.get64-m.ensures c.location_at-l.ensures c.copy_from_slice.ensures) p.2
+    putting_start (piece_read _ _ _ _ _ p.0 (omega arith) c.get64-m.ensures c.location_at-l.ensures c.copy_from_slice.ensures.after) p.2
 
 pub overflow_mul-t : goal.overflow_mul-t
 overflow_mul-t c = omega (arith, putting_room c.loop-i.invariant)
