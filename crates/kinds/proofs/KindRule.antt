@@ -1,15 +1,18 @@
 -- The rule of the table of kinds: its ranges have the counts from 0 to 256, each in exactly one, and no others.
 -- Assumes nothing.
-use Prim.Native.Nat.{◌+◌, ◌-◌, ◌<◌, ◌≤◌, suc, zero, ℕ}
+use Prim.Native.Nat.{◌<◌, ◌≤◌, ℕ}
 use native.Mathlib.Omega.{arith}
 use mathlib.Core.Bool.{Bool, ◌&&◌, cond, false, true}
-use mathlib.Core.List.{[], ◌∷◌}
-use mathlib.Core.Logic.{◌⊎◌, inl, inr}
-use mathlib.Core.Path.{◌∙◌, ◌≡◌, refl, sym}
+use mathlib.Core.Path.{◌∙◌, ◌≡◌, refl, subst, sym}
 use lib.Dec.{eqb, leb}
-use lib.ListN.{get_or}
-use borrow.Author.Tests.{eqb-true, le-leb, leb-false, leb-true, lt-leb}
-use Rattle.kinds.specs.Kinds.{fits, kind_of, kinds}
+use borrow.Author.Tests.{eqb-false, eqb-true, le-leb, leb-false, leb-true, lt-leb}
+use Rattle.std.specs.Prelude.{Option, Some, None, IsSome, option_map}
+use Rattle.std.specs.Option.{option_eq}
+use Rattle.kinds.specs.contracts.NodeKindPartialEq
+use Rattle.std.specs.List.{find}
+use Rattle.kinds.specs.Kinds.{fits, has, kind_in, kind_number, kind_of, kinds}
+use Rattle.kinds.specs.declared.NodeKind.{NodeKind}
+use Rattle.kinds.specs.declared.NodeKind.TheVariants as K
 use Rattle.kinds.specs.declared.KindRange.{KindRange}
 use Rattle.kinds.specs.KindPromises.{SomeRange, OneRange}
 
@@ -106,43 +109,58 @@ one_range k n e = go (fits_view k n e)
     go (two x a b) = (omega arith, x ∙ sym (kind_two n a b))
     go (one x a b) = (b, x ∙ sym (kind_one n a b))
 
+-- a kind may have a count exactly if it is that count's kind
+pub fits_eqb : (k : NodeKind) (n : ℕ) → eqb (kind_of n) (kind_number k) ≡ fits (kind_number k) n
+fits_eqb k n = go (eqb (kind_of n) (kind_number k)) refl (fits (kind_number k) n) refl (leb n 256) refl
+  where
+    some : (k : NodeKind) → 0 < kind_number k
+    some K.Dense = omega arith
+    some K.ByByte = omega arith
+    some K.ByArrival = omega arith
+
+    go : (p : Bool) → eqb (kind_of n) (kind_number k) ≡ p → (q : Bool) → fits (kind_number k) n ≡ q → (r : Bool) → leb n 256 ≡ r → p ≡ q
+    go true x true y r z = refl
+    go true x false y true z = sym (subst (λ m. fits m n ≡ true) (eqb-true (kind_of n) (kind_number k) x) (some_range n (leb-true n 256 z))) ∙ y
+    go true x false y false z = absurd (omega (arith, some k, eqb-true (kind_of n) (kind_number k) x, kind_none n (leb-false n 256 z)))
+    go false x true y r z = absurd (eqb-false (kind_of n) (kind_number k) x (sym (one_range (kind_number k) n y).1))
+    go false x false y r z = refl
+
+-- a count of at most 256 has a kind
+pub has_kind : (n : ℕ) (o : Option NodeKind) → kind_in o ≡ kind_of n → n ≤ 256 → IsSome o
+has_kind n (Some k) e h = refl
+has_kind n None e h = absurd (go (fits_view (kind_of n) n (some_range n h)))
+  where
+    go : Fits (kind_of n) n → ⊥
+    go (three x a) = omega (arith, e)
+    go (two x a b) = omega (arith, e)
+    go (one x a b) = omega (arith, e)
+
 -- ── the table as the code reads it ──
 
-abbrev pub blank : KindRange
-blank = record { kind = 0; lowest = 0; highest = 0 }
+-- the comparison of kinds is that of their numbers
+pub same_kind : (o : Option NodeKind) (k : NodeKind) → option_eq NodeKindPartialEq.TheImpl.eq-value.it o (Some k) ≡ eqb (kind_in o) (kind_number k)
+same_kind None K.Dense = refl
+same_kind None K.ByByte = refl
+same_kind None K.ByArrival = refl
+same_kind (Some K.Dense) K.Dense = refl
+same_kind (Some K.Dense) K.ByByte = refl
+same_kind (Some K.Dense) K.ByArrival = refl
+same_kind (Some K.ByByte) K.Dense = refl
+same_kind (Some K.ByByte) K.ByByte = refl
+same_kind (Some K.ByByte) K.ByArrival = refl
+same_kind (Some K.ByArrival) K.Dense = refl
+same_kind (Some K.ByArrival) K.ByByte = refl
+same_kind (Some K.ByArrival) K.ByArrival = refl
 
-pub fits_low : (k n : ℕ) → 1 ≤ k → k ≤ 3 → n < (get_or kinds (3 - k) blank).lowest → false ≡ fits k n
-unfolding fits
-fits_low zero n a b h = absurd (omega arith)
-fits_low (suc zero) n a b h = simp (lt-leb 97 n h)
-fits_low (suc (suc zero)) n a b h = simp (lt-leb 9 n h)
-fits_low (suc (suc (suc zero))) n a b h = absurd (omega arith)
-fits_low (suc (suc (suc (suc k)))) n a b h = absurd (omega arith)
-
-pub fits_high : (k n : ℕ) → 1 ≤ k → k ≤ 3 → (get_or kinds (3 - k) blank).lowest ≤ n → leb n (get_or kinds (3 - k) blank).highest ≡ fits k n
-unfolding fits
-fits_high zero n a b h = absurd (omega arith)
-fits_high (suc zero) n a b h = simp (le-leb 97 n h)
-fits_high (suc (suc zero)) n a b h = simp (le-leb 9 n h)
-fits_high (suc (suc (suc zero))) n a b h = simp (le-leb 0 n h)
-fits_high (suc (suc (suc (suc k)))) n a b h = absurd (omega arith)
-
--- the range that a count lies in has its kind
-pub at_range : (i n : ℕ) → i < 3 → (get_or kinds i blank).lowest ≤ n → n ≤ (get_or kinds i blank).highest → (get_or kinds i blank).kind ≡ kind_of n
-at_range zero n h a b = sym (kind_three n b)
-at_range (suc zero) n h a b = sym (kind_two n a b)
-at_range (suc (suc zero)) n h a b = sym (kind_one n a b)
-at_range (suc (suc (suc i))) n h a b = absurd (omega arith)
-
--- a count beyond the first i ranges
-abbrev pub beyond_all : ℕ → ℕ
-beyond_all i = get_or (0 ∷ 9 ∷ 97 ∷ 257 ∷ []) i 0
-
-pub beyond : (i n : ℕ) → i < 3 → beyond_all i ≤ n → (n < (get_or kinds i blank).lowest) ⊎ ((get_or kinds i blank).highest < n) → beyond_all (i + 1) ≤ n
-beyond zero n h a (inl b) = absurd (omega arith)
-beyond zero n h a (inr b) = b
-beyond (suc zero) n h a (inl b) = absurd (omega arith)
-beyond (suc zero) n h a (inr b) = b
-beyond (suc (suc zero)) n h a (inl b) = absurd (omega arith)
-beyond (suc (suc zero)) n h a (inr b) = b
-beyond (suc (suc (suc i))) n h a b = absurd (omega arith)
+-- the first range that has a count has its kind
+pub first_kind : (n : ℕ) (o : Option KindRange) → o ≡ find (λ r. has r n) kinds → kind_in (option_map (λ (r : KindRange). r.kind) o) ≡ kind_of n
+unfolding kind_of
+first_kind n o e = rw e (go (leb 0 n && leb n 8) (leb 9 n && leb n 96) (leb 97 n && leb n 256))
+  where
+    go : (p q r : Bool) →
+        kind_in (option_map (λ (r : KindRange). r.kind) (cond p (Some (record { kind = K.ByArrival; lowest = 0; highest = 8 })) (cond q (Some (record { kind = K.ByByte; lowest = 9; highest = 96 })) (cond r (Some (record { kind = K.Dense; lowest = 97; highest = 256 })) None))))
+        ≡ cond p 3 (cond q 2 (cond r 1 0))
+    go true q r = refl
+    go false true r = refl
+    go false false true = refl
+    go false false false = refl

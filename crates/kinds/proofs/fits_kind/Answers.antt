@@ -1,10 +1,11 @@
 -- `kinds::fits_kind` meets its contract. Assumes nothing.
-use native.Mathlib.Omega.{arith}
-use Rattle.kinds.proofs.KindRule.{fits_high, fits_low}
+use mathlib.Core.Path.{◌∙◌, ap}
+use lib.Dec.{eqb}
+use Rattle.kinds.specs.Kinds.{kind_number}
+use Rattle.kinds.proofs.KindRule.{fits_eqb, same_kind}
 use Rattle.kinds.proofs.fits_kind.Goals as goal
 
-pub returns-then-children-k : goal.returns-then-children-k
-returns-then-children-k c = fits_low c.args.kind c.args.children (omega arith) (omega arith) c.if-children-k.true
-
 pub returns : goal.returns
-returns c = fits_high c.args.kind c.args.children (omega arith) (omega arith) c.if-children-k.false
+returns c =
+    c.eq.ensures ∙ same_kind c.kind_of.result c.args.kind ∙ ap (λ k. eqb k (kind_number c.args.kind)) c.kind_of.ensures ∙
+    fits_eqb c.args.kind c.args.children

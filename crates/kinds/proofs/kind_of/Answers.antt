@@ -1,19 +1,18 @@
 -- `kinds::kind_of` meets its contract. Assumes nothing.
-use Prim.Native.Nat.{◌≤◌, ℕ}
-use native.Mathlib.Omega.{arith}
-use mathlib.Core.Logic.{inl, inr}
-use mathlib.Core.Path.{◌≡◌, subst, sym}
-use Rattle.kinds.proofs.KindRule.{at_range, beyond, beyond_all, kind_none}
+use Rattle.std.proofs.Common.{rules, Some, None}
+use borrow.Author.Tests.{tests}
+use Rattle.std.proofs.lemmas.Iterator.{YieldsList-from_slice}
+use Rattle.std.proofs.lemmas.Iterator.Search.{find_from_yields_List}
+use Rattle.kinds.specs.Kinds.{has, kinds}
+use Rattle.kinds.proofs.KindRule.{first_kind}
 use Rattle.kinds.proofs.kind_of.Goals as goal
-use Rattle.kinds.proofs.kind_of.Goals.{then-k-children+else-children-k, else-k-children}
 
-pub returns-then-children-k : goal.returns-then-children-k
-returns-then-children-k c = at_range c.loop-i.i c.args.children (omega arith) c.if-k-children.true c.if-children-k.true
-
-pub loop-i-preserved : goal.loop-i-preserved
-loop-i-preserved c = (omega arith, beyond c.loop-i.i c.args.children (omega arith) c.loop-i.invariant.1 (elim c.if-k-children.branch [ then-k-children+else-children-k w ↦ inr w.if-children-k.false | else-k-children w ↦ inl w.if-k-children.false ]))
+pub returns-in_err-range : goal.returns-in_err-range
+returns-in_err-range c =
+    rw c.from_residual.ensures
+    (first_kind c.args.children None (find_from_yields_List (λ r. has r c.args.children) c.find.new.self _ None c.in_err-range.ensures.ran (YieldsList-from_slice kinds cc) (λ x b q k. search (rules, tests))))
 
 pub returns : goal.returns
 returns c =
-    let e : c.loop-i.i ≡ 3 = omega arith in
-    sym (kind_none _ (subst (λ (k : ℕ). beyond_all k ≤ c.args.children) e c.loop-i.invariant.1))
+    first_kind c.args.children (Some c.in_ok-range.range.now)
+    (find_from_yields_List (λ r. has r c.args.children) c.find.new.self _ (Some c.in_ok-range.range) c.in_ok-range.ensures.ran (YieldsList-from_slice kinds cc) (λ x b q k. search (rules, tests)))
