@@ -9,8 +9,7 @@ use borrow.Author.Tests.{lt-ltb, le-ltb}
 use Rattle.definitions.specs.Location.{Location, locations_in, locations_bytes}
 use Rattle.definitions.specs.Rows.{combine_split_times}
 use Rattle.definitions.specs.Causes.{number, too_many_rows}
-use Rattle.row_buffer.specs.declared.Finding.{Finding}
-use Rattle.row_buffer.specs.Answer.{RowsFound, refused, finding_of, AtFront, rows_answer}
+use Rattle.row_buffer.specs.Answer.{RowsFound, Finding, refused, finding_of, AtFront, rows_answer}
 use Rattle.row_buffer.proofs.Standing.{rows_fit, rows_stand, rows_kept}
 
 -- what is said of what was found: the finding, and where its rows stand

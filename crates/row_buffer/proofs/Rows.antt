@@ -2,11 +2,9 @@
 use Prim.Native.Nat.{ℕ, zero, suc, ◌+◌, ◌-◌, ◌*◌, ◌≤◌, ◌<◌}
 use native.Mathlib.Nat.{not-suc-le-zero}
 use native.Mathlib.Omega.{arith}
-use mathlib.Core.Path.{◌≡◌, refl, sym, ap, subst, ◌∙◌}
+use mathlib.Core.Path.{◌≡◌, refl, ap, subst, ◌∙◌}
 use mathlib.Core.Bool.{Bool, true, false, cond}
 use mathlib.Core.List.{List, [], ◌∷◌}
-use lib.Dec.{eqb}
-use borrow.Author.Tests.{eq-eqb, ne_eqb}
 use Rattle.words.specs.Words.{le64}
 use Rattle.definitions.specs.Location.{Location, location_at, locations_in}
 use Rattle.definitions.specs.Rows.{goes_on, lengthened, combined, combine_split_times}
@@ -168,12 +166,3 @@ module _ {s : List ℕ} {n at end u : ℕ} (g : Going s n at end u) where
       upto = omega arith;
       size = g.size ∙ rw split (rw (tested t, ← e) (omega arith));
     }
-
--- ── `goes_on` ──
-
-module _ (s : List ℕ) (p address end : ℕ) (x : ℕ) (ex : x ≡ le64 s p) where
-  pub goes_there : (y : ℕ) → address ≡ x → y ≡ le64 s (p + 8) → eqb end y ≡ goes_on (ended address end) (location_at s p)
-  goes_there y e f = rw (eq-eqb address (le64 s p) (e ∙ ex), ← f) refl
-
-  pub goes_elsewhere : (address ≡ x → ⊥) → false ≡ goes_on (ended address end) (location_at s p)
-  goes_elsewhere n = rw (ne_eqb address (le64 s p) (λ e. n (e ∙ sym ex))) refl

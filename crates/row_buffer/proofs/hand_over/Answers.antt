@@ -5,7 +5,7 @@ use Rattle.row_buffer.proofs.Answering.{rows_refused, rows_written}
 use Rattle.row_buffer.proofs.hand_over.Goals as goal
 
 pub returns-then-room-count : goal.returns-then-room-count
-returns-then-room-count c = let w = rows_refused _ _ _ c.combine_split_times-count.ensures.count c.if-room-count.true c.no_rows.ensures in
+returns-then-room-count c = let w = rows_refused _ _ _ c.combine_split_times-count.ensures.count c.if-room-count.true refl in
     record { found = w.0; rows = w.1 }
 
 pub returns : goal.returns
