@@ -10,8 +10,8 @@ use lib.ListN.{length, get_or, drop, drop_of_length-le}
 use lib.Seq.{drop-cons}
 use lib.Dec.{ltb, leb}
 use borrow.Author.Tests.{lt-ltb, le-ltb, le-leb, lt-leb, eq-eqb, ne_eqb, ltb-false, leb-true, leb-false}
+use Rattle.definitions.specs.Calls.{last_number}
 use Rattle.numerals.specs.Numerals.{starts, is_digit, space_ends, digits_from, number}
-use Rattle.numerals.specs.NumeralAnswers.{over_last}
 
 -- ── digits ──
 
@@ -82,11 +82,11 @@ module _ (l : List ℕ) (at : ℕ) where
       digits_end e = rw (drop_one h, e)
 
       module _ (e : is_digit (get_or l at 0) ≡ true) (d : ℕ) (is : d ≡ get_or l at 0 - 48) where
-        pub digits_over : over_last x d ≡ true → none ≡ digits_from x (drop at l)
+        pub digits_over : ltb last_number (x * 10 + d) ≡ true → none ≡ digits_from x (drop at l)
         unfolding digits_from
         digits_over f = rw (drop_one h, e, ← is, f)
 
-        pub digits_on : over_last x d ≡ false → digits_from x (drop at l) ≡ digits_from (x * 10 + d) (drop (at + 1) l)
+        pub digits_on : ltb last_number (x * 10 + d) ≡ false → digits_from x (drop at l) ≡ digits_from (x * 10 + d) (drop (at + 1) l)
         unfolding digits_from
         digits_on f = rw (drop_one h, e, ← is, f)
 

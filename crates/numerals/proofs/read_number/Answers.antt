@@ -1,27 +1,38 @@
 -- `numerals::read_number` meets its contract: a zero, another digit, or no number. Assumes nothing.
 use native.Mathlib.Omega.{arith}
-use mathlib.Core.Path.{sym, ◌∙◌}
-use Rattle.numerals.proofs.Steps.{number_out, number_zero, number_some, number_not}
+use mathlib.Core.Path.{◌≡◌, sym, ◌∙◌}
+use lib.ListN.{get_or}
+use Rattle.numerals.proofs.Steps.{number_out, number_zero, number_some, number_not, digit_is, digit_low, digit_over}
 use Rattle.numerals.proofs.read_number.Goals as goal
 
-pub returns-then-line-at : goal.returns-then-line-at
-returns-then-line-at c =
+pub returns-in_err-get : goal.returns-in_err-get
+returns-in_err-get c =
     let a = c.args in
-    number_out a.line.now a.at c.if-line-at.true
+    rw c.from_residual.ensures (number_out a.line.now a.at c.in_err-get.ensures.lookup.3)
 
-pub returns-then-b-eq48 : goal.returns-then-b-eq48
-returns-then-b-eq48 c =
+pub returns-in-48 : goal.returns-in-48
+returns-in-48 c =
     let a = c.args in
-    c.ended.ensures ∙ number_zero a.line.now a.at (omega arith) (omega arith)
+    let b = c.in_ok-get.ensures.lookup in
+    c.ended.ensures ∙ number_zero a.line.now a.at b.3.0 (sym (b.4 (omega arith) 0) ∙ c.in-48.is)
 
-pub returns-then-digit : goal.returns-then-digit
-returns-then-digit c =
+pub returns-in-49-to-57 : goal.returns-in-49-to-57
+returns-in-49-to-57 c =
     let a = c.args in
-    let d = sym c.digit.ensures ∙ c.if-digit.true in
-    c.read_digits.ensures ∙ number_some a.line.now a.at (omega arith) (λ e. omega arith) d
+    let b = c.in_ok-get.ensures.lookup in
+    let e : c.in_ok-get.field-0.now ≡ get_or a.line.now a.at 0 = b.4 (omega arith) 0 in
+    c.read_digits.ensures ∙ number_some a.line.now a.at b.3.0 (λ z. omega arith) (digit_is (get_or a.line.now a.at 0) (omega arith) (omega arith))
 
-pub returns-else-digit : goal.returns-else-digit
-returns-else-digit c =
+pub returns-in_default : goal.returns-in_default
+returns-in_default c =
     let a = c.args in
-    let d = sym c.digit.ensures ∙ c.if-digit.false in
-    number_not a.line.now a.at (omega arith) (λ e. omega arith) d
+    let b = c.in_ok-get.ensures.lookup in
+    let e : c.in_ok-get.field-0.now ≡ get_or a.line.now a.at 0 = b.4 (omega arith) 0 in
+    number_not a.line.now a.at b.3.0 (λ z. omega arith) (digit_low (get_or a.line.now a.at 0) (omega arith))
+
+pub returns-in_default-2 : goal.returns-in_default-2
+returns-in_default-2 c =
+    let a = c.args in
+    let b = c.in_ok-get.ensures.lookup in
+    let e : c.in_ok-get.field-0.now ≡ get_or a.line.now a.at 0 = b.4 (omega arith) 0 in
+    number_not a.line.now a.at b.3.0 (λ z. omega arith) (digit_over (get_or a.line.now a.at 0) (omega arith))
