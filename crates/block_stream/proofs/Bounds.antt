@@ -1,16 +1,16 @@
 -- A block that was read at a cursor: what the answer's equation says of its kind and of where its data end. Assumes nothing.
-use Prim.Native.Nat.{ℕ, ◌+◌, ◌-◌, ◌≤◌, ◌<◌}
+use Prim.Native.Nat.{ℕ, ◌+◌, ◌≤◌, ◌<◌}
+use Rattle.std.specs.Prelude.{Ok, Some}
 use native.Mathlib.Omega.{arith}
 use native.Mathlib.Decide.{dec_lt}
-use mathlib.Core.Path.{◌≡◌, ap, subst}
+use mathlib.Core.Path.{◌≡◌, ap}
 use mathlib.Core.List.{List}
-use lib.ListN.{length, get_or, take, drop}
+use lib.ListN.{length, get_or}
 use Rattle.definitions.specs.Blocks.{Block}
 use Rattle.definitions.specs.BlockStream.{block, nothing, refused, data_of, data_length, block_at, read_block}
+use Rattle.definitions.specs.SpaceKinds.{kind_number}
 use Rattle.block_stream.specs.declared.Block.{Block as Found}
-use Rattle.block_stream.specs.declared.Read as C
-use Rattle.block_stream.specs.declared.Read.TheVariants as Answer
-use Rattle.block_stream.specs.Answer.{block_of, read_of, Starts}
+use Rattle.block_stream.specs.Answer.{block_of, read_of}
 use Rattle.block_stream.proofs.Ways.{past, at_end, kind_over, cut_field, cut_data, whole}
 
 -- its kind is one that there is, its end lies behind its fields and within the stream, and it is the definition's block
@@ -61,15 +61,12 @@ block_read s at kind b next e = go_past (dec_lt (length s) at)
 
 -- where the data of a block stand, and that they are those of the definition
 pub record Part (s : List ℕ) (at : ℕ) (b : Found) : Type 0 where
-  pub ordered : b.start ≤ b.next
   pub behind : at + 33 ≤ b.next
   pub within : b.next ≤ length s
-  pub bytes : take (b.next - b.start) (drop b.start s) ≡ data_of (read_block s at)
+  pub bytes : b.data.now ≡ data_of (read_block s at)
 
--- an answer that is a block has its data within the stream
-pub block_part : (s : List ℕ) (at : ℕ) (r : C.Read) (b : Found) → r ≡ Answer.Block b → read_of s r ≡ read_block s at → Starts at r → Part s at b
-block_part s at r b e m t =
-    let n : read_of s (Answer.Block b) ≡ read_block s at = subst (λ (x : C.Read). read_of s x ≡ read_block s at) e m in
-    let u : Starts at (Answer.Block b) = subst (Starts at) e t in
-    let k = block_read s at b.kind (block_of s b) b.next n in
-    record { ordered = omega arith; behind = k.behind; within = k.within; bytes = ap data_of n }
+-- a block that was read has its data within the stream
+pub block_part : (s : List ℕ) (at : ℕ) (b : Found) → read_of (Ok (Some b)) ≡ read_block s at → Part s at b
+block_part s at b m =
+    let k = block_read s at (kind_number b.kind) (block_of b) b.next m in
+    record { behind = k.behind; within = k.within; bytes = ap data_of m }

@@ -1,27 +1,31 @@
--- The code's answers as those of the definitions, and where a block's data start. Assumes nothing.
-use Rattle.std.specs.Prelude.{ℕ, ◌+◌, ◌-◌, ◌≡◌, List, take, drop}
+-- The code's answers as those of the definitions, and where a block's data stand. Assumes nothing.
+use Rattle.std.specs.Prelude.{ℕ, ◌+◌, ◌≡◌, List, take, drop, length, Result, Ok, Err, Option, None, Some}
 use Rattle.definitions.specs.Location.{Location}
 use Rattle.definitions.specs.Blocks as B
 use Rattle.definitions.specs.BlockStream as D
-use Rattle.block_stream.specs.declared.Block.{Block as Found}
-use Rattle.block_stream.specs.declared.Read.{Read}
-use Rattle.block_stream.specs.declared.Read.TheVariants.{Block, End, Refused}
+use Rattle.definitions.specs.declared.refusal.Refusal.{Refusal}
+use Rattle.definitions.specs.Refusals.{number_of}
+use Rattle.definitions.specs.SpaceKinds.{kind_number}
+use Rattle.block_stream.specs.declared.Block.{Block}
 
 -- where a block stands, from which tick on and until which
-abbrev pub life_of : Found → Location
+abbrev pub life_of : Block → Location
 life_of b = record { address = b.address; created = b.created_at; destroyed = b.destroyed_at }
 
--- a block's data are the bytes of the stream from its start to the next block
-abbrev pub block_of : List ℕ → Found → B.Block
-block_of s b = record { bytes = take (b.next - b.start) (drop b.start s); at = life_of b }
+abbrev pub block_of : Block → B.Block
+block_of b = record { bytes = b.data.now; at = life_of b }
 
-abbrev pub read_of : List ℕ → Read → D.Read
-read_of s (Block b) = D.block b.kind (block_of s b) b.next
-read_of s End = D.nothing
-read_of s (Refused n) = D.refused n
+abbrev pub read_of : Result (Option Block) Refusal → D.Read
+read_of (Ok (Some b)) = D.block (kind_number b.kind) (block_of b) b.next
+read_of (Ok None) = D.nothing
+read_of (Err r) = D.refused (number_of r)
 
--- a block's data start behind its five fields
-abbrev pub Starts : ℕ → Read → Type 0
-Starts at (Block b) = b.start ≡ at + 33
-Starts at End = Unit {0}
-Starts at (Refused n) = Unit {0}
+-- a block's data stand behind its five fields, up to the next block
+pub record DataAt (s : List ℕ) (at : ℕ) (b : Block) : Type 0 where
+  pub ends : at + 33 + length b.data.now ≡ b.next
+  pub part : b.data.now ≡ take (length b.data.now) (drop (at + 33) s)
+
+abbrev pub Starts : List ℕ → ℕ → Result (Option Block) Refusal → Type 0
+Starts s at (Ok (Some b)) = DataAt s at b
+Starts s at (Ok None) = Unit {0}
+Starts s at (Err r) = Unit {0}
