@@ -1,2 +1,2 @@
--- `Tallies` has the tally of a header. Assumes nothing.
+-- `Tallies` has a header with another tally. Assumes nothing.
 pub mod Tallies

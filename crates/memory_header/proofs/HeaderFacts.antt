@@ -1,18 +1,18 @@
 -- What a sound header tells, as facts on numbers. Assumes nothing.
-use Prim.Native.Nat.{ℕ, ◌≤◌, ◌<◌}
+use Prim.Native.Nat.{ℕ, ◌≤◌}
 use native.Mathlib.Omega.{arith}
-use mathlib.Core.Path.{◌≡◌, refl, sym, ap, ◌∙◌, subst}
+use mathlib.Core.Path.{◌≡◌, refl, subst}
 use mathlib.Core.Bool.{Bool, true, false, ◌&&◌, not, ◌||◌, cond}
 use mathlib.Core.List.{List}
-use mathlib.Core.Option.{Option, none, some}
+use mathlib.Core.Option.{none, some}
 use lib.ListN.{length}
 use lib.Dec.{ltb, leb, eqb}
 use borrow.Author.Tests.{leb-true, eqb-true, le-leb, eq-eqb}
 use Rattle.words.specs.Words.{le64}
 use Rattle.definitions.specs.Calls.{Capacity, out_of_range, needed}
-use Rattle.definitions.proofs.Views.{Eq, eq, Lt, lt, Le, le}
-use Rattle.memory_header.specs.Layout.{Room, Header, header_at, header_right, header_sound, payload_size}
-use Rattle.memory_header.specs.Answers.{heading_at, Front}
+use Rattle.definitions.proofs.Views.{Eq, eq, Lt, lt}
+use Rattle.memory_header.specs.Layout.{Room, Header, header_at, header_right, header_sound, payload_size, payload_limit}
+use Rattle.memory_header.specs.Answers.{heading_at}
 use Rattle.definitions.proofs.Tests.{and_left, and_right, and_true}
 
 -- ---- a number that a capacity may be
@@ -32,25 +32,12 @@ range n = go (eqb n 0) (ltb 1048576 n) (eq n 0) (lt 1048576 n)
 pub in_range : (n : ℕ) → not (out_of_range n) ≡ true → (1 ≤ n) × (n ≤ 1048576)
 in_range n e = subst (λ (o : Bool). Range o n) e (range n)
 
-pub not_in_range : (n : ℕ) → not (out_of_range n) ≡ false → 1 ≤ n → n ≤ 1048576 → ⊥
-not_in_range n e = subst (λ (o : Bool). Range o n) e (range n)
-
 pub is_in_range : (n : ℕ) → 1 ≤ n → n ≤ 1048576 → not (out_of_range n) ≡ true
 is_in_range n a b = go (not (out_of_range n)) (range n)
   where
     go : (o : Bool) → Range o n → o ≡ true
     go true r = refl
     go false r = absurd (r a b)
-
--- the test on the limit decides, for a number that is not 0
-pub capacity_test : (n : ℕ) → (n ≡ 0 → ⊥) → leb n 1048576 ≡ not (out_of_range n)
-capacity_test n h = go (leb n 1048576) (le n 1048576) (not (out_of_range n)) (range n)
-  where
-    go : (o : Bool) → Le o n 1048576 → (r : Bool) → Range r n → o ≡ r
-    go true l true r = refl
-    go false l false r = refl
-    go true l false r = absurd (r (omega arith) l)
-    go false l true r = absurd (omega arith)
 
 -- ---- the rule of a header
 
@@ -66,13 +53,13 @@ pub record HeaderFacts (m : List ℕ) (h : Header) : Type 0 where
   pub phase : h.phase ≤ 1
   pub nodes : h.nodes ≤ h.capacity.nodes
   pub entries : h.entries ≤ h.capacity.entries
-  pub payload : h.payload ≤ cond (eqb h.phase 0) h.capacity.entries (payload_size h.capacity)
+  pub payload : h.payload ≤ payload_limit h
 
 module _ (m : List ℕ) (h : Header) where
   pub header_facts : (leb 64 (length m) && header_sound m h) ≡ true → HeaderFacts m h
   header_facts e =
       let c : Capacity = h.capacity in
-      let most : ℕ = cond (eqb h.phase 0) c.entries (payload_size c) in
+      let most : ℕ = payload_limit h in
       let t₉ : Bool = leb h.payload most in
       let t₈ : Bool = leb h.entries c.entries in
       let t₇ : Bool = leb h.nodes c.nodes in
@@ -127,7 +114,7 @@ module _ (m : List ℕ) (h : Header) where
       (and_true (le-leb h.phase 1 f.phase)
       (and_true (le-leb h.nodes h.capacity.nodes f.nodes)
       (and_true (le-leb h.entries h.capacity.entries f.entries)
-      (le-leb h.payload (cond (eqb h.phase 0) h.capacity.entries (payload_size h.capacity)) f.payload)))))))))
+      (le-leb h.payload (payload_limit h) f.payload)))))))))
 
   -- the memory has room for the capacity
   pub facts_room : HeaderFacts m h → Room m h.capacity
@@ -143,13 +130,6 @@ module _ (m : List ℕ) where
   pub heading_some : HeaderFacts m (header_at m) → some (header_at m) ≡ heading_at m
   heading_some f = rw (facts_header m (header_at m) f)
 
-  pub heading_none : (HeaderFacts m (header_at m) → ⊥) → none ≡ heading_at m
-  heading_none f = go (header_right m) refl
-    where
-      go : (o : Bool) → header_right m ≡ o → none ≡ cond o (some (header_at m)) none
-      go true e = absurd (f (header_facts m (header_at m) e))
-      go false e = refl
-
   pub heading_is : (h : Header) → heading_at m ≡ some h → HeaderFacts m h × (header_at m ≡ h)
   heading_is h e = go (header_right m) refl e
     where
@@ -158,46 +138,3 @@ module _ (m : List ℕ) where
           let g : header_at m ≡ h = cc in
           (subst (HeaderFacts m) g (header_facts m (header_at m) r), g)
       go false r f = absurd (let z : ◌≡◌ {A = ℕ} 0 1 = cc in omega arith)
-
--- ---- the ways out of reading a header
-
-module _ (m : List ℕ) where
-  -- a capacity that is out of range
-  pub nodes_out : (n : ℕ) (o : Bool) → n ≡ le64 m 0 → o ≡ not (out_of_range n) → o ≡ false → none ≡ heading_at m
-  nodes_out n o e f g = heading_none m (λ h. not_in_range n (sym f ∙ g) (omega (arith, h.some_nodes)) (omega (arith, h.few_nodes)))
-
-  pub entries_out : (n : ℕ) (o : Bool) → n ≡ le64 m 8 → o ≡ not (out_of_range n) → o ≡ false → none ≡ heading_at m
-  entries_out n o e f g = heading_none m (λ h. not_in_range n (sym f ∙ g) (omega (arith, h.some_entries)) (omega (arith, h.few_entries)))
-
-  module _ (nodes entries : ℕ) (f : Front m nodes entries) (phase : ℕ) (e : phase ≡ le64 m 16) where
-    -- the limit of the payload, by the numbers that were read
-    limit_is : cond (eqb phase 0) entries (payload_size (record { nodes = nodes; entries = entries })) ≡ cond (eqb (le64 m 16) 0) (le64 m 8) (payload_size (header_at m).capacity)
-    limit_is = rw (e, f.nodes_there, f.entries_there) refl
-
-    pub payload_over : (limit payload : ℕ) → limit ≡ cond (eqb phase 0) entries (payload_size (record { nodes = nodes; entries = entries }))
-        → payload ≡ le64 m 40 → limit < payload → none ≡ heading_at m
-    payload_over limit payload l p o = heading_none m (λ h. omega (arith, h.payload, limit_is))
-
-    -- all is within the capacity
-    pub all_within : (charged held limit payload : ℕ) → charged ≡ le64 m 24 → held ≡ le64 m 32
-        → limit ≡ cond (eqb phase 0) entries (payload_size (record { nodes = nodes; entries = entries })) → payload ≡ le64 m 40
-        → phase ≤ 1 → charged ≤ nodes → held ≤ entries → payload ≤ limit
-        → some (record { capacity = record { nodes = nodes; entries = entries }; phase = phase; nodes = charged; entries = held; payload = payload }) ≡ heading_at m
-    all_within charged held limit payload c h l p a b d g =
-        let facts : HeaderFacts m (header_at m) = record {
-          room = omega (arith, f.held);
-          some_nodes = omega (arith, f.nodes_there, f.some_nodes);
-          few_nodes = omega (arith, f.nodes_there, f.few_nodes);
-          some_entries = omega (arith, f.entries_there, f.some_entries);
-          few_entries = omega (arith, f.entries_there, f.few_entries);
-          held = omega (arith, f.nodes_there, f.entries_there, f.held);
-          first_zero = f.first_zero;
-          second_zero = f.second_zero;
-          phase = omega arith;
-          nodes = omega (arith, f.nodes_there);
-          entries = omega (arith, f.entries_there);
-          payload = omega (arith, limit_is);
-        } in
-        let same : ◌≡◌ {A = Header} (record { capacity = record { nodes = nodes; entries = entries }; phase = phase; nodes = charged; entries = held; payload = payload }) (header_at m) =
-        λ i. record { capacity = record { nodes = f.nodes_there i; entries = f.entries_there i }; phase = e i; nodes = c i; entries = h i; payload = p i } in
-        ap {B = Option Header} some same ∙ heading_some m facts

@@ -13,8 +13,6 @@ use Rattle.definitions.specs.Calls.{Capacity, out_of_range, needed}
 use Rattle.definitions.proofs.Views.{Lt, lt}
 use Rattle.memory_header.specs.Layout.{Room, Header, header_at, header_bytes, with_header}
 use Rattle.memory_header.specs.Opening.{Done, open_memory, unless_refused, fresh_memory}
-use Rattle.memory_header.specs.Answers.{outcome_as}
-use Rattle.memory_header.specs.declared.Outcome.TheVariants as O
 use Rattle.memory_header.proofs.HeaderBytes.{HeaderFits, header_written, first_zero, second_zero}
 use Rattle.memory_header.proofs.HeaderFacts.{Range, range, HeaderFacts}
 
@@ -45,19 +43,19 @@ module _ (m : List ℕ) (c : Capacity) where
   abbrev by_test : Bool → Done
   by_test o = unless_refused (cond o (some capacity_refused) none) m (fresh_memory m c)
 
-  pub open_refused : (Room m c → ⊥) → (O.Refused 16 ≡ outcome_as (open_memory m c).refusal) × (m ≡ (open_memory m c).memory)
+  pub open_refused : (Room m c → ⊥) → (16 ≡ (open_memory m c).refusal) × (m ≡ (open_memory m c).memory)
   unfolding open_memory
   open_refused f = go refuses view
     where
-      go : (o : Bool) → View o → (O.Refused 16 ≡ outcome_as (by_test o).refusal) × (m ≡ (by_test o).memory)
+      go : (o : Bool) → View o → (16 ≡ (by_test o).refusal) × (m ≡ (by_test o).memory)
       go true v = (refl, refl)
       go false v = absurd (f v)
 
-  pub open_taken : Room m c → (O.Done ≡ outcome_as (open_memory m c).refusal) × (fresh_memory m c ≡ (open_memory m c).memory)
+  pub open_taken : Room m c → (0 ≡ (open_memory m c).refusal) × (fresh_memory m c ≡ (open_memory m c).memory)
   unfolding open_memory
   open_taken f = go refuses view
     where
-      go : (o : Bool) → View o → (O.Done ≡ outcome_as (by_test o).refusal) × (fresh_memory m c ≡ (by_test o).memory)
+      go : (o : Bool) → View o → (0 ≡ (by_test o).refusal) × (fresh_memory m c ≡ (by_test o).memory)
       go true v = absurd (v f)
       go false v = (refl, refl)
 

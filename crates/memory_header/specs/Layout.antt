@@ -53,6 +53,10 @@ header_bytes h =
 abbrev pub with_header : List ℕ → Header → List ℕ
 with_header m h = sets m 0 (header_bytes h)
 
+-- the most that the payload may count: pieces in a log, bytes in an image
+abbrev pub payload_limit : Header → ℕ
+payload_limit h = cond (eqb h.phase 0) h.capacity.entries (payload_size h.capacity)
+
 -- what a header may say: a capacity that the memory holds, a phase, a tally and a payload within it, two zeros
 abbrev pub header_sound : List ℕ → Header → Bool
 header_sound m h =
@@ -64,7 +68,7 @@ header_sound m h =
     (leb h.phase 1 &&
     (leb h.nodes h.capacity.nodes &&
     (leb h.entries h.capacity.entries &&
-    leb h.payload (cond (eqb h.phase 0) h.capacity.entries (payload_size h.capacity)))))))))
+    leb h.payload (payload_limit h))))))))
 
 -- there is room for a header, and it is sound
 abbrev pub header_right : List ℕ → Bool

@@ -1,4 +1,6 @@
 -- `memory_header::put_header` meets its contract: the eight numbers, written one after the other, are the bytes of the header. Assumes nothing.
+use mathlib.Core.Path.{ap, ◌∙◌}
+use Rattle.words.specs.Words.{set_le64}
 use Rattle.memory_header.specs.Answers.{header_of}
 use Rattle.memory_header.proofs.HeaderBytes.{put_in_turn}
 use Rattle.memory_header.proofs.put_header.Goals as goal
@@ -15,5 +17,6 @@ returns c =
     let w₆ = c.put64-6 in
     let w₇ = c.put64-7 in
     let w₈ = c.put64-8 in
+    let p = w₃.ensures ∙ ap (set_le64 w₂.new.s 16) c.number.ensures in
     let f = put_in_turn (header_of a.h) m w₁.new.s w₂.new.s w₃.new.s w₄.new.s w₅.new.s w₆.new.s w₇.new.s w₈.new.s in
-    f w₁.ensures w₂.ensures w₃.ensures w₄.ensures w₅.ensures w₆.ensures w₇.ensures w₈.ensures
+    f w₁.ensures w₂.ensures p w₄.ensures w₅.ensures w₆.ensures w₇.ensures w₈.ensures
