@@ -1,5 +1,5 @@
 -- A set of places in scratch: where it stands, what tidying and adding to it do, and when it is refused. Assumes nothing.
-use Rattle.std.specs.Prelude.{ℕ, ◌+◌, ◌-◌, ◌*◌, ◌/◌, ◌≤◌, ◌<◌, ◌≡◌, true, false, List, [], ◌∷◌, ◌++◌, length, get_or}
+use Rattle.std.specs.Prelude.{ℕ, ◌+◌, ◌-◌, ◌*◌, ◌/◌, ◌≤◌, ◌<◌, ◌≡◌, true, List, [], ◌∷◌, ◌++◌, length, get_or, Option, MatchOption}
 use Rattle.definitions.specs.Location.{Location, normal, locations_in}
 use Rattle.place_lookup.specs.Lookup.{Ascending, Within}
 use Rattle.place_buffer.specs.declared.Places.{Places}
@@ -26,17 +26,23 @@ pub record Valid (s : List ℕ) (p : Places) : Type 0 where
   pub ascending : p.tight ≡ true → Ascending (held s p)
   pub no_room : p.tight ≡ true → p.count ≡ room s
 
--- adding the places ls to the set p in s made it the set r in s'
-pub record Taken (s s' : List ℕ) (p : Places) (ls : List Location) (r : Places) : Type 0 where
+-- the set r in s' has the places of the set p in s and the places ls
+pub record Added (s s' : List ℕ) (p : Places) (ls : List Location) (r : Places) : Type 0 where
   pub same_base : r.base ≡ p.base
   pub valid : Valid s' r
+  pub only : Within (held s' r) (ls ++ held s p)
+  pub all : Within (ls ++ held s p) (held s' r)
+
+-- behind place number base there is no room for a set of the places xs
+abbrev pub Over : List ℕ → ℕ → List Location → Type 0
+Over s base xs = room s - base < length (normal xs)
+
+-- adding the places ls to the set p in s made the set o in s'; there is none where a place had no room
+pub record Taken (s s' : List ℕ) (p : Places) (ls : List Location) (o : Option Places) : Type 0 where
   pub same_length : length s' ≡ length s
   pub before : (k : ℕ) → k < p.base * 24 → get_or s' k 0 ≡ get_or s k 0
-  pub stays_full : p.full ≡ true → (r ≡ p) × (s' ≡ s)
-  pub only : r.full ≡ false → Within (held s' r) (ls ++ held s p)
-  pub all : r.full ≡ false → Within (ls ++ held s p) (held s' r)
-  pub refused : p.full ≡ false → r.full ≡ true → room s - p.base < length (normal (ls ++ held s p))
+  pub set : MatchOption o (Over s p.base (ls ++ held s p)) (Added s s' p ls)
 
 -- the same of one place
-abbrev pub Placed : List ℕ → List ℕ → Places → Location → Places → Type 0
-Placed s s' p l r = Taken s s' p (l ∷ []) r
+abbrev pub Placed : List ℕ → List ℕ → Places → Location → Option Places → Type 0
+Placed s s' p l o = Taken s s' p (l ∷ []) o

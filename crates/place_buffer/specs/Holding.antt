@@ -1,16 +1,15 @@
 -- A set of places as its user sees it: what was added so far, whatever the state. Assumes nothing.
-use Rattle.std.specs.Prelude.{ℕ, ◌+◌, ◌-◌, ◌*◌, ◌≤◌, ◌<◌, ◌≡◌, true, false, List, length}
+use Rattle.std.specs.Prelude.{ℕ, ◌+◌, ◌-◌, ◌*◌, ◌≤◌, ◌≡◌, List, length}
 use Rattle.definitions.specs.Location.{Location, normal, locations_in}
 use Rattle.place_buffer.specs.declared.Places.{Places}
 use Rattle.place_buffer.specs.Buffer.{room, held, Valid}
 use Rattle.place_lookup.specs.Lookup.{Within}
 
--- the set p in s is that of the places xs, or is refused because that has more places than there is room
+-- the set p in s is that of the places xs
 pub record Holding (s : List ℕ) (p : Places) (xs : List Location) : Type 0 where
   pub valid : Valid s p
-  pub only : p.full ≡ false → Within (held s p) xs
-  pub all : p.full ≡ false → Within xs (held s p)
-  pub over : p.full ≡ true → room s - p.base < length (normal xs)
+  pub only : Within (held s p) xs
+  pub all : Within xs (held s p)
 
 -- the places from base to next - 1 are the set of the places xs, ascending
 pub record Settled (s : List ℕ) (base : ℕ) (xs : List Location) (next : ℕ) : Type 0 where

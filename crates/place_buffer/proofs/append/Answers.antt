@@ -6,4 +6,4 @@ use Rattle.place_buffer.proofs.append.Goals as goal
 pub returns : goal.returns
 returns c =
     let l = c.well_formed.1.1.0.1.1 in
-    taken_behind c.requires.0 (plain c.args.l) c.requires.1 _ (record { address = l.0.1.1.0.1; created = l.1.0.1.1.0.1; destroyed = l.1.1.0.1.1.0.1 }) c.requires.2 c.put_location.ensures
+    taken_behind c.requires.0 (plain c.args.l) _ (record { address = l.0.1.1.0.1; created = l.1.0.1.1.0.1; destroyed = l.1.1.0.1.1.0.1 }) c.requires.1 c.put_location.ensures

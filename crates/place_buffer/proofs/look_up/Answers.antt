@@ -16,11 +16,9 @@ is_there-requires c =
 pub returns-then-is_there : goal.returns-then-is_there
 returns-then-is_there c =
     let args = c.args in
-    let there = subst (λ (b : Bool). There b (plain args.l) (held args.scratch.now args.p)) c.if-is_there.true c.is_there.ensures in
-    taken_there c.requires.0 (plain args.l) c.requires.2 there
+    taken_there c.requires.0 (plain args.l) (subst (λ (b : Bool). There b (plain args.l) (held args.scratch.now args.p)) c.if-is_there.true c.is_there.ensures)
 
-pub returns : goal.returns
-returns c =
+pub returns-else-is_there : goal.returns-else-is_there
+returns-else-is_there c =
     let args = c.args in
-    let new = subst (λ (b : Bool). There b (plain args.l) (held args.scratch.now args.p)) c.if-is_there.false c.is_there.ensures in
-    taken_new c.requires.0 (plain args.l) c.requires.2 c.requires.1 new
+    taken_new c.requires.0 (plain args.l) c.requires.1 (subst (λ (b : Bool). There b (plain args.l) (held args.scratch.now args.p)) c.if-is_there.false c.is_there.ensures)
