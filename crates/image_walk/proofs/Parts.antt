@@ -2,47 +2,24 @@
 use Prim.Native.Nat.{ℕ, ◌+◌, ◌*◌, ◌≤◌}
 use native.Mathlib.Omega.{arith}
 use mathlib.Core.Path.{◌≡◌, refl, ap, ◌∙◌}
-use mathlib.Core.Bool.{cond}
+use mathlib.Core.Bool.{Bool, true, false, cond}
 use mathlib.Core.List.{List}
 use lib.ListN.{length, get_or}
 use lib.Dec.{eqb}
 use Rattle.words.specs.Words.{le64}
-use Rattle.image_walk.specs.Parts.{prefix_list, chunk_list, suffix_list, behind_lists, table_at, children_at, parts_at}
+use Rattle.location_lists.specs.declared.List.{List as Listing}
+use Rattle.image_format.specs.Held.{list_end}
+use Rattle.image_walk.specs.Parts.{prefix_list, chunk_list, suffix_list, behind_lists, table_at, children_at, list_in, parts_at}
 use Rattle.image_walk.specs.Here.{Laid}
 use Rattle.image_walk.specs.declared.Node.{Node}
+use Rattle.image_walk.specs.declared.Table.{Table}
 use Rattle.image_walk.specs.Bounds.{Bounds}
 use Rattle.image_walk.proofs.Here.{here_bounds}
 
--- p, c and u locations in the three lists, and where each ends
-record Counted (s : List ℕ) (at p c u : ℕ) : Type 0 where
-  pub prefixes : p ≡ le64 s (prefix_list at)
-  pub to_chunks : at + 1 + 8 + 24 * p ≡ chunk_list s at
-  pub chunks : c ≡ le64 s (chunk_list s at)
-  pub to_suffixes : at + 1 + 8 + 24 * p + 8 + 24 * c ≡ suffix_list s at
-  pub suffixes : u ≡ le64 s (suffix_list s at)
-  pub to_table : at + 1 + 8 + 24 * p + 8 + 24 * c + 8 + 24 * u ≡ behind_lists s at
-
--- p locations were read behind the kind, then c behind those, then u
-module _ (s : List ℕ) (at p : ℕ) (e : p ≡ le64 s (prefix_list at)) where
-  past_prefixes : at + 1 + 8 + 24 * p ≡ chunk_list s at
-  unfolding chunk_list
-  past_prefixes = rw e refl
-
-  module _ (c : ℕ) (f : c ≡ le64 s (at + 1 + 8 + 24 * p)) where
-    chunks_read : c ≡ le64 s (chunk_list s at)
-    chunks_read = f ∙ ap (le64 s) past_prefixes
-
-    past_chunks : at + 1 + 8 + 24 * p + 8 + 24 * c ≡ suffix_list s at
-    unfolding suffix_list
-    past_chunks = rw (chunks_read, past_prefixes) refl
-
-    counted : (u : ℕ) → u ≡ le64 s (at + 1 + 8 + 24 * p + 8 + 24 * c) → Counted s at p c u
-    unfolding behind_lists
-    counted u g =
-        let h : u ≡ le64 s (suffix_list s at) = g ∙ ap (le64 s) past_chunks in
-        record { prefixes = e; to_chunks = past_prefixes; chunks = chunks_read; to_suffixes = past_chunks; suffixes = h; to_table = rw (h, past_chunks) refl }
-
--- ── there is room for what comes next ──
+-- a table is where it stands and its count
+of_kind : (o : Bool) (b n : ℕ) → ◌≡◌ {A = Table} (cond o (record { at = b; count = 256 }) (record { at = b + 8; count = n })) (record { at = cond o b (b + 8); count = cond o 256 n })
+of_kind true b n = refl
+of_kind false b n = refl
 
 laid_bounds : (s : List ℕ) (at : ℕ) → Laid s at → Bounds s at
 laid_bounds s at h = here_bounds h.here
@@ -50,35 +27,56 @@ laid_bounds s at h = here_bounds h.here
 pub room_first : (s : List ℕ) (at : ℕ) → Laid s at → at + 1 + 8 ≤ length s
 room_first s at h = let b = laid_bounds s at h in omega arith
 
-pub room_second : (s : List ℕ) (at p : ℕ) → Laid s at → p ≡ le64 s (prefix_list at) → at + 1 + 8 + 24 * p + 8 ≤ length s
-room_second s at p h e =
-    let b = laid_bounds s at h in
-    let x = past_prefixes s at p e in
-    omega arith
+-- a list that was read ends where the next one is read
+ends : (s : List ℕ) (i : ℕ) (l : Listing) → l ≡ list_in s i → l.at + l.count * 24 ≡ list_end s i
+ends s i l e = rw e (omega arith)
 
-pub room_third : (s : List ℕ) (at p c : ℕ) → Laid s at → p ≡ le64 s (prefix_list at) → c ≡ le64 s (at + 1 + 8 + 24 * p) → at + 1 + 8 + 24 * p + 8 + 24 * c + 8 ≤ length s
-room_third s at p c h e f =
-    let b = laid_bounds s at h in
-    let x = past_chunks s at p e c f in
-    omega arith
+-- the prefixes were read behind the kind, then the chunks behind those, then the suffixes
+module _ (s : List ℕ) (at : ℕ) (p : Listing) (e : p ≡ list_in s (prefix_list at)) where
+  past_prefixes : p.at + p.count * 24 ≡ chunk_list s at
+  unfolding chunk_list
+  past_prefixes = ends s (prefix_list at) p e
 
-pub room_last : (s : List ℕ) (at p c u : ℕ) → Laid s at → p ≡ le64 s (prefix_list at) → c ≡ le64 s (at + 1 + 8 + 24 * p) →
-    u ≡ le64 s (at + 1 + 8 + 24 * p + 8 + 24 * c) → at + 1 + 8 + 24 * p + 8 + 24 * c + 8 + 24 * u + 8 ≤ length s
-room_last s at p c u h e f g =
-    let b = laid_bounds s at h in
-    let k = counted s at p e c f u g in
-    omega arith
+  pub room_second : Laid s at → p.at + p.count * 24 + 8 ≤ length s
+  room_second h =
+      let b = laid_bounds s at h in
+      let x = past_prefixes in
+      omega arith
 
--- the node that was put together is the one that stands there
-pub parts_are : (s : List ℕ) (at p c u t n : ℕ) → p ≡ le64 s (prefix_list at) → c ≡ le64 s (at + 1 + 8 + 24 * p) → u ≡ le64 s (at + 1 + 8 + 24 * p + 8 + 24 * c) →
-    t ≡ cond (eqb (get_or s at 0) 1) (at + 1 + 8 + 24 * p + 8 + 24 * c + 8 + 24 * u) (at + 1 + 8 + 24 * p + 8 + 24 * c + 8 + 24 * u + 8) →
-    n ≡ cond (eqb (get_or s at 0) 1) 256 (le64 s (at + 1 + 8 + 24 * p + 8 + 24 * c + 8 + 24 * u)) →
-    ◌≡◌ {A = Node} (record { prefixes = at + 1 + 8; prefix_count = p; chunks = at + 1 + 8 + 24 * p + 8; chunk_count = c; suffixes = at + 1 + 8 + 24 * p + 8 + 24 * c + 8; suffix_count = u; table = t; children = n }) (parts_at s at)
-unfolding table_at children_at
-parts_are s at p c u t n e f g x y =
-    let k = counted s at p e c f u g in
-    let b = behind_lists s at in
-    let z = k.to_table in
-    let x' : t ≡ cond (eqb (get_or s at 0) 1) b (b + 8) = x ∙ ap (λ (i : ℕ). cond (eqb (get_or s at 0) 1) i (i + 8)) z in
-    let y' : n ≡ cond (eqb (get_or s at 0) 1) 256 (le64 s b) = y ∙ ap (λ (i : ℕ). cond (eqb (get_or s at 0) 1) 256 (le64 s i)) z in
-    λ i. record { prefixes = at + 1 + 8; prefix_count = k.prefixes i; chunks = k.to_chunks i + 8; chunk_count = k.chunks i; suffixes = k.to_suffixes i + 8; suffix_count = k.suffixes i; table = x' i; children = y' i }
+  module _ (i : ℕ) (f : i ≡ p.at + p.count * 24) (c : Listing) (g : c ≡ list_in s i) where
+    chunks_are : c ≡ list_in s (chunk_list s at)
+    chunks_are = g ∙ ap (list_in s) (f ∙ past_prefixes)
+
+    past_chunks : c.at + c.count * 24 ≡ suffix_list s at
+    unfolding suffix_list
+    past_chunks = ends s (chunk_list s at) c chunks_are
+
+    pub room_third : Laid s at → c.at + c.count * 24 + 8 ≤ length s
+    room_third h =
+        let b = laid_bounds s at h in
+        let x = past_chunks in
+        omega arith
+
+    module _ (j : ℕ) (k : j ≡ c.at + c.count * 24) (u : Listing) (l : u ≡ list_in s j) where
+      suffixes_are : u ≡ list_in s (suffix_list s at)
+      suffixes_are = l ∙ ap (list_in s) (k ∙ past_chunks)
+
+      past_suffixes : u.at + u.count * 24 ≡ behind_lists s at
+      unfolding behind_lists
+      past_suffixes = ends s (suffix_list s at) u suffixes_are
+
+      pub room_last : Laid s at → u.at + u.count * 24 + 8 ≤ length s
+      room_last h =
+          let b = laid_bounds s at h in
+          let x = past_suffixes in
+          omega arith
+
+      -- the node that was put together is the one that stands there
+      pub parts_are : (m : ℕ) → m ≡ u.at + u.count * 24 → (t : Table) → t ≡ cond (eqb (get_or s at 0) 1) (record { at = m; count = 256 }) (record { at = m + 8; count = le64 s m }) →
+          ◌≡◌ {A = Node} (record { prefixes = p; chunks = c; suffixes = u; table = t }) (parts_at s at)
+      unfolding table_at children_at
+      parts_are m n t x =
+          let o = eqb (get_or s at 0) 1 in
+          let F : ℕ → Table = λ b. cond o (record { at = b; count = 256 }) (record { at = b + 8; count = le64 s b }) in
+          let y : t ≡ record { at = table_at s at; count = children_at s at } = x ∙ ap F (n ∙ past_suffixes) ∙ of_kind o (behind_lists s at) (le64 s (behind_lists s at)) in
+          λ i. record { prefixes = e i; chunks = chunks_are i; suffixes = suffixes_are i; table = y i }

@@ -2,6 +2,7 @@
 use Rattle.std.specs.Prelude.{ℕ, ◌+◌, cond, List, get_or, eqb}
 use Rattle.words.specs.Words.{le64}
 use Rattle.image_format.specs.Held.{list_end}
+use Rattle.location_lists.specs.declared.List.{List as Listing}
 use Rattle.image_walk.specs.declared.Node.{Node}
 
 -- the count of `prefixes`; the first location of a list is 8 bytes behind its count
@@ -28,15 +29,15 @@ table_at s at = cond (eqb (get_or s at 0) 1) (behind_lists s at) (behind_lists s
 unfoldable pub children_at : List ℕ → ℕ → ℕ
 children_at s at = cond (eqb (get_or s at 0) 1) 256 (le64 s (behind_lists s at))
 
+-- a list behind its count
+abbrev pub list_in : List ℕ → ℕ → Listing
+list_in s at = record { at = at + 8; count = le64 s at }
+
 -- all of them
 abbrev pub parts_at : List ℕ → ℕ → Node
 parts_at s at = record {
-  prefixes = prefix_list at + 8;
-  prefix_count = le64 s (prefix_list at);
-  chunks = chunk_list s at + 8;
-  chunk_count = le64 s (chunk_list s at);
-  suffixes = suffix_list s at + 8;
-  suffix_count = le64 s (suffix_list s at);
-  table = table_at s at;
-  children = children_at s at;
+  prefixes = list_in s (prefix_list at);
+  chunks = list_in s (chunk_list s at);
+  suffixes = list_in s (suffix_list s at);
+  table = record { at = table_at s at; count = children_at s at };
 }

@@ -12,6 +12,23 @@ ghost use Rattle.location_lists.specs.Steps.{has_next, stepped, stepped_from, ti
 
 use definitions::LOCATION_SIZE;
 
+// A list of locations: where it starts, and how many it has.
+#[derive(Clone, Copy)]
+pub struct List {
+    pub at: usize,
+    pub count: usize,
+}
+
+impl List {
+    // Where it ends.
+    pub fn end(self) -> usize
+        requires { self.at + self.count * 24 < 2 ^ 64 }
+        ensures { result ≡ self.at + self.count * 24 }
+    {
+        self.at + self.count * LOCATION_SIZE
+    }
+}
+
 // Whether each of the n locations at index at comes before the next.
 pub fn is_ascending(s: &[u8], at: usize, n: usize) -> bool
     requires { at + n * 24 ≤ length s.now }

@@ -1,7 +1,7 @@
 -- `image_walk::dense_slot` meets its contract: a flag is 0 or 1. Assumes nothing.
 use Prim.Native.Nat.{ℕ, ◌≤◌}
 use native.Mathlib.Omega.{arith}
-use mathlib.Core.Path.{◌≡◌, sym, subst}
+use mathlib.Core.Path.{◌≡◌, refl, sym, subst}
 use lib.ListN.{get_or}
 use borrow.Author.Tests.{eq-eqb, ne_eqb}
 use Rattle.image_walk.specs.Tables.{dense_slot}
@@ -20,7 +20,7 @@ unfolding dense_slot
 returns c =
     let a = c.args in
     let e = c.size_at-flag.ensures in
-    let m : get_or a.s.now c.size_at-flag.result 0 ≤ 1 = subst (λ (x : ℕ). get_or a.s.now x 0 ≤ 1) (sym e) c.requires.3 in
+    let m : get_or a.s.now c.size_at-flag.result 0 ≤ 1 = subst (λ (x : ℕ). get_or a.s.now x 0 ≤ 1) (sym e) (c.requires.0.empty_or_taken refl a.j c.requires.1) in
     let f = c.if-s-flag-eq0.false in
     let z : get_or a.s.now c.size_at-flag.result 0 ≡ 1 = omega arith in
     rw (← e) (simp (eq-eqb _ _ z))

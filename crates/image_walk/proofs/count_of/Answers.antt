@@ -1,9 +1,0 @@
--- `image_walk::count_of` meets its contract, by the kind. Assumes nothing.
-use borrow.Author.Tests.{eq-eqb, ne_eqb}
-use Rattle.image_walk.proofs.count_of.Goals as goal
-
-pub returns-then-kind-eq1 : goal.returns-then-kind-eq1
-returns-then-kind-eq1 c = simp (eq-eqb _ _ c.if-kind-eq1.true)
-
-pub returns-else-kind-eq1 : goal.returns-else-kind-eq1
-returns-else-kind-eq1 c = simp (ne_eqb _ _ c.if-kind-eq1.false) c.size_at.ensures
