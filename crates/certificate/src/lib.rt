@@ -44,10 +44,8 @@ pub fn filled(mem: &[u8], pieces: usize) -> usize
     ensures { result ≡ filled (log_in mem.now pieces 64) }
 {
     let mut count = 0;
-    let mut k = 0;
-    while k < pieces {
+    for k in 0..pieces {
         count += counted(mem, k);
-        k += 1;
     }
     count
 }
@@ -74,12 +72,10 @@ fn entries_right(mem: &[u8], base: usize, pieces: usize, n: usize) -> bool
     requires { LogWithin mem.now pieces × (log_sound mem.now pieces 64 ≡ true) × (base + 16 * n ≤ length mem.now) }
     ensures { result ≡ all (entry_right mem.now base pieces) n }
 {
-    let mut i = 0;
-    while i < n {
+    for i in 0..n {
         if !entry_right(mem, base, pieces, i) {
             return false;
         }
-        i += 1;
     }
     true
 }
@@ -109,15 +105,13 @@ fn group_end(mem: &[u8], v: Line, g: usize) -> usize
     ensures { Group v.count (location_of mem.now v) g result }
 {
     let x = lined_locations::location(mem, v, g);
-    let mut e = g + 1;
-    while e < v.count {
+    for e in g + 1..v.count {
         let l = lined_locations::location(mem, v, e);
         if x.address.0 < l.address.0 {
             return e;
         }
-        e += 1;
     }
-    e
+    v.count
 }
 
 // An address that no piece of the entries from i to e - 1 goes beyond: the greatest end of them.
@@ -126,13 +120,8 @@ fn reach(mem: &[u8], v: Line, i: usize, e: usize) -> u64
     ensures { NoneBeyond (piece_end mem.now v) i e result }
 {
     let mut end = 0;
-    let mut j = i;
-    while j < e {
-        let stop = piece_end(mem, v, j);
-        j += 1;
-        if end < stop {
-            end = stop;
-        }
+    for j in i..e {
+        end = piece_end(mem, v, j).max(end);
     }
     end
 }
@@ -142,15 +131,13 @@ fn created_from(mem: &[u8], v: Line, q: usize, h: usize, tick: u64) -> usize
     requires { Inside mem.now v × (q ≤ h) × (h ≤ v.count) }
     ensures { CreatedBefore (location_of mem.now v) q h tick result }
 {
-    let mut r = q;
-    while r < h {
+    for r in q..h {
         let l = lined_locations::location(mem, v, r);
         if tick <= l.created_at.0 {
             return r;
         }
-        r += 1;
     }
-    r
+    h
 }
 
 // Whether entry q - 1 is one of those from g on, and ends after a tick.
@@ -173,16 +160,15 @@ fn pair_apart(mem: &[u8], v: Line, i: usize, e: usize, g: usize, h: usize) -> bo
 {
     let b = lined_locations::location(mem, v, g);
     let mut q = g;
-    let mut j = i;
-    while j < e {
+    for j in i..e {
         let end = piece_end(mem, v, j);
         let x = lined_locations::location(mem, v, j);
-        j += 1;
-        if b.address.0 < end {
-            q = created_from(mem, v, q, h, x.destroyed_at.0);
-            if lives_on(mem, v, g, q, x.created_at.0) {
-                return false;
-            }
+        if end <= b.address.0 {
+            continue;
+        }
+        q = created_from(mem, v, q, h, x.destroyed_at.0);
+        if lives_on(mem, v, g, q, x.created_at.0) {
+            return false;
         }
     }
     true

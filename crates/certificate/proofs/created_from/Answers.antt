@@ -13,7 +13,7 @@ abbrev tick-of : Location → ℕ
 tick-of l = l.created
 
 pub loop-r-init : goal.loop-r-init
-loop-r-init c = (omega arith, c.requires.1, λ k x y. absurd (omega arith))
+loop-r-init c = λ k x y. absurd (omega arith)
 
 pub location-l-requires : goal.location-l-requires
 location-l-requires c = (c.requires.0.within, omega (arith, c.requires.2))
@@ -21,20 +21,14 @@ location-l-requires c = (c.requires.0.within, omega (arith, c.requires.2))
 pub returns-then-tick-l : goal.returns-then-tick-l
 returns-then-tick-l c =
     let turn = c.loop-r in
-    record { low = turn.invariant.0; high = turn.invariant.1; before = turn.invariant.2; after = λ _. omega (arith, leb-true, ap tick-of c.location-l.ensures) }
-
-pub overflow_add-r : goal.overflow_add-r
-overflow_add-r c = omega (arith, inside_number c.args.mem.now c.args.v c.requires.0 c.loop-r.r (omega (arith, c.requires.2)))
+    record { low = turn.auto.r; high = omega arith; before = turn.invariant; after = λ _. omega (arith, leb-true, ap tick-of c.location-l.ensures) }
 
 pub loop-r-preserved : goal.loop-r-preserved
 loop-r-preserved c =
-    let a = c.args in (
-      omega (arith, c.loop-r.invariant.0),
-      omega arith,
-      one_more (λ (k : ℕ). (location_of a.mem.now a.v k).created < a.tick) a.q c.loop-r.r c.loop-r.invariant.2 (omega (arith, leb-false, ap tick-of c.location-l.ensures)),
-    )
+    let a = c.args in
+    one_more (λ (k : ℕ). (location_of a.mem.now a.v k).created < a.tick) a.q c.loop-r.r c.loop-r.invariant (omega (arith, leb-false, ap tick-of c.location-l.ensures))
 
 pub returns : goal.returns
 returns c =
     let turn = c.loop-r in
-    record { low = turn.invariant.0; high = turn.invariant.1; before = turn.invariant.2; after = λ l. absurd (omega arith) }
+    record { low = c.requires.1; high = omega arith; before = λ k x y. turn.invariant k x (omega arith); after = λ l. absurd (omega arith) }

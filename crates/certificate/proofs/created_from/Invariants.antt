@@ -4,7 +4,4 @@ use Rattle.lined_locations.specs.Line.{location_of}
 use Rattle.certificate.proofs.created_from.Given as goal
 
 abbrev pub invariant-loop-r : goal.invariant-loop-r
-invariant-loop-r l = (l.q ≤ l.r) × (l.r ≤ l.h) × ((k : ℕ) → l.q ≤ k → k < l.r → (location_of l.mem l.v k).created < l.tick)
-
-abbrev pub decreases-loop-r : goal.decreases-loop-r
-decreases-loop-r l = l.h - l.r
+invariant-loop-r l = (k : ℕ) → l.q ≤ k → k < l.r → (location_of l.mem l.v k).created < l.tick

@@ -6,7 +6,4 @@ use Rattle.certificate.specs.Entries.{all, entry_right}
 use Rattle.certificate.proofs.entries_right.Given as goal
 
 abbrev pub invariant-loop-i : goal.invariant-loop-i
-invariant-loop-i l = (l.i ≤ l.n) × (all (entry_right l.mem l.base l.pieces) l.i ≡ true)
-
-abbrev pub decreases-loop-i : goal.decreases-loop-i
-decreases-loop-i l = l.n - l.i
+invariant-loop-i l = all (entry_right l.mem l.base l.pieces) l.i ≡ true

@@ -8,25 +8,22 @@ use Rattle.certificate.proofs.Counting.{size_small, filled_start, filled_next, f
 use Rattle.certificate.proofs.filled.Goals as goal
 
 pub loop-k-init : goal.loop-k-init
-loop-k-init c = (omega arith, omega arith, filled_start c.args.mem.now c.args.pieces c.requires.0 c.requires.1)
+loop-k-init c = (omega arith, filled_start c.args.mem.now c.args.pieces c.requires.0 c.requires.1)
 
 pub counted-count-requires : goal.counted-count-requires
 counted-count-requires c = (omega (arith, c.requires.0.0), size_small c.args.mem.now c.args.pieces c.requires.0 c.requires.1 c.loop-k.k (omega arith))
 
 pub overflow_add-count : goal.overflow_add-count
 overflow_add-count c =
-    let e = filled_next c.args.mem.now c.args.pieces c.requires.0 c.requires.1 c.loop-k.k c.loop-k.count c.counted-count.result (omega arith) c.loop-k.invariant.2 c.counted-count.ensures in
+    let e = filled_next c.args.mem.now c.args.pieces c.requires.0 c.requires.1 c.loop-k.k c.loop-k.count c.counted-count.result (omega arith) c.loop-k.invariant.1 c.counted-count.ensures in
     omega (arith, e, filled_few c.args.mem.now c.args.pieces c.requires.0 c.requires.1 (c.loop-k.k + 1), c.requires.0.1)
-
-pub overflow_add-k : goal.overflow_add-k
-overflow_add-k c = omega (arith, c.requires.0.1)
 
 pub loop-k-preserved : goal.loop-k-preserved
 loop-k-preserved c =
-    let next = filled_next c.args.mem.now c.args.pieces c.requires.0 c.requires.1 c.loop-k.k c.loop-k.count c.counted-count.result (omega arith) c.loop-k.invariant.2 c.counted-count.ensures in
-    (omega arith, omega (arith, next, filled_few c.args.mem.now c.args.pieces c.requires.0 c.requires.1 (c.loop-k.k + 1)), next)
+    let next = filled_next c.args.mem.now c.args.pieces c.requires.0 c.requires.1 c.loop-k.k c.loop-k.count c.counted-count.result (omega arith) c.loop-k.invariant.1 c.counted-count.ensures in
+    (omega (arith, next, filled_few c.args.mem.now c.args.pieces c.requires.0 c.requires.1 (c.loop-k.k + 1)), next)
 
 pub returns : goal.returns
 returns c =
-    let k : c.loop-k.k ≡ c.args.pieces = omega (arith, c.loop-k.invariant.0) in
-    c.loop-k.invariant.2 ∙ ap (λ (n : ℕ). filled (log_in c.args.mem.now n 64)) k
+    let k : c.loop-k.k ≡ c.args.pieces = omega arith in
+    c.loop-k.invariant.1 ∙ ap (λ (n : ℕ). filled (log_in c.args.mem.now n 64)) k

@@ -6,7 +6,4 @@ use Rattle.index_memory.specs.Log.{log_in}
 use Rattle.certificate.proofs.filled.Given as goal
 
 abbrev pub invariant-loop-k : goal.invariant-loop-k
-invariant-loop-k l = (l.k ≤ l.pieces) × (l.count ≤ l.k) × (l.count ≡ filled (log_in l.mem l.k 64))
-
-abbrev pub decreases-loop-k : goal.decreases-loop-k
-decreases-loop-k l = l.pieces - l.k
+invariant-loop-k l = (l.count ≤ l.k) × (l.count ≡ filled (log_in l.mem l.k 64))

@@ -5,7 +5,4 @@ use Rattle.lined_locations.specs.Line.{location_of}
 use Rattle.certificate.proofs.group_end.Given as goal
 
 abbrev pub invariant-loop-e : goal.invariant-loop-e
-invariant-loop-e l = (l.g < l.e) × (l.e ≤ l.v.count) × ((k : ℕ) → l.g ≤ k → k < l.e → (location_of l.mem l.v k).address ≡ (location_of l.mem l.v l.g).address)
-
-abbrev pub decreases-loop-e : goal.decreases-loop-e
-decreases-loop-e l = l.v.count - l.e
+invariant-loop-e l = (k : ℕ) → l.g ≤ k → k < l.e → (location_of l.mem l.v k).address ≡ (location_of l.mem l.v l.g).address

@@ -4,7 +4,7 @@ use native.Mathlib.Omega.{arith}
 use mathlib.Core.Path.{◌≡◌, sym, ap, subst, ◌∙◌}
 use mathlib.Core.Bool.{true, false, ◌&&◌}
 use lib.Dec.{ltb}
-use borrow.Author.Tests.{ltb-true, ltb-false}
+use borrow.Author.Tests.{leb-true, leb-false}
 use Rattle.definitions.specs.Location.{Location}
 use Rattle.lined_locations.specs.Line.{location_of}
 use Rattle.certificate.specs.Entries.{piece_end}
@@ -37,9 +37,6 @@ piece_end-end-requires c = (c.requires.0, omega (arith, c.requires.1.high))
 pub location-x-requires : goal.location-x-requires
 location-x-requires c = (c.requires.0.within, omega (arith, c.requires.1.high))
 
-pub overflow_add-j : goal.overflow_add-j
-overflow_add-j c = omega (arith, inside_number c.args.mem.now c.args.v c.requires.0 c.loop-j.j (omega (arith, c.requires.1.high)))
-
 pub created_from-q-requires : goal.created_from-q-requires
 created_from-q-requires c = (c.requires.0, c.loop-j.invariant.high, c.requires.2.high)
 
@@ -55,10 +52,10 @@ returns-then-lives_on c =
     let t : ltb a.g r && ltb (l c.loop-j.j).created (l (r - 1)).destroyed ≡ true = ap (λ (x : Location). ltb a.g r && ltb x.created (l (r - 1)).destroyed) (sym e) ∙ sym c.lives_on.ensures ∙ c.if-lives_on.true in
     walk_met a.v.count l c.requires.0.lined (piece_end a.mem.now a.v) a.i a.e a.g a.h c.requires.1 c.requires.2
     c.loop-j.j c.loop-j.q c.loop-j.invariant (omega arith) r (subst (λ (d : ℕ). CreatedBefore l c.loop-j.q a.h d r) (ap end_of e) c.created_from-q.ensures)
-    (omega (arith, ltb-true, ap address-of c.location-b.ensures, c.piece_end-end.ensures)) t
+    (omega (arith, leb-false, ap address-of c.location-b.ensures, c.piece_end-end.ensures)) t
 
-pub loop-j-preserved-else-lives_on : goal.loop-j-preserved-else-lives_on
-loop-j-preserved-else-lives_on c =
+pub loop-j-preserved : goal.loop-j-preserved
+loop-j-preserved c =
     let a = c.args in
     let l = location_of a.mem.now a.v in
     let r = c.created_from-q.result in
@@ -67,11 +64,11 @@ loop-j-preserved-else-lives_on c =
     walk_on a.v.count l c.requires.0.lined (piece_end a.mem.now a.v) a.i a.e a.g a.h c.requires.1 c.requires.2
     c.loop-j.j c.loop-j.q c.loop-j.invariant (omega arith) r (subst (λ (d : ℕ). CreatedBefore l c.loop-j.q a.h d r) (ap end_of e) c.created_from-q.ensures) t
 
-pub loop-j-preserved : goal.loop-j-preserved
-loop-j-preserved c =
+pub loop-j-preserved-then-end-b : goal.loop-j-preserved-then-end-b
+loop-j-preserved-then-end-b c =
     let a = c.args in
     walk_short a.v.count (location_of a.mem.now a.v) c.requires.0.lined (piece_end a.mem.now a.v) a.i a.e a.g a.h c.requires.1 c.requires.2
-    c.loop-j.j c.loop-j.q c.loop-j.invariant (omega arith) (omega (arith, ltb-false, ap address-of c.location-b.ensures, c.piece_end-end.ensures))
+    c.loop-j.j c.loop-j.q c.loop-j.invariant (omega arith) (omega (arith, leb-true, ap address-of c.location-b.ensures, c.piece_end-end.ensures))
 
 pub returns : goal.returns
 returns c =

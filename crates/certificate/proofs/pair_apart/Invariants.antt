@@ -7,6 +7,3 @@ use Rattle.certificate.proofs.pair_apart.Given as goal
 
 abbrev pub invariant-loop-j : goal.invariant-loop-j
 invariant-loop-j l = Walked (location_of l.mem l.v) (piece_end l.mem l.v) l.i l.e l.g l.h l.j l.q
-
-abbrev pub decreases-loop-j : goal.decreases-loop-j
-decreases-loop-j l = l.e - l.j

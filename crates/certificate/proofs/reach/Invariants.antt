@@ -5,7 +5,4 @@ use Rattle.certificate.specs.Groups.{NoneBeyond}
 use Rattle.certificate.proofs.reach.Given as goal
 
 abbrev pub invariant-loop-j : goal.invariant-loop-j
-invariant-loop-j l = (l.i ≤ l.j) × (l.j ≤ l.e) × NoneBeyond (piece_end l.mem l.v) l.i l.j l.end
-
-abbrev pub decreases-loop-j : goal.decreases-loop-j
-decreases-loop-j l = l.e - l.j
+invariant-loop-j l = NoneBeyond (piece_end l.mem l.v) l.i l.j l.end
