@@ -1,5 +1,5 @@
 -- `certificate::created_from` meets its contract: those before r are created before the tick. Assumes nothing.
-use Prim.Native.Nat.{ℕ, ◌-◌, ◌≤◌, ◌<◌}
+use Prim.Native.Nat.{ℕ, ◌≤◌, ◌<◌}
 use Rattle.lined_locations.specs.Line.{location_of}
 use Rattle.certificate.proofs.created_from.Given as goal
 

@@ -1,5 +1,4 @@
 -- `certificate::entries_right` meets its contract: the entries before i pass. Assumes nothing.
-use Prim.Native.Nat.{◌-◌, ◌≤◌}
 use mathlib.Core.Path.{◌≡◌}
 use mathlib.Core.Bool.{true}
 use Rattle.certificate.specs.Entries.{all, entry_right}

@@ -1,9 +1,6 @@
 -- `certificate::filled` meets its contract: the pieces before k are counted. Assumes nothing.
-use Prim.Native.Nat.{ℕ, ◌+◌}
+use Prim.Native.Nat.{◌+◌}
 use native.Mathlib.Omega.{arith}
-use mathlib.Core.Path.{◌≡◌, ap, ◌∙◌}
-use Rattle.conflicts.specs.Promises.{filled}
-use Rattle.index_memory.specs.Log.{log_in}
 use Rattle.certificate.proofs.Counting.{size_small, filled_start, filled_next, filled_few}
 use Rattle.certificate.proofs.filled.Goals as goal
 
@@ -13,17 +10,7 @@ loop-k-init c = (omega arith, filled_start c.args.mem.now c.args.pieces c.requir
 pub counted-count-requires : goal.counted-count-requires
 counted-count-requires c = (omega (arith, c.requires.0.0), size_small c.args.mem.now c.args.pieces c.requires.0 c.requires.1 c.loop-k.k (omega arith))
 
-pub overflow_add-count : goal.overflow_add-count
-overflow_add-count c =
-    let e = filled_next c.args.mem.now c.args.pieces c.requires.0 c.requires.1 c.loop-k.k c.loop-k.count c.counted-count.result (omega arith) c.loop-k.invariant.1 c.counted-count.ensures in
-    omega (arith, e, filled_few c.args.mem.now c.args.pieces c.requires.0 c.requires.1 (c.loop-k.k + 1), c.requires.0.1)
-
 pub loop-k-preserved : goal.loop-k-preserved
 loop-k-preserved c =
     let next = filled_next c.args.mem.now c.args.pieces c.requires.0 c.requires.1 c.loop-k.k c.loop-k.count c.counted-count.result (omega arith) c.loop-k.invariant.1 c.counted-count.ensures in
     (omega (arith, next, filled_few c.args.mem.now c.args.pieces c.requires.0 c.requires.1 (c.loop-k.k + 1)), next)
-
-pub returns : goal.returns
-returns c =
-    let k : c.loop-k.k ≡ c.args.pieces = omega arith in
-    c.loop-k.invariant.1 ∙ ap (λ (n : ℕ). filled (log_in c.args.mem.now n 64)) k

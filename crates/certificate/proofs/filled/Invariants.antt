@@ -1,5 +1,5 @@
 -- `certificate::filled` meets its contract: the pieces before k are counted. Assumes nothing.
-use Prim.Native.Nat.{◌-◌, ◌≤◌}
+use Prim.Native.Nat.{◌≤◌}
 use mathlib.Core.Path.{◌≡◌}
 use Rattle.conflicts.specs.Promises.{filled}
 use Rattle.index_memory.specs.Log.{log_in}

@@ -1,5 +1,5 @@
 -- `certificate::group_end` meets its contract: those from g to e - 1 are at one address. Assumes nothing.
-use Prim.Native.Nat.{ℕ, ◌-◌, ◌≤◌, ◌<◌}
+use Prim.Native.Nat.{ℕ, ◌≤◌, ◌<◌}
 use mathlib.Core.Path.{◌≡◌}
 use Rattle.lined_locations.specs.Line.{location_of}
 use Rattle.certificate.proofs.group_end.Given as goal

@@ -10,7 +10,6 @@ use Rattle.lined_locations.specs.Line.{location_of}
 use Rattle.certificate.specs.Entries.{piece_end}
 use Rattle.certificate.specs.Groups.{CreatedBefore, Meeting}
 use Rattle.certificate.proofs.Groups.{walk_start, walk_short, walk_on, walk_met}
-use Rattle.certificate.proofs.Stored.{inside_number}
 use Rattle.certificate.proofs.pair_apart.Goals as goal
 
 abbrev address-of : Location → ℕ

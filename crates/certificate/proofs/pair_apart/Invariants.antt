@@ -1,5 +1,4 @@
 -- `certificate::pair_apart` meets its contract: the entries before j have been walked through. Assumes nothing.
-use Prim.Native.Nat.{◌-◌}
 use Rattle.lined_locations.specs.Line.{location_of}
 use Rattle.certificate.specs.Entries.{piece_end}
 use Rattle.certificate.proofs.Groups.{Walked}

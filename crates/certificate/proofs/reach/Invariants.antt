@@ -1,5 +1,4 @@
 -- `certificate::reach` meets its contract: the pieces before entry j don't go beyond the end so far. Assumes nothing.
-use Prim.Native.Nat.{◌-◌, ◌≤◌}
 use Rattle.certificate.specs.Entries.{piece_end}
 use Rattle.certificate.specs.Groups.{NoneBeyond}
 use Rattle.certificate.proofs.reach.Given as goal
