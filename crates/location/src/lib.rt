@@ -1,44 +1,25 @@
 // Locations in space and time: where a block stood, from which tick on and until which.
 #![tactic(auto)]
 
-ghost use Rattle.std.specs.Prelude.{◌≡◌, ◌+◌, ◌^◌, ◌≤◌, ◌<◌, min, max, length};
+ghost use Rattle.std.specs.Prelude.{◌≡◌, ◌+◌, ◌^◌, ◌≤◌, ◌<◌, length};
 ghost use Rattle.std.proofs.lemmas.List.Edits.{sets};
 ghost use Rattle.definitions.specs.Location as D;
 ghost use Rattle.location.specs.Plain.{plain, common_of};
 
 // An address. It is added only to byte counts.
-#[derive(Clone, Copy)]
+#[derive(Clone, Copy, Debug, PartialEq, Eq, PartialOrd, Ord)]
 pub struct Address(pub u64);
 
 // A tick. Nothing is added to it.
-#[derive(Clone, Copy)]
+#[derive(Clone, Copy, Debug, PartialEq, Eq, PartialOrd, Ord)]
 pub struct Tick(pub u64);
 
-// Where something stands, from which tick on and until which.
-#[derive(Clone, Copy)]
+// Where something stands, from which tick on and until which. The order of its fields is that of locations.
+#[derive(Clone, Copy, Debug, PartialEq, Eq, PartialOrd, Ord)]
 pub struct SpacetimeLocation {
     pub address: Address,
     pub created_at: Tick,
     pub destroyed_at: Tick,
-}
-
-// The life that two locations have in common, where there is one.
-#[derive(Clone, Copy)]
-pub enum Common {
-    Life(SpacetimeLocation),
-    Nothing,
-}
-
-fn least(a: u64, b: u64) -> u64
-    ensures { result ≡ min a b }
-{
-    if a < b { a } else { b }
-}
-
-fn greatest(a: u64, b: u64) -> u64
-    ensures { result ≡ max a b }
-{
-    if a < b { b } else { a }
 }
 
 impl SpacetimeLocation {
@@ -68,38 +49,24 @@ impl SpacetimeLocation {
     }
 
     // The life that both have in common. Lives that only touch have none, since nothing lives at the tick of its end.
-    pub fn overlap(self, other: SpacetimeLocation) -> Common
+    pub fn overlap(self, other: SpacetimeLocation) -> Option<SpacetimeLocation>
         ensures { common_of result ≡ D.overlap (plain self) (plain other) }
     {
-        if self.created_at.0 < other.destroyed_at.0 {
-            if other.created_at.0 < self.destroyed_at.0 {
-                return Common::Life(SpacetimeLocation::new(
-                    least(self.address.0, other.address.0),
-                    greatest(self.created_at.0, other.created_at.0),
-                    least(self.destroyed_at.0, other.destroyed_at.0),
-                ));
-            }
+        if self.created_at < other.destroyed_at && other.created_at < self.destroyed_at {
+            return Some(SpacetimeLocation {
+                address: self.address.min(other.address),
+                created_at: self.created_at.max(other.created_at),
+                destroyed_at: self.destroyed_at.min(other.destroyed_at),
+            });
         }
-        Common::Nothing
+        None
     }
 
     // Whether it comes first in the order of locations: address, creation, end.
     pub fn before(self, other: SpacetimeLocation) -> bool
         ensures { result ≡ D.is_lt (D.order (plain self) (plain other)) }
     {
-        if self.address.0 < other.address.0 {
-            return true;
-        }
-        if other.address.0 < self.address.0 {
-            return false;
-        }
-        if self.created_at.0 < other.created_at.0 {
-            return true;
-        }
-        if other.created_at.0 < self.created_at.0 {
-            return false;
-        }
-        self.destroyed_at.0 < other.destroyed_at.0
+        self < other
     }
 }
 
