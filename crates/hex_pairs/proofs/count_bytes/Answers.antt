@@ -1,20 +1,25 @@
 -- `hex_pairs::count_bytes` meets its contract: the opening parenthesis, and what stands behind it. Assumes nothing.
-use mathlib.Core.Path.{ap, ◌∙◌}
-use Rattle.hex_pairs.proofs.Steps.{bytes_out, bytes_not, bytes_so}
+use native.Mathlib.Omega.{arith}
+use mathlib.Core.Path.{sym, ap, ◌∙◌}
+use Rattle.std.proofs.lemmas.List.{take_rest}
 use Rattle.hex_pairs.specs.HexAnswers.{counted}
+use Rattle.hex_pairs.proofs.Steps.{bytes_out, bytes_not, bytes_so}
 use Rattle.hex_pairs.proofs.count_bytes.Goals as goal
 
-pub returns-then-line-at : goal.returns-then-line-at
-returns-then-line-at c =
+pub returns-in_err-opening : goal.returns-in_err-opening
+returns-in_err-opening c =
     let a = c.args in
-    ap (counted 0) (bytes_out a.line.now a.at c.if-line-at.true)
+    rw c.from_residual.ensures (ap (counted 0) (bytes_out a.line.now a.at c.in_err-opening.ensures.lookup.3))
 
-pub returns-then-line-at-ne40 : goal.returns-then-line-at-ne40
-returns-then-line-at-ne40 c =
+pub returns-then-opening-eq40 : goal.returns-then-opening-eq40
+returns-then-opening-eq40 c =
     let a = c.args in
-    ap (counted 0) (bytes_not a.line.now a.at c.if-line-at.false c.if-line-at-ne40.true)
+    let b = c.in_ok-opening.ensures.lookup in
+    (rw take_rest at c.count_pairs.ensures)
+    ∙ ap (counted 0) (bytes_so a.line.now a.at b.3.0 (sym (b.4 (omega arith) 0) ∙ c.if-opening-eq40.true))
 
-pub returns : goal.returns
-returns c =
+pub returns-else-opening-eq40 : goal.returns-else-opening-eq40
+returns-else-opening-eq40 c =
     let a = c.args in
-    c.count_pairs.ensures ∙ ap (counted 0) (bytes_so a.line.now a.at c.if-line-at.false c.if-line-at-ne40.false)
+    let b = c.in_ok-opening.ensures.lookup in
+    ap (counted 0) (bytes_not a.line.now a.at b.3.0 (λ e. c.if-opening-eq40.false (b.4 (omega arith) 0 ∙ e)))

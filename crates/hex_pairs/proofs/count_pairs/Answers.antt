@@ -1,39 +1,40 @@
 -- `hex_pairs::count_pairs` meets its contract: the pairs passed, and what is still to be counted, are always the same. Assumes nothing.
+use Prim.Native.Nat.{◌+◌, ◌*◌, ◌≤◌, ◌<◌}
 use native.Mathlib.Omega.{arith}
-use Prim.Native.Nat.{◌+◌}
-use mathlib.Core.Path.{refl, sym, ap, ◌∙◌}
-use lib.ListN.{drop}
-use Rattle.hex_pairs.proofs.Steps.{pairs_out, pairs_odd, pairs_end, pairs_on, counted_one}
-use Rattle.hex_pairs.specs.HexBytes.{hex_bytes}
+use mathlib.Core.Path.{◌≡◌, ap, ◌∙◌}
+use mathlib.Core.List.{[], ◌∷◌}
+use lib.ListN.{length, drop, length-drop}
+use lib.Seq.{drop-drop}
+use Rattle.std.proofs.lemmas.List.{take_rest}
+use Rattle.std.proofs.lemmas.Slice.Eq.{slice_eq-Decides}
+use Rattle.std.proofs.lemmas.Bool.Decides.{Decides-eqb}
 use Rattle.hex_pairs.specs.HexAnswers.{counted}
+use Rattle.hex_pairs.proofs.Steps.{pairs_short, pairs_end, pairs_on}
 use Rattle.hex_pairs.proofs.count_pairs.Goals as goal
 
-pub loop-at-init : goal.loop-at-init
-loop-at-init c = (omega arith, refl)
+pub returns-then-is_none : goal.returns-then-is_none
+returns-then-is_none c =
+    let l = c.args.text.now in
+    let n = c.loop-n.n in
+    let t = drop (2 * n) l in
+    let h : 2 ≤ length t = omega (arith, length-drop (2 * n) l) in
+    let e = rw (take_rest l (2 * n), c.as_slice.ensures) at c.eq.ensures in
+    let p = rw (c.pair_value.ensures, take_rest l (2 * n)) at c.if-is_none.ensures in
+    c.then_some.ensures ∙ pairs_end t n h p c.eq.result (slice_eq-Decides Decides-eqb t (41 ∷ 41 ∷ []) c.eq.result e) ∙ c.loop-n.invariant
 
-pub returns-then-line-at-lt2 : goal.returns-then-line-at-lt2
-returns-then-line-at-lt2 c =
-    let a = c.args in
-    ap (counted c.loop-at.n) (pairs_odd a.line.now c.loop-at.at c.loop-at-test.true c.if-line-at-lt2.true) ∙ c.loop-at.invariant.1
-
-pub returns-then-pair_value-gt255 : goal.returns-then-pair_value-gt255
-returns-then-pair_value-gt255 c =
-    let l = c.args.line.now in
-    let v = c.pair_value in
-    c.closed.ensures
-    ∙ ap (counted c.loop-at.n) (pairs_end l c.loop-at.at (omega arith) v.result v.ensures c.if-pair_value-gt255.true)
-    ∙ c.loop-at.invariant.1
-
-pub loop-at-preserved : goal.loop-at-preserved
-loop-at-preserved c =
-    let l = c.args.line.now in
-    let v = c.pair_value in (
-      omega arith,
-      sym (counted_one c.loop-at.n v.result (hex_bytes (drop (c.loop-at.at + 2) l)))
-          ∙ sym (ap (counted c.loop-at.n) (pairs_on l c.loop-at.at (omega arith) v.result v.ensures c.if-pair_value-gt255.false)) ∙ c.loop-at.invariant.1,
-    )
+pub loop-n-preserved : goal.loop-n-preserved
+loop-n-preserved c =
+    let l = c.args.text.now in
+    let n = c.loop-n.n in
+    let t = drop (2 * n) l in
+    let h : 2 ≤ length t = omega (arith, length-drop (2 * n) l) in
+    let p = rw (c.pair_value.ensures, take_rest l (2 * n)) at c.if-is_none.ensures in
+    let q : 2 * (n + 1) ≡ 2 * n + 2 = omega arith in
+    rw (q, ← drop-drop 2 (2 * n) l) (pairs_on t n h p ∙ c.loop-n.invariant)
 
 pub returns : goal.returns
 returns c =
-    let a = c.args in
-    ap (counted c.loop-at.n) (pairs_out a.line.now c.loop-at.at c.loop-at-test.false) ∙ c.loop-at.invariant.1
+    let l = c.args.text.now in
+    let n = c.loop-n.n in
+    let h : length (drop (2 * n) l) < 2 = omega (arith, length-drop (2 * n) l) in
+    ap (counted n) (pairs_short (drop (2 * n) l) h) ∙ c.loop-n.invariant

@@ -1,31 +1,19 @@
 -- `hex_pairs::digit_value` meets its contract: 0 to 9, a to f, or neither. Assumes nothing.
 use native.Mathlib.Omega.{arith}
-use mathlib.Core.Path.{sym, ◌∙◌}
-use mathlib.Core.Bool.{true}
-use Rattle.numerals.proofs.Steps.{digit_tells}
-use Rattle.hex_pairs.proofs.Steps.{nibble_digit, nibble_low, nibble_high, nibble_letter}
+use Rattle.hex_pairs.proofs.Steps.{nibble_digit, nibble_letter, nibble_none}
 use Rattle.hex_pairs.proofs.digit_value.Goals as goal
 
-pub overflow_sub-b : goal.overflow_sub-b
-overflow_sub-b c = (digit_tells c.args.b true (sym c.digit.ensures ∙ c.if-digit.true)).0
+pub returns-in-48-to-57 : goal.returns-in-48-to-57
+returns-in-48-to-57 c = nibble_digit c.args.b (omega arith) (omega arith)
 
-pub returns-then-digit : goal.returns-then-digit
-returns-then-digit c =
-    let b = c.args.b in
-    c.wide.ensures.0 ∙ nibble_digit b (sym c.digit.ensures ∙ c.if-digit.true)
+pub returns-in-97-to-102 : goal.returns-in-97-to-102
+returns-in-97-to-102 c = nibble_letter c.args.b (omega arith) (omega arith) _ (omega arith)
 
-pub returns-then-b-lt97 : goal.returns-then-b-lt97
-returns-then-b-lt97 c =
-    let b = c.args.b in
-    nibble_low b (sym c.digit.ensures ∙ c.if-digit.false) (omega arith)
+pub returns-in_default : goal.returns-in_default
+returns-in_default c = nibble_none c.args.b (λ h. omega arith) (λ h. omega arith)
 
-pub returns-then-b-gt102 : goal.returns-then-b-gt102
-returns-then-b-gt102 c =
-    let b = c.args.b in
-    nibble_high b (sym c.digit.ensures ∙ c.if-digit.false) (omega arith) (omega arith)
+pub returns-in_default-2 : goal.returns-in_default-2
+returns-in_default-2 c = nibble_none c.args.b (λ h. omega arith) (λ h. omega arith)
 
-pub returns : goal.returns
-returns c =
-    let b = c.args.b in
-    let d = sym c.digit.ensures ∙ c.if-digit.false in
-    nibble_letter b d (omega arith) (omega arith) c.wide-2.result c.wide-2.ensures.0
+pub returns-in_default-3 : goal.returns-in_default-3
+returns-in_default-3 c = nibble_none c.args.b (λ h. omega arith) (λ h. omega arith)

@@ -1,21 +1,26 @@
 -- `hex_pairs::pair_value` meets its contract: both bytes are digits, or one is none. Assumes nothing.
-use Rattle.hex_pairs.proofs.Steps.{pair_first, pair_second, pair_both}
+use native.Mathlib.Omega.{arith}
+use mathlib.Core.Path.{sym}
+use Rattle.hex_pairs.proofs.Steps.{nibble_small, pair_first, pair_second, pair_both}
 use Rattle.hex_pairs.proofs.pair_value.Goals as goal
 
-pub returns-then-h-gt15 : goal.returns-then-h-gt15
-returns-then-h-gt15 c =
-    let h = c.digit_value-h in
-    let l = c.digit_value-l in
-    pair_first c.args.a c.args.b h.result l.result h.ensures l.ensures c.if-h-gt15.true
+pub returns-in_err-h : goal.returns-in_err-h
+returns-in_err-h c =
+    let a = c.args in
+    rw c.from_residual.ensures (pair_first a.a a.b (sym c.in_err-h.ensures))
 
-pub returns-then-l-gt15 : goal.returns-then-l-gt15
-returns-then-l-gt15 c =
-    let h = c.digit_value-h in
-    let l = c.digit_value-l in
-    pair_second c.args.a c.args.b h.result l.result h.ensures l.ensures c.if-h-gt15.false c.if-l-gt15.true
+pub returns-in_err-l : goal.returns-in_err-l
+returns-in_err-l c =
+    let a = c.args in
+    rw c.from_residual-in_err-l.ensures (pair_second a.a a.b (sym c.in_ok-h.ensures) (sym c.in_err-l.ensures))
 
 pub returns : goal.returns
 returns c =
-    let h = c.digit_value-h in
-    let l = c.digit_value-l in
-    pair_both c.args.a c.args.b h.result l.result h.ensures l.ensures c.if-h-gt15.false c.if-l-gt15.false
+    let a = c.args in
+    pair_both a.a a.b (sym c.in_ok-h.ensures) (sym c.in_ok-l.ensures)
+
+pub overflow_mul-result : goal.overflow_mul-result
+overflow_mul-result c = omega (arith, nibble_small c.args.a _ (sym c.in_ok-h.ensures))
+
+pub overflow_add-result : goal.overflow_add-result
+overflow_add-result c = omega (arith, nibble_small c.args.a _ (sym c.in_ok-h.ensures), nibble_small c.args.b _ (sym c.in_ok-l.ensures))
