@@ -15,17 +15,16 @@ ghost use Rattle.certificate.specs.Groups.{Group, NoneBeyond, CreatedBefore, Apa
 
 use definitions::PIECE_SIZE;
 use lined_locations::{CERTIFIED_SIZE, Line};
-use memory_header::{HEADER_SIZE, Header, LOGGED_SIZE, NODE_SIZE};
+use memory_header::{HEADER_SIZE, Header, LOGGED_SIZE};
 
 // The end of a piece in the log stands behind its length, its bytes, its address and its creation.
 const PIECE_END: usize = 40;
 
 // Where the certificate begins.
 pub fn certificate_at(h: Header) -> usize
-    requires { (h.node_room ≤ 1048576) × (h.entry_room ≤ 1048576) }
     ensures { result ≡ work_at (header_of h).capacity }
 {
-    HEADER_SIZE + NODE_SIZE * h.node_room + LOGGED_SIZE * h.entry_room
+    h.capacity.work_at()
 }
 
 // One for a piece of the log that has a byte, none for one that has not. A length that is only compared with zero would be
@@ -230,7 +229,7 @@ fn none_inside(mem: &[u8], v: Line) -> bool
 
 // Whether no two pieces of a log that is right conflict, and the certificate of an open index is theirs.
 pub fn order_right(mem: &[u8], h: Header) -> bool
-    requires { (heading_at mem.now ≡ some (header_of h)) × (h.phase ≡ 0) × (log_right mem.now (header_of h) ≡ true) }
+    requires { (heading_at mem.now ≡ some (header_of h)) × ((header_of h).phase ≡ 0) × (log_right mem.now (header_of h) ≡ true) }
     ensures { result ≡ order_right mem.now (header_of h) }
 {
     let base = certificate_at(h);

@@ -7,11 +7,10 @@ use mathlib.Core.List.{List}
 use mathlib.Core.Option.{some}
 use lib.ListN.{length}
 use lib.Dec.{ltb, leb, eqb}
-use borrow.Author.Tests.{eq-eqb, ne_eqb, lt-leb, le-leb, lt-ltb, le-ltb, leb-true}
+use borrow.Author.Tests.{eq-eqb, ne_eqb, leb-true}
 use Rattle.words.specs.Words.{le64}
 use Rattle.definitions.specs.Blocks.{Piece, node_charge, entry_charge, charge}
 use Rattle.definitions.specs.Calls.{last_number}
-use Rattle.definitions.proofs.Views.{Le, le}
 use Rattle.memory_header.specs.Layout.{Header}
 use Rattle.index_memory.specs.Log.{piece_in, log_in, piece_sound, log_sound}
 use Rattle.index_memory.specs.Index.{log_right}
@@ -20,36 +19,6 @@ use Rattle.index_memory.proofs.Charges.{node_bound, entry_max}
 use Rattle.definitions.proofs.Tests.{and_left}
 use Rattle.index_memory.proofs.LogBytes.{piece_length}
 use Rattle.memory_header.proofs.HeaderFacts.{HeaderFacts, heading_is, open_payload}
-
--- ---- the ways out of testing a piece
-
-module _ (m : List ℕ) (p n : ℕ) (e : n ≡ le64 m p) where
-  pub too_long : 16 < n → false ≡ piece_sound m p
-  too_long h =
-      let l : 16 < le64 m p = omega arith in
-      rw (lt-leb (le64 m p) 16 l)
-
-  pub no_life : n ≤ 16 → (a b : ℕ) → a ≡ le64 m (p + 32) → b ≡ le64 m (p + 40) → b ≤ a → false ≡ piece_sound m p
-  no_life h a b f g l =
-      let s : le64 m p ≤ 16 = omega arith in
-      let k : le64 m (p + 40) ≤ le64 m (p + 32) = omega arith in
-      rw (le-leb (le64 m p) 16 s, le-ltb (le64 m (p + 32)) (le64 m (p + 40)) k)
-
-  -- an address is compared with what is left above it
-  compared : (a : ℕ) → n ≤ 16 → leb a (last_number - n) ≡ leb (a + n) last_number
-  compared a s = go (leb a (last_number - n)) (le a (last_number - n)) (leb (a + n) last_number) (le (a + n) last_number)
-    where
-      go : (o : Bool) → Le o a (last_number - n) → (r : Bool) → Le r (a + n) last_number → o ≡ r
-      go true l true r = refl
-      go false l false r = refl
-      go true l false r = absurd (omega arith)
-      go false l true r = absurd (omega arith)
-
-  pub end_decides : n ≤ 16 → (a b c : ℕ) → a ≡ le64 m (p + 32) → b ≡ le64 m (p + 40) → a < b → c ≡ le64 m (p + 24) → leb c (last_number - n) ≡ piece_sound m p
-  end_decides h a b c f g l k =
-      let s : le64 m p ≤ 16 = omega arith in
-      let t : le64 m (p + 32) < le64 m (p + 40) = omega arith in
-      rw (le-leb (le64 m p) 16 s, lt-ltb (le64 m (p + 32)) (le64 m (p + 40)) t) (compared c h ∙ rw (k, e) refl)
 
 -- a sound piece has at most 16 bytes
 pub sound_small : (m : List ℕ) (p : ℕ) → piece_sound m p ≡ true → le64 m p ≤ 16

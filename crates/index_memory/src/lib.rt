@@ -41,36 +41,25 @@ fn piece_sound(mem: &[u8], at: usize) -> bool
     if PIECE_SIZE < m {
         return false;
     }
-    let created = words::get64(mem, at + 32);
-    let destroyed = words::get64(mem, at + 40);
-    if destroyed <= created {
-        return false;
-    }
-    let address = words::get64(mem, at + 24);
-    address <= u64::MAX - m as u64
+    let l = location::location_at(mem, at + 24);
+    l.created_at < l.destroyed_at && l.address.0 <= u64::MAX - m as u64
 }
 
 // Whether the log of an open index is right: each piece is sound, and the tally is the sum of the charges.
 pub fn log_right(mem: &[u8], h: Header) -> bool
-    requires { (heading_at mem.now ≡ some (header_of h)) × (h.phase ≡ 0) }
+    requires { (heading_at mem.now ≡ some (header_of h)) × ((header_of h).phase ≡ 0) }
     ensures { result ≡ log_right mem.now (header_of h) }
 {
     let mut nodes = 1;
     let mut entries = 0;
-    let mut at = HEADER_SIZE;
-    let mut left = h.payload;
-    while 0 < left {
+    for k in 0..h.payload {
+        let at = HEADER_SIZE + LOGGED_SIZE * k;
         if !piece_sound(mem, at) {
             return false;
         }
         let m = words::get64(mem, at) as usize;
         nodes += piece_nodes(m);
         entries += entry_charge(m);
-        at += LOGGED_SIZE;
-        left -= 1;
     }
-    if h.nodes != nodes {
-        return false;
-    }
-    h.entries == entries
+    h.tally.nodes == nodes && h.tally.entries == entries
 }
