@@ -1,37 +1,23 @@
--- What the buffer says of groups holds on where neither its entries of that depth nor the tails are written. Assumes nothing.
+-- What is known of groups holds on where the tails are not written. Assumes nothing.
 use Prim.Native.Nat.{ℕ, ◌+◌, ◌*◌, ◌≤◌, ◌<◌}
 use native.Mathlib.Omega.{arith}
 use mathlib.Core.Path.{◌≡◌, sym, ap, ◌∙◌}
 use mathlib.Core.List.{List}
-use lib.ListN.{length, get_or, take, drop}
-use lib.Seq.{ext_get_or}
+use lib.ListN.{length, get_or, take, length-take}
+use lib.Seq.{ext_get_or, get_or-take}
 use Rattle.tails.specs.Groups.{byte_at, Group, groups}
 use Rattle.tail_words.specs.Tail.{tail_of_record, tail_in, tails_in}
 use Rattle.tail_groups.specs.Found.{no_group, IsGroup, Grouped}
 use Rattle.tail_groups.specs.Ranks.{firsts}
+use Rattle.tail_groups.specs.declared.Grouping.{Grouping}
 use Rattle.tail_groups.proofs.Memory.{tails_ext, record_ext}
-use Rattle.tail_words.proofs.Part.{part_in, part_length}
 use Rattle.tail_groups.proofs.Arrival.{length_firsts, get_or_firsts}
 
--- the entries of the depth are as they were
-pub grouped_buffer : {s : List ℕ} {work lo hi d : ℕ} {buf : List ℕ} (buf' : List ℕ) {n : ℕ} → Grouped s work lo hi d buf n
-    → ((k : ℕ) → d * 513 ≤ k → k < d * 513 + 513 → get_or buf' k 0 ≡ get_or buf k 0) → Grouped s work lo hi d buf' n
-grouped_buffer {s} {work} {lo} {hi} {d} {buf} buf' {n} w h =
-    record { count = w.count; few = w.few; begins = h (d * 513) (omega arith) (omega arith) ∙ w.begins; ends = h (d * 513 + n) (omega arith) (omega (arith, w.few)) ∙ w.ends; each = each }
-  where
-    each : (g : ℕ) → g < n
-        → IsGroup s work lo hi d (get_or (groups d (tails_in s work lo hi)) g no_group) (get_or buf' (d * 513 + g) 0) (get_or buf' (d * 513 + g + 1) 0) (get_or buf' (d * 513 + 257 + g) 0)
-    each g l =
-        let p = h (d * 513 + g) (omega arith) (omega (arith, w.few)) in
-        let q = h (d * 513 + g + 1) (omega arith) (omega (arith, w.few)) in
-        let r = h (d * 513 + 257 + g) (omega arith) (omega (arith, w.few)) in
-        rw (p, q, r) (w.each g l)
-
 -- the bytes of the tails are as they were
-pub grouped_memory : {s : List ℕ} (s' : List ℕ) {work lo hi d : ℕ} {buf : List ℕ} {n : ℕ} → Grouped s work lo hi d buf n
-    → ((k : ℕ) → work + 56 * lo ≤ k → k < work + 56 * hi → get_or s' k 0 ≡ get_or s k 0) → Grouped s' work lo hi d buf n
-grouped_memory {s} s' {work} {lo} {hi} {d} {buf} {n} w h =
-    record { count = w.count ∙ ap length (sym all); few = w.few; begins = w.begins; ends = w.ends; each = λ g l. each g (w.each g l) }
+pub grouped_memory : {s : List ℕ} (s' : List ℕ) {work lo hi d : ℕ} {x : Grouping} {n : ℕ} → Grouped s work lo hi d x n
+    → ((k : ℕ) → work + 56 * lo ≤ k → k < work + 56 * hi → get_or s' k 0 ≡ get_or s k 0) → Grouped s' work lo hi d x n
+grouped_memory {s} s' {work} {lo} {hi} {d} {x} {n} w h =
+    record { count = w.count ∙ ap length (sym all); few = w.few; room = w.room; begins = w.begins; ends = w.ends; each = λ g l. each g (w.each g l) }
   where
     all : groups d (tails_in s' work lo hi) ≡ groups d (tails_in s work lo hi)
     all = ap (groups d) (tails_ext s s' work lo hi h)
@@ -51,13 +37,12 @@ grouped_memory {s} s' {work} {lo} {hi} {d} {buf} {n} w h =
         })
 
 -- the numbers that `rank` and `with_rank` are asked for are those of the groups
-pub grouped_firsts : {s : List ℕ} {work lo hi d : ℕ} {buf : List ℕ} {n : ℕ} → Grouped s work lo hi d buf n → d * 513 + 257 + n ≤ length buf
-    → take n (drop (d * 513 + 257) buf) ≡ firsts (groups d (tails_in s work lo hi))
-grouped_firsts {s} {work} {lo} {hi} {d} {buf} {n} w h =
-    ext_get_or 0 _ _ (long ∙ w.count ∙ sym (length_firsts gs)) (λ k l. part_in n buf (d * 513 + 257) k (omega (arith, long)) ∙ (w.each k (omega (arith, long))).first ∙ sym (get_or_firsts gs k))
+pub grouped_firsts : {s : List ℕ} {work lo hi d : ℕ} {x : Grouping} {n : ℕ} → Grouped s work lo hi d x n → take n x.firsts ≡ firsts (groups d (tails_in s work lo hi))
+grouped_firsts {s} {work} {lo} {hi} {d} {x} {n} w =
+    ext_get_or 0 _ _ (long ∙ w.count ∙ sym (length_firsts gs)) (λ k l. get_or-take n x.firsts k 0 (omega (arith, long)) ∙ (w.each k (omega (arith, long))).first ∙ sym (get_or_firsts gs k))
   where
     gs : List Group
     gs = groups d (tails_in s work lo hi)
 
-    long : length (take n (drop (d * 513 + 257) buf)) ≡ n
-    long = part_length n buf (d * 513 + 257) ∙ omega arith
+    long : length (take n x.firsts) ≡ n
+    long = length-take n x.firsts ∙ omega (arith, w.room)

@@ -1,9 +1,10 @@
--- Groups of tails in memory, and the buffer that says where they stand. Assumes nothing.
-use Rattle.std.specs.Prelude.{ℕ, ◌+◌, ◌*◌, ◌≤◌, ◌<◌, min, ◌≡◌, Bool, ◌⊎◌, length, get_or, eqb}
+-- Groups of tails in memory, and where they stand. Assumes nothing.
+use Rattle.std.specs.Prelude.{ℕ, ◌+◌, ◌≤◌, ◌<◌, min, ◌≡◌, Bool, length, get_or, eqb}
 use mathlib.Core.List.{List, [], ◌∷◌, Memᴰ}
 use Rattle.tails.specs.Tails.{Tail}
 use Rattle.tails.specs.Groups.{byte_at, Group, groups}
 use Rattle.tail_words.specs.Tail.{tail_in, tails_in}
+use Rattle.tail_groups.specs.declared.Grouping.{Grouping}
 
 -- the tail has the byte b at d
 abbrev pub has_byte : ℕ → ℕ → Tail → Bool
@@ -30,17 +31,12 @@ pub record IsGroup (s : List ℕ) (work lo hi d : ℕ) (x : Group) (a b f : ℕ)
   pub byte : byte_at d (tail_in s work a) ≡ x.byte
   pub first : f ≡ x.first
 
--- the buffer has, from index d * 513 on, the starts of the n groups, and behind them the end;
--- from index d * 513 + 257 on, their least arrival numbers
-pub record Grouped (s : List ℕ) (work lo hi d : ℕ) (buf : List ℕ) (n : ℕ) : Type 0 where
+-- the n groups are known: where each begins, the end behind the last, and their least arrival numbers
+pub record Grouped (s : List ℕ) (work lo hi d : ℕ) (x : Grouping) (n : ℕ) : Type 0 where
   pub count : n ≡ length (groups d (tails_in s work lo hi))
   pub few : n ≤ 256
-  pub begins : get_or buf (d * 513) 0 ≡ lo
-  pub ends : get_or buf (d * 513 + n) 0 ≡ hi
+  pub room : n ≤ length x.firsts
+  pub begins : get_or x.starts 0 0 ≡ lo
+  pub ends : get_or x.starts n 0 ≡ hi
   pub each : (g : ℕ) → g < n
-      → IsGroup s work lo hi d (get_or (groups d (tails_in s work lo hi)) g no_group) (get_or buf (d * 513 + g) 0) (get_or buf (d * 513 + g + 1) 0) (get_or buf (d * 513 + 257 + g) 0)
-
--- the groups were found, and what the buffer has for other depths is as it was
-pub record Found (s : List ℕ) (work lo hi d : ℕ) (before after : List ℕ) (n : ℕ) : Type 0 where
-  pub grouped : Grouped s work lo hi d after n
-  pub kept : (k : ℕ) → (k < d * 513) ⊎ (d * 513 + 513 ≤ k) → get_or after k 0 ≡ get_or before k 0
+      → IsGroup s work lo hi d (get_or (groups d (tails_in s work lo hi)) g no_group) (get_or x.starts g 0) (get_or x.starts (g + 1) 0) (get_or x.firsts g 0)
