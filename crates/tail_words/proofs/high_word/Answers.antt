@@ -13,7 +13,7 @@ pub overflow_mul-x : goal.overflow_mul-x
 overflow_mul-x c = omega (arith, high_room c.loop-k.k c.args.bytes.now c.loop-k.x (λ k. omega (arith, c.type_inv.bytes k)) c.loop-k-test.true c.loop-k.invariant)
 
 pub overflow_add-x : goal.overflow_add-x
-overflow_add-x c = omega (arith, high_room c.loop-k.k c.args.bytes.now c.loop-k.x (λ k. omega (arith, c.type_inv.bytes k)) c.loop-k-test.true c.loop-k.invariant, c.type_inv.bytes c.loop-k.k)
+overflow_add-x c = omega (arith, high_room c.loop-k.k c.args.bytes.now c.loop-k.x (λ k. omega (arith, c.type_inv.bytes k)) c.loop-k-test.true c.loop-k.invariant)
 
 pub loop-k-preserved : goal.loop-k-preserved
 loop-k-preserved c = high_turn c.loop-k.k c.args.bytes.now c.loop-k.x c.padded.result c.loop-k.invariant c.padded.ensures
