@@ -5,17 +5,16 @@ use mathlib.Core.Path.{◌≡◌, refl, sym, ap, subst, ◌∙◌}
 use mathlib.Core.Bool.{Bool, true, false, ◌&&◌, cond}
 use mathlib.Core.Option.{none, some}
 use mathlib.Core.List.Memᴰ.{append_left}
-use mathlib.Core.List.Memᴰ.{append_right}
 use mathlib.Core.List.Memᴰ.{cast}
 use mathlib.Core.List.Memᴰ.{eq_of_singleton as only_one}
 use mathlib.Core.List.Memᴰ.{head as here}
 use mathlib.Core.List.Memᴰ.{not-nil}
 use mathlib.Core.List.Memᴰ.{tail as later}
 use mathlib.Core.List.{List, [], ◌∷◌, ◌++◌, append-nil, Memᴰ as Mem}
-use lib.ListN.{length, get_or}
+use Rattle.std.specs.Prelude.{Option, Some, None}
+use lib.ListN.{get_or}
 use lib.Dec.{eqb}
 use borrow.Author.Tests.{eq-eqb, ne_eqb, lt-ltb}
-use Rattle.words.specs.Words.{le64}
 use Rattle.words.proofs.Laws.{le64_lt}
 use Rattle.definitions.specs.Location.{Location, Sorted, meets, common, overlap, location_at, locations_in, Less}
 use Rattle.definitions.specs.Places.{joins}
@@ -27,11 +26,8 @@ use Rattle.place_buffer.specs.Buffer.{Valid, Taken}
 use Rattle.place_lookup.specs.Lookup.{Within}
 use Rattle.definitions.proofs.Locations.{locations_snoc}
 use Rattle.place_buffer.proofs.Adding.{taken_none, taken_same, taken_over, taken_more}
-use Rattle.joining.specs.declared.List.{List as Listing}
-use Rattle.joining.specs.Lists.{listed}
-use Rattle.joining.specs.Below.{From, FromKey}
 use Rattle.joining.proofs.Each.{joins_each_mem, mem_joins_each, none_joined}
-use Rattle.joining.proofs.Search.{sorted_behind, sorted_from, locations_first, locations_part, Parted}
+use Rattle.joining.proofs.Search.{sorted_behind, sorted_from, locations_first, locations_part, location_listed, Parted}
 
 -- ── one location and one place ──
 
@@ -50,11 +46,11 @@ module _ (l m : Location) where
       go true f = absurd (let z : ◌≡◌ {A = ℕ} 0 1 = cc in omega arith)
       go false f = refl
 
-  pub one_life : {s s' : List ℕ} {p r : Places} (x : Location) → some x ≡ overlap l m → Taken s s' p (x ∷ []) r → Taken s s' p (joins l m.address (m ∷ [])) r
-  one_life {s} {s'} {p} {r} x e t = subst (λ (ls : List Location). Taken s s' p ls r) (sym (joins_life x e)) t
+  pub one_life : {s s' : List ℕ} {p : Places} {o : Option Places} (x : Location) → some x ≡ overlap l m → Taken s s' p (x ∷ []) o → Taken s s' p (joins l m.address (m ∷ [])) o
+  one_life {s} {s'} {p} {o} x e t = subst (λ (ls : List Location). Taken s s' p ls o) (sym (joins_life x e)) t
 
-  pub one_nothing : {s : List ℕ} {p : Places} → none ≡ overlap l m → Valid s p → Taken s s p (joins l m.address (m ∷ [])) p
-  one_nothing {s} {p} e v = subst (λ (ls : List Location). Taken s s p ls p) (sym (joins_nothing e)) (taken_none v)
+  pub one_nothing : {s : List ℕ} {p : Places} → none ≡ overlap l m → Valid s p → Taken s s p (joins l m.address (m ∷ [])) (Some p)
+  one_nothing {s} {p} e v = subst (λ (ls : List Location). Taken s s p ls (Some p)) (sym (joins_nothing e)) (taken_none v)
 
 -- ── one location and places, one list of them after another ──
 
@@ -72,28 +68,31 @@ module _ (l : Location) (a : ℕ) where
   joins_none [] f = refl
   joins_none (m ∷ ms) f = rw (ne_eqb m.address a (f m (here refl))) (joins_none ms (λ x h. f x (later h)))
 
--- ── one location and those of a list at one address: j of the n are gone through ──
+-- ── one location and those of a list at one address: the first i of the n are below it, and j are gone through ──
 
-abbrev pub JoinedTo : (img : List ℕ) (at key : ℕ) (l : Location) (s s' : List ℕ) (p : Places) (j : ℕ) (r : Places) → Type 0
-JoinedTo img at key l s s' p j r = Taken s s' p (joins l key (locations_in img j at)) r
+abbrev pub JoinedTo : (img : List ℕ) (at key : ℕ) (l : Location) (s s' : List ℕ) (p : Places) (j : ℕ) (o : Option Places) → Type 0
+JoinedTo img at key l s s' p j o = Taken s s' p (joins l key (locations_in img j at)) o
 
-module _ (img : List ℕ) (at key : ℕ) (l : Location) where
-  pub equal_start : {s : List ℕ} {p : Places} → Valid s p → JoinedTo img at key l s s p 0 p
-  unfolding locations_in
-  equal_start v = taken_none v
+module _ (img : List ℕ) (n at key i : ℕ) (d : Parted img n at key i) (l : Location) where
+  -- those below the key have another address
+  pub key_start : {s : List ℕ} {p : Places} → Valid s p → JoinedTo img at key l s s p i (Some p)
+  key_start {s} {p} v =
+      let none : joins l key (locations_in img i at) ≡ [] = joins_none l key (locations_in img i at) (λ m j e. omega (arith, d.front m j)) in
+      subst (λ (ls : List Location). Taken s s p ls (Some p)) (sym none) (taken_none v)
 
-  module _ (j : ℕ) {s s' : List ℕ} {p r : Places} (t : JoinedTo img at key l s s' p j r) where
-    part : (n : ℕ) → j ≤ n → joins l key (locations_in img n at) ≡ joins l key (locations_in img j at) ++ joins l key (locations_in img (n - j) (at + j * 24))
-    part n h = ap (joins l key) (locations_part img n at j h) ∙ joins_append l key (locations_in img j at) (locations_in img (n - j) (at + j * 24))
+  module _ (j : ℕ) where
+    part : j ≤ n → joins l key (locations_in img n at) ≡ joins l key (locations_in img j at) ++ joins l key (locations_in img (n - j) (at + j * 24))
+    part h = ap (joins l key) (locations_part img n at j h) ∙ joins_append l key (locations_in img j at) (locations_in img (n - j) (at + j * 24))
 
-    -- the set is refused, whatever else were added
-    pub equal_refused : (n : ℕ) → j ≤ n → r.full ≡ true → JoinedTo img at key l s s' p n r
-    equal_refused n h e =
-        taken_over t e (subst (Within (joins l key (locations_in img j at))) (sym (part n h)) (λ x i. append_left (joins l key (locations_in img (n - j) (at + j * 24))) i))
+    -- one has no room, whatever else were added
+    pub key_refused : {s s' : List ℕ} {p : Places} → j ≤ n → JoinedTo img at key l s s' p j None → JoinedTo img at key l s s' p n None
+    key_refused h t =
+        taken_over t (subst (Within (joins l key (locations_in img j at))) (sym (part h)) (λ x i. append_left (joins l key (locations_in img (n - j) (at + j * 24))) i))
 
     -- one above the key, and so are all behind it
-    pub equal_stop : (n : ℕ) {m : Location} → j < n → Sorted Less (locations_in img n at) → m ≡ location_at img (at + j * 24) → key < m.address → JoinedTo img at key l s s' p n r
-    equal_stop n {m} h up em above =
+    pub key_stop : {s s' : List ℕ} {p : Places} {o : Option Places} {m : Location} → j < n → Sorted Less (locations_in img n at) → m ≡ location_at img (at + j * 24) → key < m.address
+        → JoinedTo img at key l s s' p j o → JoinedTo img at key l s s' p n o
+    key_stop {s} {s'} {p} {o} {m} h up em above t =
         let rest = locations_in img (n - j) (at + j * 24) in
         let first : rest ≡ m ∷ locations_in img (n - j - 1) (at + j * 24 + 24) =
         locations_first img (n - j) (at + j * 24) (omega arith) ∙ ap (λ (x : Location). x ∷ locations_in img (n - j - 1) (at + j * 24 + 24)) (sym em) in
@@ -102,63 +101,25 @@ module _ (img : List ℕ) (at key : ℕ) (l : Location) where
         let none : joins l key rest ≡ [] =
         joins_none l key rest (λ x i e. omega (arith, sorted_from m (locations_in img (n - j - 1) (at + j * 24 + 24)) order x (subst (Mem x) first i))) in
         let whole : joins l key (locations_in img n at) ≡ joins l key (locations_in img j at) =
-        part n (omega arith) ∙ ap (λ (ls : List Location). joins l key (locations_in img j at) ++ ls) none ∙ append-nil (joins l key (locations_in img j at)) in
-        subst (λ (ls : List Location). Taken s s' p ls r) (sym whole) t
+        part (omega arith) ∙ ap (λ (ls : List Location). joins l key (locations_in img j at) ++ ls) none ∙ append-nil (joins l key (locations_in img j at)) in
+        subst (λ (ls : List Location). Taken s s' p ls o) (sym whole) t
 
     -- one at the key was joined
-    pub equal_next : (n : ℕ) {s'' : List ℕ} {r' : Places} {m : Location} → j < n → From key (locations_in img n at) → m ≡ location_at img (at + j * 24) → m.address ≤ key → Taken s' s'' r (joins l m.address (m ∷ [])) r'
-        → JoinedTo img at key l s s'' p (j + 1) r'
-    equal_next n {s''} {r'} {m} h from em le u =
-        let above : key ≤ m.address = from m (subst (Mem m) (sym (locations_part img n at j (omega arith))) (append_right (locations_in img j at) (subst (Mem m) (sym (locations_first img (n - j) (at + j * 24) (omega arith))) (here em)))) in
+    pub key_next : {s s' s'' : List ℕ} {p r : Places} {o : Option Places} {m : Location} → i ≤ j → j < n → m ≡ location_at img (at + j * 24) → m.address ≤ key
+        → JoinedTo img at key l s s' p j (Some r) → Taken s' s'' r (joins l m.address (m ∷ [])) o → JoinedTo img at key l s s'' p (j + 1) o
+    key_next {s} {s'' = s''} {p} {o = o} {m} f h em le t u =
+        let where_it_is : at + i * 24 + (j - i) * 24 ≡ at + j * 24 = omega arith in
+        let above : key ≤ m.address = d.behind m (rw (em, ← where_it_is) (location_listed (n - i) img (at + i * 24) (j - i) (omega arith))) in
         let e : m.address ≡ key = omega arith in
         let whole : joins l key (locations_in img (j + 1) at) ≡ joins l key (locations_in img j at) ++ joins l m.address (m ∷ []) =
         ap (joins l key) (locations_snoc j img at) ∙ joins_append l key (locations_in img j at) (location_at img (at + j * 24) ∷ [])
         ∙ ap (λ (x : Location). joins l key (locations_in img j at) ++ joins l key (x ∷ [])) (sym em) ∙ ap (λ (b : ℕ). joins l key (locations_in img j at) ++ joins l b (m ∷ [])) (sym e) in
-        subst (λ (ls : List Location). Taken s s'' p ls r') (sym whole) (taken_more t u)
+        subst (λ (ls : List Location). Taken s s'' p ls o) (sym whole) (taken_more t u)
 
-    pub equal_done : (n : ℕ) → j ≤ n → n ≤ j → JoinedTo img at key l s s' p n r
-    equal_done n h k =
+    pub key_done : {s s' : List ℕ} {p : Places} {o : Option Places} → j ≤ n → n ≤ j → JoinedTo img at key l s s' p j o → JoinedTo img at key l s s' p n o
+    key_done {s} {s'} {p} {o} h k t =
         let e : j ≡ n = omega arith in
-        subst (λ (i : ℕ). JoinedTo img at key l s s' p i r) e t
-
--- ── the part of a list from the first location with an address on ──
-
-module _ (img : List ℕ) (n at key i : ℕ) (d : Parted img n at key i) where
-  abbrev rest : List Location
-  rest = locations_in img (n - i) (at + i * 24)
-
-  -- those below the key have another address
-  rest_same : (x : Location) → joins x key (locations_in img n at) ≡ joins x key rest
-  rest_same x =
-      let none : joins x key (locations_in img i at) ≡ [] = joins_none x key (locations_in img i at) (λ m j e. omega (arith, d.front m j)) in
-      ap (joins x key) d.whole ∙ joins_append x key (locations_in img i at) rest ∙ ap (λ (ls : List Location). ls ++ joins x key rest) none
-
-  -- and so have all where the first of the others has
-  rest_none : 0 < n - i → (le64 img (at + i * 24) ≡ key → ⊥) → (x : Location) → joins x key rest ≡ []
-  rest_none h ne x =
-      let first = locations_first img (n - i) (at + i * 24) h in
-      let more = locations_in img (n - i - 1) (at + i * 24 + 24) in
-      let least : key ≤ le64 img (at + i * 24) = d.behind (location_at img (at + i * 24)) (subst (Mem (location_at img (at + i * 24))) (sym first) (here refl)) in
-      joins_none x key rest (λ m j e. ne (omega (arith, sorted_from (location_at img (at + i * 24)) more (subst (Sorted Less) first d.in_order) m (subst (Mem m) first j))))
-
-  pub from_rest : at + n * 24 ≤ length img → FromKey img (record { at = at; count = n }) key (record { at = at + i * 24; count = n - i })
-  from_rest h = record { ascends = record { within = omega (arith, d.le); sorted = d.in_order }; from = d.behind; same = rest_same }
-
-  pub from_none : at + n * 24 ≤ length img → 0 < n - i → (le64 img (at + i * 24) ≡ key → ⊥) → FromKey img (record { at = at; count = n }) key (record { at = at + i * 24; count = 0 })
-  unfolding locations_in
-  from_none h l ne = record {
-    ascends = record { within = omega (arith, d.le); sorted = tt };
-    from = λ m j. absurd (not-nil j);
-    same = λ x. rest_same x ∙ rest_none l ne x;
-  }
-
-module _ {img : List ℕ} {list : Listing} {key : ℕ} {found : Listing} (f : FromKey img list key found) (x : Location) {s : List ℕ} {p : Places} where
-  pub found_joined : {s' : List ℕ} {r : Places} → Taken s s' p (joins x key (listed img found)) r → Taken s s' p (joins x key (listed img list)) r
-  found_joined {s'} {r} t = subst (λ (ls : List Location). Taken s s' p ls r) (sym (f.same x)) t
-
-  pub found_none : found.count ≡ 0 → Valid s p → Taken s s p (joins x key (listed img list)) p
-  unfolding locations_in
-  found_none e v = found_joined (subst (λ (ls : List Location). Taken s s p ls p) (sym (ap (λ (n : ℕ). joins x key (locations_in img n found.at)) e)) (taken_none v))
+        subst (λ (i : ℕ). JoinedTo img at key l s s' p i o) e t
 
 -- ── one place and the locations of a list ──
 
@@ -172,7 +133,7 @@ common_same l m =
 
 module _ (k : ℕ) (ls : List Location) (m : Location) {s : List ℕ} {p : Places} where
   -- it begins before any location of k bytes could end
-  pub place_low : Valid s p → m.address < k → Taken s s p (joins_each k ls (m ∷ [])) p
+  pub place_low : Valid s p → m.address < k → Taken s s p (joins_each k ls (m ∷ [])) (Some p)
   place_low v h = taken_same (taken_none v) (λ x j. absurd (not-nil j)) (λ x j. absurd (none_joined k ls (m ∷ []) apart j))
     where
       apart : (x y : Location) → Mem x ls → Mem y (m ∷ []) → y.address ≡ x.address + k → ⊥
@@ -181,7 +142,7 @@ module _ (k : ℕ) (ls : List Location) (m : Location) {s : List ℕ} {p : Place
           omega arith
 
   -- the locations that end where it begins have one address
-  pub place_joined : {s' : List ℕ} {r : Places} → k ≤ m.address → Taken s s' p (joins m (m.address - k) ls) r → Taken s s' p (joins_each k ls (m ∷ [])) r
+  pub place_joined : {s' : List ℕ} {o : Option Places} → k ≤ m.address → Taken s s' p (joins m (m.address - k) ls) o → Taken s s' p (joins_each k ls (m ∷ [])) o
   place_joined h t = taken_same t to from
     where
       to : Within (joins m (m.address - k) ls) (joins_each k ls (m ∷ []))
@@ -212,7 +173,7 @@ addresses_fit (suc n) img at b m (later h) = addresses_fit n img (at + 24) b m h
 
 module _ (img : List ℕ) (n at : ℕ) (l : Location) {s : List ℕ} {p : Places} where
   -- it ends beyond every address
-  pub location_far : (a : ℕ) → ((j : ℕ) → get_or img j 0 < 256) → Valid s p → 2 ^ 64 ≤ a → Taken s s p (joins l a (locations_in img n at)) p
+  pub location_far : (a : ℕ) → ((j : ℕ) → get_or img j 0 < 256) → Valid s p → 2 ^ 64 ≤ a → Taken s s p (joins l a (locations_in img n at)) (Some p)
   location_far a b v h =
       let none : joins l a (locations_in img n at) ≡ [] = joins_none l a (locations_in img n at) (λ m i e. omega (arith, addresses_fit n img at b m i)) in
-      subst (λ (ls : List Location). Taken s s p ls p) (sym none) (taken_none v)
+      subst (λ (ls : List Location). Taken s s p ls (Some p)) (sym none) (taken_none v)

@@ -1,5 +1,5 @@
 -- Sorted locations by their address: those below a key stand first. Assumes nothing.
-use Prim.Native.Nat.{ℕ, zero, suc, ◌+◌, ◌-◌, ◌*◌, ◌/◌, ◌≤◌, ◌<◌}
+use Prim.Native.Nat.{ℕ, zero, suc, ◌+◌, ◌-◌, ◌*◌, ◌≤◌, ◌<◌}
 use native.Mathlib.Omega.{arith}
 use mathlib.Core.Path.{◌≡◌, refl, sym, ap, subst, ◌∙◌}
 use mathlib.Core.Bool.{Bool, true, false, cond}
@@ -9,6 +9,8 @@ use mathlib.Core.List.Memᴰ.{tail as later}
 use mathlib.Core.List.{List, [], ◌∷◌, ◌++◌, Memᴰ as Mem}
 use lib.ListN.{length}
 use lib.Dec.{ltb}
+use borrow.Author.Tests.{ltb-true, ltb-false, lt-ltb}
+use Rattle.halving.specs.Halving.{Parts, PointOf}
 use Rattle.words.specs.Words.{le64}
 use Rattle.definitions.specs.Location.{Location, Sorted, location_at, locations_in, Less}
 use Rattle.definitions.proofs.Views.{Lt, lt, lt_or_le}
@@ -103,9 +105,9 @@ parted s n at key i up e =
       in_order = sorted_behind (locations_in s i at) (locations_in s (n - i) (at + i * 24)) up';
     }
 
--- ── the search for the key, by halves ──
+-- ── the search for the key ──
 
-location_listed : (n : ℕ) (s : List ℕ) (at i : ℕ) → i < n → Mem (location_at s (at + i * 24)) (locations_in s n at)
+pub location_listed : (n : ℕ) (s : List ℕ) (at i : ℕ) → i < n → Mem (location_at s (at + i * 24)) (locations_in s n at)
 unfolding locations_in
 location_listed zero s at i h = absurd (omega arith)
 location_listed (suc n) s at zero h = let e : at + 0 * 24 ≡ at = omega arith in rw e (here refl)
@@ -140,12 +142,22 @@ module _ (s : List ℕ) (n at key : ℕ) (up : Sorted Less (locations_in s n at)
       go (inr k) = k
       go (inl k) = absurd (omega (arith, (parted s n at key below up refl).front (location_at s (at + i * 24)) (location_listed below s at i k)))
 
-  -- the count is at least low, and at most left above it
-  pub halve : {r : ℕ} (low left half : ℕ) → low ≤ below → below ≤ low + left → low + left ≤ n → 0 < left → half ≡ left - left / 2 → r ≡ cond (ltb (le64 s (at + (low + half - 1) * 24)) key) half 0
-      → (low + r ≤ below) × (below ≤ low + r + (left - half)) × (low + r + (left - half) ≤ n) × (r ≤ half)
-  halve {r} low left half a b c z eh er =
-      go (ltb (le64 s (at + (low + half - 1) * 24)) key) (lt (le64 s (at + (low + half - 1) * 24)) key) er
+  -- so the search by halves finds the count
+  abbrev pub below_key : ℕ → Bool
+  below_key i = ltb (le64 s (at + i * 24)) key
+
+  pub key_parts : Parts 0 n below_key
+  key_parts i j z h l e =
+      let k = counted j l (ltb-true (le64 s (at + j * 24)) key e) in
+      lt-ltb (le64 s (at + i * 24)) key ((parted s n at key below up refl).front (location_at s (at + i * 24)) (location_listed below s at i (omega arith)))
+
+  pub key_point : (k : ℕ) → k ≤ n → PointOf 0 n below_key k → k ≡ below
+  key_point k h p = go (lt_or_le k below) (lt_or_le below k)
     where
-      go : (o : Bool) → Lt o (le64 s (at + (low + half - 1) * 24)) key → r ≡ cond o half 0 → (low + r ≤ below) × (below ≤ low + r + (left - half)) × (low + r + (left - half) ≤ n) × (r ≤ half)
-      go true t e = let k = counted (low + half - 1) (omega arith) t in (omega arith, omega arith, omega arith, omega arith)
-      go false t e = let k = passed (low + half - 1) (omega arith) t in (omega arith, omega arith, omega arith, omega arith)
+      le : below ≤ n
+      le = below_listed s n at key
+
+      go : (k < below) ⊎ (below ≤ k) → (below < k) ⊎ (k ≤ below) → k ≡ below
+      go (inl a) b = absurd (omega (arith, ltb-false (le64 s (at + k * 24)) key (p.ends k (omega arith) (omega (arith, a, le))), (parted s n at key below up refl).front (location_at s (at + k * 24)) (location_listed below s at k a)))
+      go (inr a) (inl b) = absurd (omega (arith, counted below (omega (arith, b, h)) (ltb-true (le64 s (at + below * 24)) key (p.holds below (omega arith) b))))
+      go (inr a) (inr b) = omega arith

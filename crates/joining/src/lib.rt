@@ -1,14 +1,14 @@
 // Joins locations that end where places begin, and adds what they have in common to a set of places.
 #![tactic(auto)]
 
-ghost use Rattle.std.specs.Prelude.{◌≡◌, cond, [], ◌∷◌, ◌+◌, ◌≤◌, length, ltb};
-ghost use Rattle.words.specs.Words.{le64};
+ghost use Rattle.std.specs.Prelude.{◌≡◌, [], ◌∷◌, ◌+◌, ◌*◌, ◌≤◌, ◌<◌};
+ghost use Rattle.definitions.specs.Location.{location_at};
 ghost use Rattle.definitions.specs.Places.{joins};
 ghost use Rattle.location.specs.Plain.{plain};
 ghost use Rattle.trie.specs.Find.{joins_each};
 ghost use Rattle.place_buffer.specs.Buffer.{Valid, Taken};
 ghost use Rattle.joining.specs.Lists.{Inside, Ascends, listed, spanned};
-ghost use Rattle.joining.specs.Below.{below_count, From, FromKey};
+ghost use Rattle.joining.specs.Below.{below_count};
 
 use definitions::LOCATION_SIZE;
 use location::{Common, SpacetimeLocation};
@@ -21,6 +21,16 @@ pub struct List {
     pub count: usize,
 }
 
+impl List {
+    // Its location number i.
+    fn location(self, img: &[u8], i: usize) -> SpacetimeLocation
+        requires { Inside img.now self × (i < self.count) }
+        ensures { plain result ≡ location_at img.now (self.at + i * 24) }
+    {
+        location::location_at(img, self.at + i * LOCATION_SIZE)
+    }
+}
+
 // The places number from to to - 1 of scratch.
 #[derive(Clone, Copy)]
 pub struct Span {
@@ -29,51 +39,20 @@ pub struct Span {
 }
 
 // Adds the life that l and m have in common, where there is one.
-fn join_one(l: SpacetimeLocation, m: SpacetimeLocation, scratch: &mut [u8], p: Places) -> Places
+fn join_one(
+    l: SpacetimeLocation,
+    m: SpacetimeLocation,
+    scratch: &mut [u8],
+    p: Places,
+) -> Option<Places>
     requires { Valid scratch.old p }
     ensures { Taken scratch.old scratch.new p (joins (plain l) m.address.0 (plain m ∷ [])) result }
 {
     let both = l.overlap(m);
     let Common::Life(x) = both else {
-        return p;
+        return Some(p);
     };
     place_buffer::place(scratch, p, x)
-}
-
-// Joins x to those of a sorted list that have the address key, which are the first.
-fn join_equal(
-    img: &[u8],
-    list: List,
-    key: u64,
-    x: SpacetimeLocation,
-    scratch: &mut [u8],
-    p: Places,
-) -> Places
-    requires { Ascends img.now list × From key (listed img.now list) × Valid scratch.old p }
-    ensures { Taken scratch.old scratch.new p (joins (plain x) key (listed img.now list)) result }
-{
-    let mut r = p;
-    let mut i = 0;
-    while i < list.count {
-        if r.full {
-            return r;
-        }
-        let m = location::location_at(img, list.at + i * LOCATION_SIZE);
-        if key < m.address.0 {
-            return r;
-        }
-        r = join_one(x, m, scratch, r);
-        i += 1;
-    }
-    r
-}
-
-// So many where the address at byte p of img is below key, and else none: a step of the search by halves.
-fn so_many_below(img: &[u8], p: usize, key: u64, many: usize) -> usize
-    requires { p + 8 ≤ length img.now }
-    ensures { result ≡ cond (ltb (le64 img.now p) key) many 0 }
-{
-    if words::get64(img, p) < key { many } else { 0 }
 }
 
 // How many of a sorted list have an address below key.
@@ -81,31 +60,33 @@ fn count_below(img: &[u8], list: List, key: u64) -> usize
     requires { Ascends img.now list }
     ensures { result ≡ below_count key (listed img.now list) }
 {
-    let mut low = 0;
-    let mut left = list.count;
-    while 0 < left {
-        let half = left - left / 2;
-        low += so_many_below(img, list.at + (low + half - 1) * LOCATION_SIZE, key, half);
-        left -= half;
-    }
-    low
+    halving::partition_point(0, list.count, |i| {
+        words::get64(img, list.at + i * LOCATION_SIZE) < key
+    })
 }
 
-// A sorted list from its first location with the address key on; nothing of it where none has it.
-fn from_key(img: &[u8], list: List, key: u64) -> List
-    requires { Ascends img.now list }
-    ensures { FromKey img.now list key result }
+// Joins x to those of a sorted list that have the address key: the first that are not below it.
+fn join_key(
+    img: &[u8],
+    list: List,
+    key: u64,
+    x: SpacetimeLocation,
+    scratch: &mut [u8],
+    p: Places,
+) -> Option<Places>
+    requires { Ascends img.now list × Valid scratch.old p }
+    ensures { Taken scratch.old scratch.new p (joins (plain x) key (listed img.now list)) result }
 {
     let first = count_below(img, list, key);
-    let at = list.at + first * LOCATION_SIZE;
-    let count = list.count - first;
-    if count == 0 {
-        return List { at, count };
+    let mut r = p;
+    for i in first..list.count {
+        let m = list.location(img, i);
+        if key < m.address.0 {
+            return Some(r);
+        }
+        r = join_one(x, m, scratch, r)?;
     }
-    if words::get64(img, at) != key {
-        return List { at, count: 0 };
-    }
-    List { at, count }
+    Some(r)
 }
 
 // Joins the place m to those of a sorted list that end where it begins, k bytes further on.
@@ -116,21 +97,14 @@ fn join_place(
     m: SpacetimeLocation,
     scratch: &mut [u8],
     p: Places,
-) -> Places
+) -> Option<Places>
     requires { Ascends img.now list × Valid scratch.old p }
     ensures { Taken scratch.old scratch.new p (joins_each k (listed img.now list) (plain m ∷ [])) result }
 {
-    let a = m.address.0;
-    let size = k as u64;
-    if a < size {
-        return p;
+    match m.address.0.checked_sub(k as u64) {
+        Some(key) => join_key(img, list, key, m, scratch, p),
+        None => Some(p),
     }
-    let key = a - size;
-    let found = from_key(img, list, key);
-    if found.count == 0 {
-        return p;
-    }
-    join_equal(img, found, key, m, scratch, p)
 }
 
 // Joins l, of k bytes, to those of a sorted list that begin where it ends.
@@ -141,21 +115,14 @@ fn join_location(
     l: SpacetimeLocation,
     scratch: &mut [u8],
     p: Places,
-) -> Places
+) -> Option<Places>
     requires { Ascends img.now list × Valid scratch.old p }
     ensures { Taken scratch.old scratch.new p (joins (plain l) (l.address.0 + k) (listed img.now list)) result }
 {
-    let a = l.address.0;
-    let size = k as u64;
-    if u64::MAX - a < size {
-        return p;
+    match l.address.0.checked_add(k as u64) {
+        Some(key) => join_key(img, list, key, l, scratch, p),
+        None => Some(p),
     }
-    let key = a + size;
-    let found = from_key(img, list, key);
-    if found.count == 0 {
-        return p;
-    }
-    join_equal(img, found, key, l, scratch, p)
 }
 
 // Joins a sorted list of locations of k bytes with the places of a span, which stands before the set.
@@ -167,24 +134,19 @@ pub fn filter_results(
     behind: Span,
     scratch: &mut [u8],
     p: Places,
-) -> Places
+) -> Option<Places>
     requires { Ascends img.now list × Valid scratch.old p × (behind.from ≤ behind.to) × (behind.to ≤ p.base) }
     ensures { Taken scratch.old scratch.new p (joins_each k (listed img.now list) (spanned scratch.old behind)) result }
 {
     if list.count == 0 {
-        return p;
+        return Some(p);
     }
     let mut r = p;
-    let mut t = behind.from;
-    while t < behind.to {
-        if r.full {
-            return r;
-        }
+    for t in behind.from..behind.to {
         let m = location::location_at(scratch, t * LOCATION_SIZE);
-        r = join_place(img, list, k, m, scratch, r);
-        t += 1;
+        r = join_place(img, list, k, m, scratch, r)?;
     }
-    r
+    Some(r)
 }
 
 // Joins a list of locations of k bytes with a sorted list.
@@ -196,19 +158,14 @@ pub fn filter_lists(
     to: List,
     scratch: &mut [u8],
     p: Places,
-) -> Places
+) -> Option<Places>
     requires { Inside img.now list × Ascends img.now to × Valid scratch.old p }
     ensures { Taken scratch.old scratch.new p (joins_each k (listed img.now list) (listed img.now to)) result }
 {
     let mut r = p;
-    let mut u = 0;
-    while u < list.count {
-        if r.full {
-            return r;
-        }
-        let l = location::location_at(img, list.at + u * LOCATION_SIZE);
-        r = join_location(img, to, k, l, scratch, r);
-        u += 1;
+    for u in 0..list.count {
+        let l = list.location(img, u);
+        r = join_location(img, to, k, l, scratch, r)?;
     }
-    r
+    Some(r)
 }

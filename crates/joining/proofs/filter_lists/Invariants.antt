@@ -1,5 +1,5 @@
--- `joining::filter_lists` meets its contract: the locations so far are joined, and a refused set stays refused. Assumes nothing.
-use Prim.Native.Nat.{◌-◌, ◌≤◌}
+-- `joining::filter_lists` meets its contract: the locations so far are joined, or one has no room. Assumes nothing.
+use Rattle.std.specs.Prelude.{Some}
 use Rattle.definitions.specs.Location.{locations_in}
 use Rattle.trie.specs.Find.{joins_each}
 use Rattle.place_buffer.specs.Buffer.{Taken}
@@ -7,7 +7,4 @@ use Rattle.joining.specs.Lists.{listed}
 use Rattle.joining.proofs.filter_lists.Given as goal
 
 abbrev pub invariant-loop-u : goal.invariant-loop-u
-invariant-loop-u l = (l.u ≤ l.list.count) × Taken l.initial.scratch l.scratch l.initial.r (joins_each l.k (locations_in l.img l.u l.list.at) (listed l.img l.to)) l.r
-
-abbrev pub decreases-loop-u : goal.decreases-loop-u
-decreases-loop-u l = l.list.count - l.u
+invariant-loop-u l = Taken l.initial.scratch l.scratch l.initial.r (joins_each l.k (locations_in l.img l.u l.list.at) (listed l.img l.to)) (Some l.r)

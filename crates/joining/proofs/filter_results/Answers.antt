@@ -11,28 +11,20 @@ returns-then-list-eq0 c = each_none _ _ _ _ _ c.if-list-eq0.true c.requires.1
 pub loop-t-init : goal.loop-t-init
 loop-t-init c =
     let args = c.args in
-    (omega arith, omega arith, each_start args.k (listed args.img.now args.list) args.behind.from _ refl c.requires.1)
-
-pub returns-then-r : goal.returns-then-r
-returns-then-r c =
-    let args = c.args in
-    each_refused args.k (listed args.img.now args.list) args.behind.from _ c.loop-t.invariant.2 _ c.loop-t.invariant.0 c.loop-t.invariant.1 c.if-r.true
-
-pub overflow_mul-t : goal.overflow_mul-t
-overflow_mul-t c = omega (arith, c.requires.1.from, c.requires.1.within, c.loop-t.invariant.2.same_length)
-
-pub location_at-m-requires : goal.location_at-m-requires
-location_at-m-requires c = omega (arith, c.requires.1.from, c.requires.1.within, c.loop-t.invariant.2.same_length)
-
-pub join_place-r-requires : goal.join_place-r-requires
-join_place-r-requires c = (c.requires.0, c.loop-t.invariant.2.valid)
+    each_start args.k (listed args.img.now args.list) args.behind.from _ refl c.requires.1
 
 pub loop-t-preserved : goal.loop-t-preserved
 loop-t-preserved c =
     let args = c.args in
-    (omega arith, omega arith, each_next args.k (listed args.img.now args.list) args.behind.from _ c.loop-t.invariant.2 c.loop-t.invariant.0 (omega arith) c.location_at-m.ensures c.join_place-r.ensures)
+    each_next args.k (listed args.img.now args.list) args.behind.from _ c.loop-t.auto.t (omega arith) c.loop-t.invariant c.location_at-m.ensures c.in_ok-r.ensures
+
+pub returns-in_err-r : goal.returns-in_err-r
+returns-in_err-r c =
+    let args = c.args in
+    let t = each_next args.k (listed args.img.now args.list) args.behind.from _ c.loop-t.auto.t (omega arith) c.loop-t.invariant c.location_at-m.ensures c.in_err-r.ensures in
+    rw c.from_residual.ensures (each_refused args.k (listed args.img.now args.list) args.behind.from _ _ (omega arith) (omega arith) t)
 
 pub returns : goal.returns
 returns c =
     let args = c.args in
-    each_done args.k (listed args.img.now args.list) args.behind.from _ c.loop-t.invariant.2 _ c.loop-t.invariant.1 c.loop-t-test.false
+    each_done args.k (listed args.img.now args.list) args.behind.from _ _ (omega arith) c.loop-t-test.false c.loop-t.invariant
