@@ -1,7 +1,7 @@
 -- Lists of locations in an image and spans of places in scratch, as the code hands them over. Assumes nothing.
 use Rattle.std.specs.Prelude.{ℕ, ◌+◌, ◌-◌, ◌*◌, ◌≤◌, List, length}
 use Rattle.definitions.specs.Location.{Location, Sorted, locations_in, Less}
-use Rattle.joining.specs.declared.List.{List as Listing}
+use Rattle.location_lists.specs.declared.List.{List as Listing}
 use Rattle.joining.specs.declared.Span.{Span}
 
 -- the locations of a list

@@ -11,31 +11,23 @@ ghost use Rattle.joining.specs.Lists.{Inside, Ascends, listed, spanned};
 ghost use Rattle.joining.specs.Below.{below_count};
 
 use definitions::LOCATION_SIZE;
-use location::{Common, SpacetimeLocation};
+use location::SpacetimeLocation;
+use location_lists::List;
 use place_buffer::Places;
-
-// A list of locations in an image: so many from byte at on.
-#[derive(Clone, Copy)]
-pub struct List {
-    pub at: usize,
-    pub count: usize,
-}
-
-impl List {
-    // Its location number i.
-    fn location(self, img: &[u8], i: usize) -> SpacetimeLocation
-        requires { Inside img.now self × (i < self.count) }
-        ensures { plain result ≡ location_at img.now (self.at + i * 24) }
-    {
-        location::location_at(img, self.at + i * LOCATION_SIZE)
-    }
-}
 
 // The places number from to to - 1 of scratch.
 #[derive(Clone, Copy)]
 pub struct Span {
     pub from: usize,
     pub to: usize,
+}
+
+// Location number i of a list.
+fn location_in(img: &[u8], list: List, i: usize) -> SpacetimeLocation
+    requires { Inside img.now list × (i < list.count) }
+    ensures { plain result ≡ location_at img.now (list.at + i * 24) }
+{
+    location::location_at(img, list.at + i * LOCATION_SIZE)
 }
 
 // Adds the life that l and m have in common, where there is one.
@@ -48,11 +40,10 @@ fn join_one(
     requires { Valid scratch.old p }
     ensures { Taken scratch.old scratch.new p (joins (plain l) m.address.0 (plain m ∷ [])) result }
 {
-    let both = l.overlap(m);
-    let Common::Life(x) = both else {
-        return Some(p);
-    };
-    place_buffer::place(scratch, p, x)
+    match l.overlap(m) {
+        Some(x) => place_buffer::place(scratch, p, x),
+        None => Some(p),
+    }
 }
 
 // How many of a sorted list have an address below key.
@@ -80,7 +71,7 @@ fn join_key(
     let first = count_below(img, list, key);
     let mut r = p;
     for i in first..list.count {
-        let m = list.location(img, i);
+        let m = location_in(img, list, i);
         if key < m.address.0 {
             return Some(r);
         }
@@ -164,7 +155,7 @@ pub fn filter_lists(
 {
     let mut r = p;
     for u in 0..list.count {
-        let l = list.location(img, u);
+        let l = location_in(img, list, u);
         r = join_location(img, to, k, l, scratch, r)?;
     }
     Some(r)

@@ -12,10 +12,10 @@ loop-u-init c =
 pub loop-u-preserved : goal.loop-u-preserved
 loop-u-preserved c =
     let args = c.args in
-    lists_next args.k args.img.now args.list.at (listed args.img.now args.to) _ c.loop-u.invariant c.location-l.ensures c.in_ok-r.ensures
+    lists_next args.k args.img.now args.list.at (listed args.img.now args.to) _ c.loop-u.invariant c.location_in-l.ensures c.in_ok-r.ensures
 
 pub returns-in_err-r : goal.returns-in_err-r
 returns-in_err-r c =
     let args = c.args in
-    let t = lists_next args.k args.img.now args.list.at (listed args.img.now args.to) _ c.loop-u.invariant c.location-l.ensures c.in_err-r.ensures in
+    let t = lists_next args.k args.img.now args.list.at (listed args.img.now args.to) _ c.loop-u.invariant c.location_in-l.ensures c.in_err-r.ensures in
     rw c.from_residual.ensures (lists_refused args.k args.img.now args.list.at (listed args.img.now args.to) _ _ (omega arith) t)
