@@ -4,8 +4,7 @@ use mathlib.Core.List.{[], ◌∷◌}
 use mathlib.Core.Option.{none, some}
 use Rattle.definitions.specs.Program.{block, finish, find, text}
 use Rattle.forms.specs.ReadLine.{read_line, read_block}
-use Rattle.numerals.specs.Numerals.{starts}
-use Rattle.numerals.specs.Numerals.{number, digits_from, space_ends}
+use Rattle.numerals.specs.Numerals.{number, digits_from, space_ends, starts}
 use Rattle.hex_pairs.specs.HexBytes.{last_bytes, hex_bytes, pair, nibble, closing}
 
 -- the forms of document 01

@@ -14,8 +14,7 @@ use Rattle.definitions.specs.Program.{Form, block, finish, find, text, decimal, 
 use Rattle.definitions.proofs.Views.{Eq, eq, Lt, lt}
 use Rattle.definitions.proofs.Decimal.{dec}
 use Rattle.forms.specs.ReadLine.{with_number, with_bytes, read_block, read_line}
-use Rattle.numerals.specs.Numerals.{starts}
-use Rattle.numerals.specs.Numerals.{Numeral, number}
+use Rattle.numerals.specs.Numerals.{Numeral, number, starts}
 use Rattle.hex_pairs.specs.HexBytes.{last_bytes}
 use Rattle.forms.specs.Answers.{Is, bytes_of}
 use Rattle.hex_pairs.specs.HexAnswers.{pairs_at}
@@ -52,7 +51,7 @@ module _ (l r : List ℕ) (h : length l ≤ line_limit) where
   unfolding read_line starts
   reads_find e = rw (le-ltb line_limit (length l) h, e)
 
-reads_finish : read_line (text "(finish)") ≡ some finish
+pub reads_finish : read_line (text "(finish)") ≡ some finish
 unfolding read_line starts
 reads_finish = refl
 

@@ -2,15 +2,8 @@
 use Rattle.std.specs.Prelude.{ℕ, cond, List, length, drop, ltb, eqb}
 use Rattle.std.proofs.Math.Option.{Option, none, some}
 use Rattle.definitions.specs.Program.{Form, block, finish, find, text, line_limit}
-use Rattle.numerals.specs.Numerals.{Numeral, number}
+use Rattle.numerals.specs.Numerals.{Numeral, number, starts}
 use Rattle.hex_pairs.specs.HexBytes.{last_bytes}
-use Rattle.numerals.specs.Numerals.{starts}
-
--- ── words and numbers ──
-
--- ── bytes ──
-
--- ── forms ──
 
 -- what follows a number is read from the text behind it
 abbrev pub with_number : Option Numeral → (ℕ → List ℕ → Option Form) → Option Form

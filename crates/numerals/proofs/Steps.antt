@@ -1,8 +1,8 @@
 -- What each step of the reader makes of the text from an index on. Assumes nothing.
-use Prim.Native.Nat.{ℕ, suc, ◌+◌, ◌-◌, ◌*◌, ◌≤◌, ◌<◌}
+use Prim.Native.Nat.{ℕ, ◌+◌, ◌-◌, ◌*◌, ◌≤◌, ◌<◌}
 use native.Mathlib.Omega.{arith}
 use native.Mathlib.Numerals.{add-one}
-use mathlib.Core.Path.{◌≡◌, refl, sym, ap, ◌∙◌}
+use mathlib.Core.Path.{◌≡◌, refl, sym, ◌∙◌}
 use mathlib.Core.Bool.{Bool, true, false, cond}
 use mathlib.Core.List.{List, [], ◌∷◌}
 use mathlib.Core.Option.{none, some}
@@ -11,7 +11,7 @@ use lib.Seq.{drop-cons}
 use lib.Dec.{ltb, leb}
 use borrow.Author.Tests.{lt-ltb, le-ltb, le-leb, lt-leb, eq-eqb, ne_eqb, ltb-false, leb-true, leb-false}
 use Rattle.definitions.specs.Calls.{last_number}
-use Rattle.numerals.specs.Numerals.{starts, is_digit, space_ends, digits_from, number}
+use Rattle.numerals.specs.Numerals.{is_digit, space_ends, digits_from, number}
 
 -- ── digits ──
 
@@ -48,14 +48,6 @@ module _ (l : List ℕ) (at : ℕ) where
 
   pub drop_one : at < length l → drop at l ≡ get_or l at 0 ∷ drop (at + 1) l
   drop_one h = rw (add-one at) (drop-cons l at 0 h)
-
-  pub drop_two : at + 2 ≤ length l → drop at l ≡ get_or l at 0 ∷ get_or l (at + 1) 0 ∷ drop (at + 2) l
-  drop_two h =
-      let a : at < length l = omega arith in
-      let b : at + 1 < length l = omega arith in
-      let e : at + 2 ≡ suc (at + 1) = omega arith in
-      let f = drop-cons l (at + 1) 0 b in
-      rw e (drop_one a ∙ ap (λ (t : List ℕ). get_or l at 0 ∷ t) f)
 
   -- ── a number and its space ──
 
@@ -106,23 +98,3 @@ module _ (l : List ℕ) (at : ℕ) where
     pub number_not : (get_or l at 0 ≡ 48 → ⊥) → is_digit (get_or l at 0) ≡ false → none ≡ number (drop at l)
     unfolding number
     number_not n e = rw (drop_one h, ne_eqb (get_or l at 0) 48 n, e)
-
--- ── words ──
-
-module _ (w l : List ℕ) (i : ℕ) where
-  pub starts_all : length w ≤ i → true ≡ starts (drop i w) (drop i l)
-  unfolding starts
-  starts_all h = rw (drop_none w i h)
-
-  module _ (h : i < length w) where
-    pub starts_out : length l ≤ i → false ≡ starts (drop i w) (drop i l)
-    unfolding starts
-    starts_out k = rw (drop_one w i h, drop_none l i k)
-
-    pub starts_off : i < length l → (get_or l i 0 ≡ get_or w i 0 → ⊥) → false ≡ starts (drop i w) (drop i l)
-    unfolding starts
-    starts_off k n = rw (drop_one w i h, drop_one l i k, ne_eqb (get_or l i 0) (get_or w i 0) n)
-
-    pub starts_on : i < length l → get_or l i 0 ≡ get_or w i 0 → starts (drop (i + 1) w) (drop (i + 1) l) ≡ starts (drop i w) (drop i l)
-    unfolding starts
-    starts_on k e = rw (drop_one w i h, drop_one l i k, eq-eqb (get_or l i 0) (get_or w i 0) e)
