@@ -1,8 +1,7 @@
--- `words::get64` meets its contract: its sums are those of `le_n`.
-use Rattle.words.specs.Words.{le64, le_n}
-use native.Mathlib.Omega.{arith}
+-- `words::get64` meets its contract: `le64` is `le_n` at eight. Assumes nothing.
+use Rattle.words.specs.Words.{le64}
 use Rattle.words.proofs.get64.Goals as goal
 
 pub returns : goal.returns
-unfolding le64 le_n
-returns c = omega arith
+unfolding le64
+returns c = c.get.ensures
