@@ -1,2 +1,2 @@
--- `Steps` has the laws of the two loops. Assumes nothing.
-pub mod Steps
+-- `Parts` says what a write to a part of a list leaves. Assumes nothing.
+pub mod Parts

@@ -9,11 +9,7 @@ pub fn copy(from: &[u8], a: usize, to: &mut [u8], b: usize, n: usize)
     requires { (a + n ≤ length from.now) × (b + n ≤ length to.old) }
     ensures { to.new ≡ sets to.old b (take n (drop a from.now)) }
 {
-    let mut k = 0;
-    while k < n {
-        to[b + k] = from[a + k];
-        k += 1;
-    }
+    to[b..b + n].copy_from_slice(&from[a..a + n]);
 }
 
 // Sets the bytes from index a up to index e to zero.
@@ -21,9 +17,5 @@ pub fn clear(s: &mut [u8], a: usize, e: usize)
     requires { (a ≤ e) × (e ≤ length s.old) }
     ensures { s.new ≡ sets s.old a (replicate (e - a) 0) }
 {
-    let mut k = a;
-    while k < e {
-        s[k] = 0;
-        k += 1;
-    }
+    s[a..e].fill(0);
 }
