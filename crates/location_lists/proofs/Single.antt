@@ -1,34 +1,15 @@
--- One list where it stands: its first location and the others, and what the tests on them say of the whole list. Assumes nothing.
-use Prim.Native.Nat.{ℕ, zero, suc, ◌+◌, ◌-◌, ◌≤◌, ◌<◌}
+-- One list where it stands: its locations from number i on, and what the tests on them say of the whole list. Assumes nothing.
+use Prim.Native.Nat.{ℕ, zero, suc, ◌+◌, ◌-◌, ◌*◌, ◌≤◌, ◌<◌}
 use native.Mathlib.Nat.{not-suc-le-zero}
 use native.Mathlib.Omega.{arith}
 use mathlib.Core.Path.{◌≡◌, refl, sym, ap, ◌∙◌}
 use mathlib.Core.Bool.{Bool, true, false, ◌&&◌}
 use mathlib.Core.List.{List, [], ◌∷◌}
-use lib.Dec.{eqb, compare_is_eq}
-use borrow.Author.Tests.{lt-ltb, le-ltb, le-leb, lt-leb, eqb-true, eqb-false}
+use borrow.Author.Tests.{lt-ltb, le-ltb, le-leb, lt-leb}
 use Rattle.definitions.specs.Location.{Location, order, is_lt, location_at}
 use Rattle.definitions.specs.Calls.{last_number}
-use Rattle.definitions.proofs.Order.{location_path}
-use Rattle.trie.specs.Test.{is_ascending, all_pass}
-use Rattle.trie.proofs.Union.{Same, same, true_same}
+use Rattle.trie.specs.Test.{ascending_from, is_ascending, all_pass}
 use Rattle.definitions.specs.Location.{locations_in}
-
--- ── equal locations ──
-
-pub differ : (l m : Location) → (l ≡ m → ⊥) → false ≡ compare_is_eq (order l m)
-differ l m h = go (compare_is_eq (order l m)) (same l m)
-  where
-    go : (o : Bool) → Same o l m → false ≡ o
-    go true e = absurd (h e)
-    go false e = refl
-
-pub by_last : (l m : Location) → l.address ≡ m.address → l.created ≡ m.created → eqb l.destroyed m.destroyed ≡ compare_is_eq (order l m)
-by_last l m e f = go (eqb l.destroyed m.destroyed) refl
-  where
-    go : (o : Bool) → eqb l.destroyed m.destroyed ≡ o → o ≡ compare_is_eq (order l m)
-    go true g = sym (true_same l m (location_path e f (eqb-true l.destroyed m.destroyed g)))
-    go false g = differ l m (λ h. eqb-false l.destroyed m.destroyed g (ap (λ (x : Location). x.destroyed) h))
 
 module _ (s : List ℕ) where
   -- ── the first location, and the others ──
@@ -43,54 +24,72 @@ module _ (s : List ℕ) where
   locations_first zero at h = absurd (not-suc-le-zero h)
   locations_first (suc n) at h = let e : suc n - 1 ≡ n = omega arith in rw e
 
-  -- the same, with the first under another name
-  pub locations_as : (n at : ℕ) (l : Location) → 0 < n → l ≡ location_at s at → locations_in s n at ≡ l ∷ locations_in s (n - 1) (at + 24)
-  locations_as n at l h e = locations_first n at h ∙ ap (λ (x : Location). x ∷ locations_in s (n - 1) (at + 24)) (sym e)
+  module _ (at n : ℕ) where
+    -- location number i, and the locations from there on
+    abbrev pub location_of : ℕ → Location
+    location_of i = location_at s (at + i * 24)
 
-  -- ── a list that ascends ──
+    abbrev pub rest : ℕ → List Location
+    rest i = locations_in s (n - i) (at + i * 24)
 
-  -- up to one location ascends
-  pub ascends_end : (n at : ℕ) → n ≤ 1 → true ≡ is_ascending (locations_in s n at)
-  unfolding locations_in
-  ascends_end zero at h = refl
-  ascends_end (suc zero) at h = refl
-  ascends_end (suc (suc n)) at h = absurd (omega arith)
+    pub rest_all : rest 0 ≡ locations_in s n at
+    rest_all =
+        let a : n - 0 ≡ n = omega arith in
+        let b : at + 0 * 24 ≡ at = omega arith in
+        rw (a, b) refl
 
-  -- the first two decide, and then the others do
-  ascends_by : (n at : ℕ) (l m : Location) → 1 < n → l ≡ location_at s at → m ≡ location_at s (at + 24)
-      → is_ascending (locations_in s n at) ≡ (is_lt (order l m) && is_ascending (locations_in s (n - 1) (at + 24)))
-  ascends_by n at l m h e f =
-      let a : 0 < n = omega arith in
-      let b : 0 < n - 1 = omega arith in
-      rw (e, f, locations_first n at a, locations_first (n - 1) (at + 24) b)
+    pub rest_none : (i : ℕ) → n ≤ i → rest i ≡ []
+    rest_none i h = locations_none (n - i) (at + i * 24) (omega arith)
 
-  pub ascends_not : (n at : ℕ) (l m : Location) (r : Bool) → 1 < n → l ≡ location_at s at → m ≡ location_at s (at + 24)
-      → r ≡ is_lt (order l m) → r ≡ false → false ≡ is_ascending (locations_in s n at)
-  ascends_not n at l m r h e f g k =
-      let z : is_lt (order l m) ≡ false = sym g ∙ k in
-      sym (ascends_by n at l m h e f ∙ ap (λ (o : Bool). o && is_ascending (locations_in s (n - 1) (at + 24))) z)
+    pub rest_first : (i : ℕ) → i < n → rest i ≡ location_of i ∷ rest (i + 1)
+    rest_first i h =
+        let a : n - i - 1 ≡ n - (i + 1) = omega arith in
+        let b : at + i * 24 + 24 ≡ at + (i + 1) * 24 = omega arith in
+        rw (a, b) at (locations_first (n - i) (at + i * 24) (omega arith))
 
-  pub ascends_on : (n at : ℕ) (l m : Location) (r : Bool) → 1 < n → l ≡ location_at s at → m ≡ location_at s (at + 24)
-      → r ≡ is_lt (order l m) → r ≡ true → is_ascending (locations_in s (n - 1) (at + 24)) ≡ is_ascending (locations_in s n at)
-  ascends_on n at l m r h e f g k =
-      let z : is_lt (order l m) ≡ true = sym g ∙ k in
-      sym (ascends_by n at l m h e f ∙ ap (λ (o : Bool). o && is_ascending (locations_in s (n - 1) (at + 24))) z)
+    -- ── a list that ascends ──
 
-  -- ── a sound list ──
+    -- up to one location ascends
+    pub ascends_end : (i : ℕ) → n ≤ i → true ≡ is_ascending (rest (i - 1))
+    unfolding locations_in
+    ascends_end i h = go (n - (i - 1)) (omega arith)
+      where
+        go : (k : ℕ) → k ≤ 1 → true ≡ is_ascending (locations_in s k (at + (i - 1) * 24))
+        go zero h = refl
+        go (suc zero) h = refl
+        go (suc (suc k)) h = absurd (omega arith)
 
-  pub sound_end : (d n at : ℕ) → n ≤ 0 → true ≡ all_pass d (locations_in s n at)
-  sound_end d n at h = rw (locations_none n at h)
+    -- of two neighbours the test decides, and then the others do
+    module _ (i : ℕ) (low : 1 ≤ i) (high : i < n) (l m : Location) (e : l ≡ location_of (i - 1)) (f : m ≡ location_of i) (r : Bool) (g : r ≡ is_lt (order l m)) where
+      ascends_by : is_ascending (rest (i - 1)) ≡ (r && is_ascending (rest i))
+      ascends_by =
+          let j : i - 1 + 1 ≡ i = omega arith in
+          let second : rest i ≡ m ∷ rest (i + 1) = rest_first i high ∙ ap (λ (x : Location). x ∷ rest (i + 1)) (sym f) in
+          let first : rest (i - 1) ≡ l ∷ (m ∷ rest (i + 1)) =
+          rest_first (i - 1) (omega arith) ∙ ap (λ (k : ℕ). location_of (i - 1) ∷ rest k) j ∙ ap (λ (x : Location). x ∷ rest i) (sym e) ∙ ap (λ (ls : List Location). l ∷ ls) second in
+          ap is_ascending first ∙ ap (λ (o : Bool). o && ascending_from m (rest (i + 1))) (sym g) ∙ ap (λ (o : Bool). r && o) (sym (ap is_ascending second))
 
-  -- a life of no tick
-  pub sound_not : (d n at : ℕ) (l : Location) → 0 < n → l ≡ location_at s at
-      → l.destroyed ≤ l.created → false ≡ all_pass d (locations_in s n at)
-  sound_not d n at l h e k = rw (locations_as n at l h e, le-ltb l.created l.destroyed k)
+      pub ascends_not : r ≡ false → false ≡ is_ascending (rest (i - 1))
+      ascends_not k = sym (ascends_by ∙ ap (λ (o : Bool). o && is_ascending (rest i)) k)
 
-  -- an address from which d bytes go past the last
-  pub sound_high : (d n at : ℕ) (l : Location) → 0 < n → l ≡ location_at s at
-      → l.created < l.destroyed → last_number < l.address + d → false ≡ all_pass d (locations_in s n at)
-  sound_high d n at l h e k j = rw (locations_as n at l h e, lt-ltb l.created l.destroyed k, lt-leb (l.address + d) last_number j)
+      pub ascends_on : r ≡ true → is_ascending (rest (i + 1 - 1)) ≡ is_ascending (rest (i - 1))
+      ascends_on k =
+          let j : i + 1 - 1 ≡ i = omega arith in
+          rw j (sym (ascends_by ∙ ap (λ (o : Bool). o && is_ascending (rest i)) k))
 
-  pub sound_on : (d n at : ℕ) (l : Location) → 0 < n → l ≡ location_at s at
-      → l.created < l.destroyed → l.address + d ≤ last_number → all_pass d (locations_in s (n - 1) (at + 24)) ≡ all_pass d (locations_in s n at)
-  sound_on d n at l h e k j = rw (locations_as n at l h e, lt-ltb l.created l.destroyed k, le-leb (l.address + d) last_number j)
+    -- ── a sound list ──
+
+    module _ (d i : ℕ) (high : i < n) (l : Location) (e : l ≡ location_of i) where
+      here : rest i ≡ l ∷ rest (i + 1)
+      here = rest_first i high ∙ ap (λ (x : Location). x ∷ rest (i + 1)) (sym e)
+
+      -- a life of no tick
+      pub sound_not : l.destroyed ≤ l.created → false ≡ all_pass d (rest i)
+      sound_not k = rw (here, le-ltb l.created l.destroyed k) refl
+
+      -- an address from which d bytes go past the last
+      pub sound_high : l.created < l.destroyed → last_number < l.address + d → false ≡ all_pass d (rest i)
+      sound_high k j = rw (here, lt-ltb l.created l.destroyed k, lt-leb (l.address + d) last_number j) refl
+
+      pub sound_on : l.created < l.destroyed → l.address + d ≤ last_number → all_pass d (rest (i + 1)) ≡ all_pass d (rest i)
+      sound_on k j = rw (here, lt-ltb l.created l.destroyed k, le-leb (l.address + d) last_number j) refl

@@ -1,48 +1,54 @@
--- Lists of locations where they stand in an image s: a buffer has two numbers for each, where it goes on and where it ends.
--- Assumes nothing.
+-- Lists of locations where they stand in an image s: of each that is walked over, where it goes on and where it ends. Assumes nothing.
 use Rattle.std.specs.Prelude.{ℕ, zero, suc, ◌+◌, ◌-◌, ◌*◌, ◌/◌, ◌%◌, ◌≤◌, ◌<◌, ◌≡◌, cond, List, [], ◌∷◌, length, get_or, set, eqb}
 use Rattle.definitions.specs.Location.{Location}
 use Rattle.definitions.specs.Location.{locations_in}
+use Rattle.location_lists.specs.declared.List.{List as Listing}
+use Rattle.location_lists.specs.declared.Span.{Span}
+use Rattle.location_lists.specs.declared.Lists.{Lists}
 
--- the locations from one index up to another
-abbrev pub list_from : List ℕ → ℕ → ℕ → List Location
-list_from s start end = locations_in s ((end - start) / 24) start
+-- the locations of a list
+abbrev pub held : List ℕ → Listing → List Location
+held s l = locations_in s l.count l.at
 
--- where list number k goes on, and where it ends
-abbrev pub start_of : List ℕ → ℕ → ℕ
-start_of lists k = get_or lists (k * 2) 0
+-- they lie within the image
+abbrev pub Within : List ℕ → Listing → Type 0
+Within s l = l.at + l.count * 24 ≤ length s
 
-abbrev pub end_of : List ℕ → ℕ → ℕ
-end_of lists k = get_or lists (k * 2 + 1) 0
+-- the locations from where a list goes on up to where it ends
+abbrev pub list_from : List ℕ → Span → List Location
+list_from s p = locations_in s ((p.end - p.at) / 24) p.at
+
+-- list number k
+abbrev pub span_of : List Span → ℕ → Span
+span_of each k = get_or each k (record { at = 0; end = 0 })
 
 -- n lists from number k on
-abbrev pub lists_from : List ℕ → List ℕ → ℕ → ℕ → List (List Location)
-lists_from s lists zero k = []
-lists_from s lists (suc n) k = list_from s (start_of lists k) (end_of lists k) ∷ lists_from s lists n (k + 1)
+abbrev pub lists_from : List ℕ → List Span → ℕ → ℕ → List (List Location)
+lists_from s each zero k = []
+lists_from s each (suc n) k = list_from s (span_of each k) ∷ lists_from s each n (k + 1)
 
--- the lists of a buffer
-abbrev pub lists_in : List ℕ → List ℕ → ℕ → List (List Location)
-lists_in s lists count = lists_from s lists count 0
+-- all of them
+abbrev pub lists_in : List ℕ → Lists → List (List Location)
+lists_in s lists = lists_from s lists.each lists.count 0
 
--- whole locations of s stand from one index up to another
-pub record IsList (s : List ℕ) (start end : ℕ) : Type 0 where
-  pub ordered : start ≤ end
-  pub within : end ≤ length s
-  pub whole : (end - start) % 24 ≡ 0
+-- whole locations of s stand from where a list goes on up to where it ends
+pub record IsList (s : List ℕ) (p : Span) : Type 0 where
+  pub ordered : p.at ≤ p.end
+  pub within : p.end ≤ length s
+  pub whole : (p.end - p.at) % 24 ≡ 0
 
--- the buffer holds so many lists of s
-pub record Lists (s lists : List ℕ) (count : ℕ) : Type 0 where
-  pub room : count * 2 ≤ length lists
-  pub each : (k : ℕ) → k < count → IsList s (start_of lists k) (end_of lists k)
+-- each of them is a list of s
+pub record AreLists (s : List ℕ) (lists : Lists) : Type 0 where
+  pub room : lists.count ≤ length lists.each
+  pub each : (k : ℕ) → k < lists.count → IsList s (span_of lists.each k)
 
--- the buffer with the n locations at an index as one list more, and how many lists it then holds; no locations are no list
-abbrev pub with_list : List ℕ → ℕ → ℕ → ℕ → List ℕ
-with_list lists count at n = cond (eqb n 0) lists (set (set lists (count * 2) at) (count * 2 + 1) (at + n * 24))
+-- the lists, and one list more; no locations are no list
+abbrev pub with_list : Lists → Listing → Lists
+with_list lists l = cond (eqb l.count 0) lists (record { each = set lists.each lists.count (record { at = l.at; end = l.at + l.count * 24 }); count = lists.count + 1; ahead = lists.ahead })
 
-abbrev pub count_with : ℕ → ℕ → ℕ
-count_with count n = cond (eqb n 0) count (count + 1)
-
--- from index m on ys is xs
-pub record Kept (m : ℕ) (xs ys : List ℕ) : Type 0 where
-  pub rest : (k : ℕ) → m ≤ k → get_or ys k 0 ≡ get_or xs k 0
-  pub same_length : length ys ≡ length xs
+-- no list of another buffer is there, and what is behind the lists is as it was
+pub record Kept (xs ys : Lists) : Type 0 where
+  pub count : ys.count ≡ xs.count
+  pub ahead : ys.ahead ≡ xs.ahead
+  pub rest : (k : ℕ) → xs.count ≤ k → span_of ys.each k ≡ span_of xs.each k
+  pub same_length : length ys.each ≡ length xs.each

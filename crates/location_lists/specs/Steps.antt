@@ -1,32 +1,34 @@
--- A step of the walk over the lists of a buffer, on its numbers: those that have a location next go on behind it. Assumes nothing.
-use Rattle.std.specs.Prelude.{ℕ, zero, suc, ◌+◌, ◌*◌, Bool, true, ◌&&◌, cond, List, set, ltb, eqb}
+-- A step of the walk over lists: those that have a location next go on behind it. Assumes nothing.
+use Rattle.std.specs.Prelude.{ℕ, zero, suc, ◌+◌, Bool, true, false, ◌&&◌, ◌||◌, cond, List, set, ltb, eqb}
 use Rattle.std.proofs.Math.Dec.{compare_is_eq}
 use Rattle.definitions.specs.Location.{Location, order, location_at}
-use Rattle.location_lists.specs.Lists.{start_of, end_of}
+use Rattle.location_lists.specs.declared.Span.{Span}
+use Rattle.location_lists.specs.declared.Lists.{Lists}
+use Rattle.location_lists.specs.Lists.{span_of}
 
--- list number k goes on, and with key
-abbrev pub has_next : List ℕ → Location → List ℕ → ℕ → Bool
-has_next s key lists k = ltb (start_of lists k) (end_of lists k) && compare_is_eq (order (location_at s (start_of lists k)) key)
+-- a list goes on, and with key
+abbrev pub has_next : List ℕ → Location → Span → Bool
+has_next s key p = ltb p.at p.end && compare_is_eq (order (location_at s p.at) key)
 
--- the buffer with key stepped over in list number k, where that has it next
-abbrev pub stepped : List ℕ → Location → List ℕ → ℕ → List ℕ
-stepped s key lists k = cond (has_next s key lists k) (set lists (k * 2) (start_of lists k + 24)) lists
+-- the lists with key stepped over in number k, where that has it next
+abbrev pub stepped : List ℕ → Location → List Span → ℕ → List Span
+stepped s key each k = cond (has_next s key (span_of each k)) (set each k (record { at = (span_of each k).at + 24; end = (span_of each k).end })) each
 
 -- the same in n lists from number k on
-abbrev pub stepped_from : List ℕ → Location → List ℕ → ℕ → ℕ → List ℕ
-stepped_from s key lists zero k = lists
-stepped_from s key lists (suc n) k = stepped_from s key (stepped s key lists k) n (k + 1)
+abbrev pub stepped_from : List ℕ → Location → List Span → ℕ → ℕ → List Span
+stepped_from s key each zero k = each
+stepped_from s key each (suc n) k = stepped_from s key (stepped s key each k) n (k + 1)
 
--- once or not at all
-abbrev pub times : Bool → ℕ
-times b = cond b 1 0
+-- in all of them
+abbrev pub stepped_all : List ℕ → Location → Lists → Lists
+stepped_all s key lists = record { each = stepped_from s key lists.each lists.count 0; count = lists.count; ahead = lists.ahead }
 
--- how many of n lists from number k on have key next
-abbrev pub met_from : List ℕ → Location → List ℕ → ℕ → ℕ → ℕ
-met_from s key lists zero k = 0
-met_from s key lists (suc n) k = times (has_next s key lists k) + met_from s key lists n (k + 1)
+-- one of n lists from number k on has key next
+abbrev pub any_next : List ℕ → Location → List Span → ℕ → ℕ → Bool
+any_next s key each zero k = false
+any_next s key each (suc n) k = has_next s key (span_of each k) || any_next s key each n (k + 1)
 
 -- each of n lists from number k on is at its end
-abbrev pub ended_from : List ℕ → ℕ → ℕ → Bool
-ended_from lists zero k = true
-ended_from lists (suc n) k = eqb (start_of lists k) (end_of lists k) && ended_from lists n (k + 1)
+abbrev pub ended_from : List Span → ℕ → ℕ → Bool
+ended_from each zero k = true
+ended_from each (suc n) k = eqb (span_of each k).at (span_of each k).end && ended_from each n (k + 1)

@@ -1,16 +1,16 @@
 // Lists of locations where they stand in an image: whether one ascends, is sound, or is the union of others.
 #![tactic(auto)]
 
-ghost use Rattle.std.specs.Prelude.{◌≡◌, ◌+◌, ◌*◌, ◌^◌, ◌≤◌, ◌<◌, length};
+ghost use Rattle.std.specs.Prelude.{◌≡◌, ◌+◌, ◌*◌, ◌^◌, ◌≤◌, ◌<◌, length, replicate};
 ghost use Rattle.std.proofs.Math.Dec.{compare_is_eq};
 ghost use Rattle.definitions.specs.Location.{order, location_at};
 ghost use Rattle.location.specs.Plain.{plain};
 ghost use Rattle.trie.specs.Test.{is_ascending, all_pass, is_union};
-ghost use Rattle.definitions.specs.Location.{locations_in};
-ghost use Rattle.location_lists.specs.Lists.{start_of, end_of, lists_in, IsList, Lists, with_list, count_with, Kept};
-ghost use Rattle.location_lists.specs.Steps.{has_next, stepped, stepped_from, times, met_from, ended_from};
+ghost use Rattle.location_lists.specs.Lists.{held, Within, span_of, lists_in, IsList, AreLists, with_list, Kept};
+ghost use Rattle.location_lists.specs.Steps.{has_next, stepped, stepped_all, any_next, ended_from};
 
 use definitions::LOCATION_SIZE;
+use location::SpacetimeLocation;
 
 // A list of locations: where it starts, and how many it has.
 #[derive(Clone, Copy)]
@@ -29,63 +29,95 @@ impl List {
     }
 }
 
-// Whether each of the n locations at index at comes before the next.
-pub fn is_ascending(s: &[u8], at: usize, n: usize) -> bool
-    requires { at + n * 24 ≤ length s.now }
-    ensures { result ≡ is_ascending (locations_in s.now n at) }
+// Where a list that is walked over goes on, and where it ends.
+#[derive(Clone, Copy)]
+pub struct Span {
+    pub at: usize,
+    pub end: usize,
+}
+
+// The most lists at once: two for each of 256 children.
+const MOST: usize = 512;
+
+// Lists that are walked over at once. What is read ahead of the walk is kept beside them, so that it is read.
+#[derive(Drop)]
+pub struct Lists {
+    pub each: [Span; MOST],
+    pub count: usize,
+    pub ahead: u64,
+}
+
+impl Lists {
+    // No lists.
+    pub fn new() -> Self
+        ensures { result ≡ record { each = replicate 512 (record { at = 0; end = 0 }); count = 0; ahead = 0 } }
+    {
+        Lists {
+            each: [Span { at: 0, end: 0 }; MOST],
+            count: 0,
+            ahead: 0,
+        }
+    }
+
+    // Takes all of them away.
+    pub fn clear(&mut self)
+        ensures { self.new ≡ record { each = self.old.each; count = 0; ahead = self.old.ahead } }
+    {
+        self.count = 0;
+    }
+
+    // Adds a list, if it has any locations.
+    pub fn add(&mut self, list: List)
+        requires { (self.old.count < 512) × (list.at + list.count * 24 < 2 ^ 64) }
+        ensures { self.new ≡ with_list self.old list }
+    {
+        if list.count == 0 {
+            return;
+        }
+        self.each[self.count] = Span {
+            at: list.at,
+            end: list.end(),
+        };
+        self.count += 1;
+    }
+}
+
+// Whether each location of a list comes before the next.
+pub fn is_ascending(s: &[u8], list: List) -> bool
+    requires { Within s.now list }
+    ensures { result ≡ is_ascending (held s.now list) }
 {
-    let mut p = at;
-    let mut left = n;
-    while 1 < left {
-        let l = location::location_at(s, p);
-        let m = location::location_at(s, p + LOCATION_SIZE);
+    for i in 1..list.count {
+        let l = location::location_at(s, list.at + (i - 1) * LOCATION_SIZE);
+        let m = location::location_at(s, list.at + i * LOCATION_SIZE);
         if !l.before(m) {
             return false;
         }
-        p += LOCATION_SIZE;
-        left -= 1;
     }
     true
 }
 
-// Whether the n locations at index at pass the checks on a block's life and end, for a piece of depth bytes.
+// Whether the locations of a list pass the checks on a block's life and end, for a piece of depth bytes.
 // The address is compared with what is left of the numbers, since a sum with it could wrap.
-pub fn are_sound(s: &[u8], at: usize, n: usize, depth: usize) -> bool
-    requires { (at + n * 24 ≤ length s.now) × (depth ≤ 16) }
-    ensures { result ≡ all_pass depth (locations_in s.now n at) }
+pub fn are_sound(s: &[u8], list: List, depth: usize) -> bool
+    requires { Within s.now list × (depth ≤ 16) }
+    ensures { result ≡ all_pass depth (held s.now list) }
 {
     let top = u64::MAX - depth as u64;
-    let mut p = at;
-    let mut left = n;
-    while 0 < left {
-        let l = location::location_at(s, p);
+    for i in 0..list.count {
+        let l = location::location_at(s, list.at + i * LOCATION_SIZE);
         if l.destroyed_at.0 <= l.created_at.0 {
             return false;
         }
         if top < l.address.0 {
             return false;
         }
-        p += LOCATION_SIZE;
-        left -= 1;
     }
     true
 }
 
-// Adds the n locations at index at to count lists, if there are any; how many lists there are then.
-pub fn add_list(lists: &mut [usize], count: usize, at: usize, n: usize) -> usize
-    requires { (count * 2 + 2 ≤ length lists.old) × (at + n * 24 < 2 ^ 64) }
-    ensures { (lists.new ≡ with_list lists.old count at n) × (result ≡ count_with count n) }
-{
-    if n == 0 {
-        return count;
-    }
-    lists[count * 2] = at;
-    lists[count * 2 + 1] = at + n * LOCATION_SIZE;
-    count + 1
-}
-
 // Whether the location at index p is key.
-pub fn is_at(s: &[u8], p: usize, key: location::SpacetimeLocation) -> bool
+pub fn is_at(s: &[u8], p: usize, key: SpacetimeLocation) -> bool
     requires { p + 24 ≤ length s.now }
     ensures { result ≡ compare_is_eq (order (location_at s.now p) (plain key)) }
 {
@@ -98,74 +130,65 @@ pub fn is_at(s: &[u8], p: usize, key: location::SpacetimeLocation) -> bool
     words::get64(s, p + 16) == key.destroyed_at.0
 }
 
-// Steps over key in list number i, if that has it next; how often, which is once or not at all.
-fn step_one(s: &[u8], key: location::SpacetimeLocation, lists: &mut [usize], i: usize) -> usize
-    requires { (i * 2 + 1 < length lists.old) × IsList s.now (start_of lists.old i) (end_of lists.old i) }
-    ensures { (lists.new ≡ stepped s.now (plain key) lists.old i) × (result ≡ times (has_next s.now (plain key) lists.old i)) }
+// Steps over key in list number i, if that has it next, and says whether.
+fn step_one(s: &[u8], key: SpacetimeLocation, lists: &mut Lists, i: usize) -> bool
+    requires { (i < 512) × IsList s.now (span_of lists.old.each i) }
+    ensures { (lists.new ≡ record { each = stepped s.now (plain key) lists.old.each i; count = lists.old.count; ahead = lists.old.ahead }) × (result ≡ has_next s.now (plain key) (span_of lists.old.each i)) }
 {
-    let p = lists[i * 2];
-    let e = lists[i * 2 + 1];
-    if e <= p {
-        return 0;
+    let list = lists.each[i];
+    if list.end <= list.at {
+        return false;
     }
-    if !is_at(s, p, key) {
-        return 0;
+    if !is_at(s, list.at, key) {
+        return false;
     }
-    lists[i * 2] = p + LOCATION_SIZE;
-    1
+    lists.each[i].at = list.at + LOCATION_SIZE;
+    true
 }
 
-// Steps over key in each of count lists that has it next; how many have.
-fn step_over(s: &[u8], key: location::SpacetimeLocation, lists: &mut [usize], count: usize) -> usize
-    requires { Lists s.now lists.old count }
-    ensures { (lists.new ≡ stepped_from s.now (plain key) lists.old count 0) × (result ≡ met_from s.now (plain key) lists.old count 0) }
+// Steps over key in each list that has it next, and says whether any has.
+fn step_over(s: &[u8], key: SpacetimeLocation, lists: &mut Lists) -> bool
+    requires { AreLists s.now lists.old }
+    ensures { (lists.new ≡ stepped_all s.now (plain key) lists.old) × (result ≡ any_next s.now (plain key) lists.old.each lists.old.count 0) }
 {
-    let mut met = 0;
-    let mut i = 0;
-    while i < count {
-        met += step_one(s, key, lists, i);
-        i += 1;
+    let mut met = false;
+    for i in 0..lists.count {
+        if step_one(s, key, lists, i) {
+            met = true;
+        }
     }
     met
 }
 
-// Whether each of count lists is at its end.
-fn all_ended(lists: &[usize], count: usize) -> bool
-    requires { count * 2 ≤ length lists.now }
-    ensures { result ≡ ended_from lists.now count 0 }
+// Whether each list is at its end.
+fn all_ended(lists: &Lists) -> bool
+    requires { lists.now.count ≤ length lists.now.each }
+    ensures { result ≡ ended_from lists.now.each lists.now.count 0 }
 {
-    let mut k = 0;
-    while k < count {
-        if lists[k * 2] != lists[k * 2 + 1] {
+    for k in 0..lists.count {
+        if lists.each[k].at != lists.each[k].end {
             return false;
         }
-        k += 1;
     }
     true
 }
 
-// Whether the n locations at index at, each back by so many addresses, are those of count lists.
-// It walks over all of them at once, and uses the lists up.
-pub fn is_union(s: &[u8], at: usize, n: usize, back: u64, lists: &mut [usize], count: usize) -> bool
-    requires { (at + n * 24 ≤ length s.now) × Lists s.now lists.old count }
-    ensures says { result ≡ is_union back (locations_in s.now n at) (lists_in s.now lists.old count) }
-    ensures keeps { Kept (count * 2) lists.old lists.new }
+// Whether the locations of a list, each back by so many addresses, are those of the others.
+// It walks over all of them at once, and uses the others up.
+pub fn is_union(s: &[u8], list: List, back: u64, lists: &mut Lists) -> bool
+    requires { Within s.now list × AreLists s.now lists.old }
+    ensures says { result ≡ is_union back (held s.now list) (lists_in s.now lists.old) }
+    ensures keeps { Kept lists.old lists.new }
 {
-    let mut p = at;
-    let mut left = n;
-    while 0 < left {
-        let l = location::location_at(s, p);
-        let a = l.address.0;
-        if a < back {
+    for i in 0..list.count {
+        let l = location::location_at(s, list.at + i * LOCATION_SIZE);
+        let Some(address) = l.address.0.checked_sub(back) else {
+            return false;
+        };
+        let key = SpacetimeLocation::new(address, l.created_at.0, l.destroyed_at.0);
+        if !step_over(s, key, lists) {
             return false;
         }
-        let key = location::SpacetimeLocation::new(a - back, l.created_at.0, l.destroyed_at.0);
-        let met = step_over(s, key, lists, count);
-        if met == 0 {
-            return false;
-        }
-        p += LOCATION_SIZE;
-        left -= 1;
     }
-    all_ended(lists, count)
+    all_ended(lists)
 }

@@ -1,11 +1,8 @@
 -- `location_lists::all_ended` meets its contract: what is left is at its ends just where all lists are. Assumes nothing.
-use Prim.Native.Nat.{◌-◌, ◌≤◌}
+use Prim.Native.Nat.{◌-◌}
 use mathlib.Core.Path.{◌≡◌}
 use Rattle.location_lists.specs.Steps.{ended_from}
 use Rattle.location_lists.proofs.all_ended.Given as goal
 
 abbrev pub invariant-loop-k : goal.invariant-loop-k
-invariant-loop-k l = (l.k ≤ l.count) × (ended_from l.lists (l.count - l.k) l.k ≡ ended_from l.lists l.count 0)
-
-abbrev pub decreases-loop-k : goal.decreases-loop-k
-decreases-loop-k l = l.count - l.k
+invariant-loop-k l = ended_from l.lists.each (l.lists.count - l.k) l.k ≡ ended_from l.lists.each l.lists.count 0

@@ -1,34 +1,21 @@
 -- `location_lists::is_ascending` meets its contract: what is left ascends just where all do. Assumes nothing.
-use native.Mathlib.Omega.{arith}
-use mathlib.Core.Path.{refl, ◌∙◌}
-use Rattle.location.specs.Plain.{plain}
-use Rattle.location_lists.proofs.Single.{ascends_end, ascends_not, ascends_on}
+use mathlib.Core.Path.{ap, ◌∙◌}
+use Rattle.trie.specs.Test.{is_ascending}
+use Rattle.location_lists.proofs.Single.{rest_all, ascends_end, ascends_not, ascends_on}
 use Rattle.location_lists.proofs.is_ascending.Goals as goal
 
-pub loop-left-init : goal.loop-left-init
-loop-left-init c = (c.requires, refl)
+pub loop-i-init : goal.loop-i-init
+loop-i-init c = let a = c.args in ap is_ascending (rest_all a.s.now a.list.at a.list.count)
 
 pub returns-then-not-before : goal.returns-then-not-before
 returns-then-not-before c =
-    let b = c.before-in-loop-left in
-    let m = c.location_at-m in
-    let l = c.location_at-l in
-    let o = c.loop-left in
     let a = c.args in
-    ascends_not a.s.now o.left o.p (plain l.result) (plain m.result) b.result (omega arith) l.ensures m.ensures b.ensures c.if-not-before.true ∙ o.invariant.1
+    ascends_not a.s.now a.list.at a.list.count _ c.loop-i.auto.i c.loop-i-test.true _ _ c.location_at-l.ensures c.location_at-m.ensures _ c.before-in-loop-i.ensures c.if-not-before.true ∙ c.loop-i.invariant
 
-pub loop-left-preserved : goal.loop-left-preserved
-loop-left-preserved c =
-    let b = c.before-in-loop-left in
-    let m = c.location_at-m in
-    let l = c.location_at-l in
-    let o = c.loop-left in
+pub loop-i-preserved : goal.loop-i-preserved
+loop-i-preserved c =
     let a = c.args in
-    let f = ascends_on a.s.now o.left o.p (plain l.result) (plain m.result) b.result (omega arith) l.ensures m.ensures b.ensures c.if-not-before.false in
-    (omega arith, f ∙ o.invariant.1)
+    ascends_on a.s.now a.list.at a.list.count _ c.loop-i.auto.i c.loop-i-test.true _ _ c.location_at-l.ensures c.location_at-m.ensures _ c.before-in-loop-i.ensures c.if-not-before.false ∙ c.loop-i.invariant
 
 pub returns : goal.returns
-returns c =
-    let o = c.loop-left in
-    let a = c.args in
-    ascends_end a.s.now o.left o.p (omega arith) ∙ o.invariant.1
+returns c = let a = c.args in ascends_end a.s.now a.list.at a.list.count _ c.loop-i-test.false ∙ c.loop-i.invariant

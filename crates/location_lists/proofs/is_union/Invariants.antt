@@ -2,8 +2,5 @@
 use Rattle.location_lists.proofs.Walk.{Walking}
 use Rattle.location_lists.proofs.is_union.Given as goal
 
-abbrev pub invariant-loop-left : goal.invariant-loop-left
-invariant-loop-left l = Walking l.s l.at l.n l.back l.initial.lists l.count l.lists l.p l.left
-
-abbrev pub decreases-loop-left : goal.decreases-loop-left
-decreases-loop-left l = l.left
+abbrev pub invariant-loop-i : goal.invariant-loop-i
+invariant-loop-i l = Walking l.s l.list l.back l.initial.lists l.lists l.i

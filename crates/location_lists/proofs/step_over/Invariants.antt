@@ -1,11 +1,7 @@
 -- `location_lists::step_over` meets its contract: stepping over the key in what is left of the lists gives what it gives in all. Assumes nothing.
-use Prim.Native.Nat.{◌-◌}
 use Rattle.location.specs.Plain.{plain}
 use Rattle.location_lists.proofs.Walk.{Stepping}
 use Rattle.location_lists.proofs.step_over.Given as goal
 
 abbrev pub invariant-loop-i : goal.invariant-loop-i
-invariant-loop-i l = Stepping l.s (plain l.key) l.initial.lists l.count l.lists l.met l.i
-
-abbrev pub decreases-loop-i : goal.decreases-loop-i
-decreases-loop-i l = l.count - l.i
+invariant-loop-i l = Stepping l.s (plain l.key) l.initial.lists l.lists l.met l.i
