@@ -121,13 +121,7 @@ pub fn is_at(s: &[u8], p: usize, key: SpacetimeLocation) -> bool
     requires { p + 24 ≤ length s.now }
     ensures { result ≡ compare_is_eq (order (location_at s.now p) (plain key)) }
 {
-    if words::get64(s, p) != key.address.0 {
-        return false;
-    }
-    if words::get64(s, p + 8) != key.created_at.0 {
-        return false;
-    }
-    words::get64(s, p + 16) == key.destroyed_at.0
+    location::location_at(s, p) == key
 }
 
 // Steps over key in list number i, if that has it next, and says whether.
