@@ -6,7 +6,4 @@ use Rattle.image_format.specs.Reading.{table_fault}
 use Rattle.tables.proofs.table_fault.Given as goal
 
 abbrev pub invariant-loop-i : goal.invariant-loop-i
-invariant-loop-i l = (l.i ≤ l.n) × (l.base + l.i * 9 ≤ length l.s) × (table_fault l.s l.base (l.n - l.i) l.i ≡ table_fault l.s l.base l.n 0)
-
-abbrev pub decreases-loop-i : goal.decreases-loop-i
-decreases-loop-i l = l.n - l.i
+invariant-loop-i l = (l.base + l.i * 9 ≤ length l.s) × (table_fault l.s l.base (l.n - l.i) l.i ≡ table_fault l.s l.base l.n 0)
