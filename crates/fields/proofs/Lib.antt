@@ -1,3 +1,3 @@
--- `AnswerLaws` has laws of the answers, `Singles` of runs. Assumes nothing.
-pub mod AnswerLaws
+-- `Passed` has what `?` passes on, `Singles` laws of runs. Assumes nothing.
+pub mod Passed
 pub mod Singles

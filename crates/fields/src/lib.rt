@@ -1,57 +1,56 @@
 // The fields of one node of an image in layout order.
 #![tactic(auto)]
 
-ghost use Rattle.std.specs.Prelude.{◌≡◌, ◌+◌, ◌*◌, ◌≤◌, ◌<◌, length, eqb, cond, true};
-ghost use Rattle.image_format.specs.Reading.{offset, slot_turn, turn_at, all_met, read_list, read_head, open_table};
-ghost use Rattle.fields.specs.Answers.{step_of, list_of, head_of, table_in, table_of, turn_of};
+ghost use Rattle.std.specs.Prelude.{◌≡◌, ◌+◌, ◌*◌, ◌≤◌, ◌<◌, length, eqb, cond, true, IfErr};
+ghost use Rattle.kinds.specs.Kinds.{kind_number};
+ghost use Rattle.image_format.specs.Reading.{offset, slot_turn, slot_at, turn_at, all_met, read_list, read_head, open_table};
+ghost use Rattle.fields.specs.Answers.{step_of, list_of, head_of, table_in, table_of, slot_of, turn_of};
 ghost use Rattle.image_format.specs.Turns.{Within, Skips};
 ghost use Rattle.fields.specs.Singles.{Bare, SingleWithoutLists, SingleBeforeChild, SinglesBelow};
 
-use definitions::LOCATION_SIZE;
+use definitions::{LOCATION_SIZE, Refusal};
 use image_format::{DENSE_ENTRIES, DENSE_SIZE, SLOT_SIZE};
+use kinds::NodeKind;
 
 // The nodes and entries of an image.
-#[derive(Clone, Copy)]
+#[derive(Clone, Copy, Debug, PartialEq, Eq)]
 pub struct Counts {
     pub nodes: usize,
     pub entries: usize,
 }
 
-#[derive(Clone, Copy)]
-pub enum Layout {
-    Right(Counts),
-    Refused(u64),
-}
-
-// Where a part of an image ends and what it counts, or its refusal; 0 where there is none. (A struct, and no enum: the
-// reader's speed is that of copying this answer from level to level, and an enum of a number has seven bytes between.)
+// Where a part of an image ends and what it counts.
 #[derive(Clone, Copy)]
 pub struct Past {
     pub at: usize,
-    pub refusal: u64,
     pub nodes: usize,
     pub entries: usize,
 }
 
-// A node up to its table: its kind, where its lists end and what they count, or a refusal.
+// Where a list ends, and its entries.
+#[derive(Clone, Copy)]
+struct ListEnd {
+    at: usize,
+    entries: usize,
+}
+
+// A node up to its table: its kind, where its lists end and what they count.
 #[derive(Clone, Copy)]
 pub struct Head {
-    pub kind: u8,
+    pub kind: NodeKind,
     pub at: usize,
     pub entries: usize,
-    pub refusal: u64,
 }
 
 // The children of a node: where its table stands and how many entries that has, where the first flag is due, and how
-// many turns there are; or a refusal.
+// many turns there are.
 #[derive(Clone, Copy)]
 pub struct Children {
-    pub kind: u8,
+    pub kind: NodeKind,
     pub base: usize,
     pub count: usize,
     pub start: usize,
     pub turns: usize,
-    pub refusal: u64,
 }
 
 // What stands where a child is due.
@@ -60,233 +59,166 @@ pub enum Due {
     Child,
     Gap,
     Nothing,
-    Wrong(u64),
 }
 
-// A part that is refused.
-pub fn refuse(n: u64) -> Past
-    ensures { result.refusal ≡ n }
-{
-    Past {
-        at: 0,
-        refusal: n,
-        nodes: 0,
-        entries: 0,
-    }
-}
-
-fn refuse_head(n: u64) -> Head
-    ensures { result.refusal ≡ n }
-{
-    Head {
-        kind: 0,
-        at: 0,
-        entries: 0,
-        refusal: n,
-    }
-}
-
-fn refuse_children(n: u64) -> Children
-    ensures { result.refusal ≡ n }
-{
-    Children {
-        kind: 0,
-        base: 0,
-        count: 0,
-        start: 0,
-        turns: 0,
-        refusal: n,
-    }
-}
-
-// A list: its count and its locations.
-fn read_list(s: &[u8], at: usize) -> Past
+// A list: its count and its locations. It can only be cut short.
+fn read_list(s: &[u8], at: usize) -> Result<ListEnd, Refusal>
     requires { at ≤ length s.now }
-    ensures { list_of result ≡ read_list s.now at }
+    ensures list { list_of result ≡ read_list s.now at }
+    ensures cut_short { IfErr result (λ r. r ≡ Refusal.CutShort) }
 {
     let room = s.len() - at;
     if room < 8 {
-        return refuse(definitions::CUT_SHORT);
+        return Err(Refusal::CutShort);
     }
     let n = words::get64(s, at) as usize;
-    if n == 0 {
-        return Past {
-            at: at + 8,
-            refusal: 0,
-            nodes: 0,
-            entries: 0,
-        };
-    }
     if (room - 8) / LOCATION_SIZE < n {
-        return refuse(definitions::CUT_SHORT);
+        return Err(Refusal::CutShort);
     }
-    Past {
+    Ok(ListEnd {
         at: at + 8 + n * LOCATION_SIZE,
-        refusal: 0,
-        nodes: 0,
         entries: n,
-    }
+    })
 }
 
 // The node at an index up to its table: its kind and its three lists.
-pub fn read_head(s: &[u8], at: usize) -> Head
+pub fn read_head(s: &[u8], at: usize) -> Result<Head, Refusal>
     requires { at ≤ length s.now }
     ensures { head_of result ≡ read_head s.now at }
 {
     if at == s.len() {
-        return refuse_head(definitions::CUT_SHORT);
+        return Err(Refusal::CutShort);
     }
-    let kind = s[at];
-    if kind == 0 {
-        return refuse_head(definitions::UNKNOWN_KIND);
-    }
-    if 3 < kind {
-        return refuse_head(definitions::UNKNOWN_KIND);
-    }
-    let a = read_list(s, at + 1);
-    if a.refusal != 0 {
-        return refuse_head(definitions::CUT_SHORT);
-    }
-    let b = read_list(s, a.at);
-    if b.refusal != 0 {
-        return refuse_head(definitions::CUT_SHORT);
-    }
-    let c = read_list(s, b.at);
-    if c.refusal != 0 {
-        return refuse_head(definitions::CUT_SHORT);
-    }
-    Head {
+    let Ok(kind) = NodeKind::try_from(s[at]) else {
+        return Err(Refusal::UnknownKind);
+    };
+    let prefixes = read_list(s, at + 1)?;
+    let chunks = read_list(s, prefixes.at)?;
+    let suffixes = read_list(s, chunks.at)?;
+    Ok(Head {
         kind,
-        at: c.at,
-        entries: a.entries + b.entries + c.entries,
-        refusal: 0,
-    }
+        at: suffixes.at,
+        entries: prefixes.entries + chunks.entries + suffixes.entries,
+    })
 }
 
-// The table of kind 1 at an index.
-fn open_dense(s: &[u8], at: usize) -> Children
+// The table of a node of kind Dense at an index.
+fn open_dense(s: &[u8], at: usize) -> Result<Children, Refusal>
     requires { at ≤ length s.now }
     ensures { table_of result ≡ open_table s.now 1 at }
 {
     if s.len() - at < DENSE_SIZE {
-        return refuse_children(definitions::CUT_SHORT);
+        return Err(Refusal::CutShort);
     }
-    Children {
-        kind: 1,
+    Ok(Children {
+        kind: NodeKind::Dense,
         base: at,
         count: 0,
         start: at + DENSE_SIZE,
         turns: DENSE_ENTRIES,
-        refusal: 0,
+    })
+}
+
+// How many turns a node with n children has that is not of kind Dense.
+fn turns_of(kind: NodeKind, n: usize) -> usize
+    ensures { result ≡ cond (eqb (kind_number kind) 3) n 256 }
+{
+    if kind == NodeKind::ByArrival {
+        n
+    } else {
+        DENSE_ENTRIES
     }
 }
 
-// How many turns kind 2 or 3 has with n children.
-fn turns_of(kind: u8, n: usize) -> usize
-    ensures { result ≡ cond (eqb kind 3) n 256 }
+// The table at an index, of a node of a kind.
+pub fn open_table(s: &[u8], kind: NodeKind, at: usize) -> Result<Children, Refusal>
+    requires { at ≤ length s.now }
+    ensures { table_of result ≡ open_table s.now (kind_number kind) at }
 {
-    if kind == 3 { n } else { DENSE_ENTRIES }
-}
-
-// The table at an index, of a node of kind 1, 2 or 3.
-pub fn open_table(s: &[u8], kind: u8, at: usize) -> Children
-    requires { (at ≤ length s.now) × (1 ≤ kind) × (kind ≤ 3) }
-    ensures { table_of result ≡ open_table s.now kind at }
-{
-    if kind == 1 {
+    if kind == NodeKind::Dense {
         return open_dense(s, at);
     }
     if s.len() - at < 8 {
-        return refuse_children(definitions::CUT_SHORT);
+        return Err(Refusal::CutShort);
     }
-    let n = words::get64(s, at) as usize;
-    if !kinds::fits_kind(kind, n) {
-        return refuse_children(definitions::IMAGE_BROKEN);
+    let count = words::get64(s, at) as usize;
+    if !kinds::fits_kind(kind, count) {
+        return Err(Refusal::ImageBroken);
     }
     let base = at + 8;
-    let fault = tables::table_fault(s, base, n);
-    if fault != 0 {
-        return refuse_children(fault);
-    }
-    Children {
+    tables::table_fault(s, base, count)?;
+    Ok(Children {
         kind,
         base,
-        count: n,
-        start: base + n * SLOT_SIZE,
-        turns: turns_of(kind, n),
-        refusal: 0,
-    }
+        count,
+        start: base + count * SLOT_SIZE,
+        turns: turns_of(kind, count),
+    })
 }
 
 // What stands at an index where the flag for an offset is due.
-fn flag_at(s: &[u8], kind: u8, off: u64, at: usize) -> Due
-    ensures { turn_of result ≡ slot_turn s.now kind at (offset off) }
+fn flag_at(s: &[u8], kind: NodeKind, off: u64, at: usize) -> Result<Due, Refusal>
+    ensures { turn_of result ≡ slot_turn s.now (kind_number kind) at (offset off) }
 {
     if off != at as u64 {
-        return Due::Wrong(definitions::IMAGE_BROKEN);
+        return Err(Refusal::ImageBroken);
     }
     if s.len() <= at {
-        return Due::Wrong(definitions::CUT_SHORT);
+        return Err(Refusal::CutShort);
     }
-    let flag = s[at];
-    if flag == 1 {
-        return Due::Child;
-    }
-    if flag != 0 {
-        return Due::Wrong(definitions::IMAGE_BROKEN);
-    }
-    if kind == 1 {
-        Due::Gap
-    } else {
-        Due::Wrong(definitions::IMAGE_BROKEN)
+    match s[at] {
+        1 => Ok(Due::Child),
+        0 if kind == NodeKind::Dense => Ok(Due::Gap),
+        _ => Err(Refusal::ImageBroken),
     }
 }
 
-// What stands at an index at turn i: kinds 3 and 1 have an offset for each turn, kind 2 for each byte that its table has.
-pub fn turn_at(s: &[u8], c: Children, i: usize, at: usize) -> Due
+// The offset that turn i judges: kinds Dense and ByArrival have one for each turn, kind ByByte for each byte that its table has.
+fn offset_at(s: &[u8], c: Children, i: usize) -> Option<u64>
+    requires { Within (length s.now) (table_in c) × (i < c.turns) }
+    ensures { slot_of result ≡ slot_at s.now (table_in c) i }
+{
+    match c.kind {
+        NodeKind::Dense => Some(words::get64(s, c.base + i * 8)),
+        NodeKind::ByArrival => Some(words::get64(s, c.base + i * SLOT_SIZE + 1)),
+        NodeKind::ByByte => {
+            let j = tables::find_byte(s, c.base, c.count, i as u8)?;
+            Some(words::get64(s, c.base + j * SLOT_SIZE + 1))
+        }
+    }
+}
+
+// What stands at an index at turn i.
+pub fn turn_at(s: &[u8], c: Children, i: usize, at: usize) -> Result<Due, Refusal>
     requires { Within (length s.now) (table_in c) × (i < c.turns) }
     ensures { turn_of result ≡ turn_at s.now (table_in c) i at }
 {
-    let base = c.base;
-    if c.kind == 1 {
-        return flag_at(s, c.kind, words::get64(s, base + i * 8), at);
-    }
-    if c.kind == 3 {
-        return flag_at(s, c.kind, words::get64(s, base + i * SLOT_SIZE + 1), at);
-    }
-    let j = tables::find_byte(s, base, c.count, i as u8);
-    if j < c.count {
-        return flag_at(s, c.kind, words::get64(s, base + j * SLOT_SIZE + 1), at);
-    }
-    Due::Nothing
+    let Some(off) = offset_at(s, c, i) else {
+        return Ok(Due::Nothing);
+    };
+    flag_at(s, c.kind, off, at)
 }
 
-// The next turn from turn i on at which an offset is judged, or the last: in kind 2 the bytes between are not in the table.
+// The next turn from turn i on at which an offset is judged, or the last: of kind ByByte the bytes between are not in the table.
 pub fn next_turn(s: &[u8], c: Children, i: usize) -> usize
     requires { Within (length s.now) (table_in c) × (i < c.turns) }
     ensures { Skips s.now (table_in c) i result }
 {
-    if c.kind != 2 {
-        return i;
+    if c.kind == NodeKind::ByByte {
+        tables::least_byte(s, c.base, c.count, i)
+    } else {
+        i
     }
-    tables::least_byte(s, c.base, c.count, i)
 }
 
-// The end of the children, so many met: in kind 1 they must be enough.
-pub fn all_met(c: Children, met: usize, at: usize, nodes: usize, entries: usize) -> Past
-    ensures { step_of result ≡ all_met (table_in c) at met nodes entries }
+// The end of the children, so many met: of kind Dense they must be enough.
+pub fn all_met(c: Children, met: usize, past: Past) -> Result<Past, Refusal>
+    ensures { step_of result ≡ all_met (table_in c) past.at met past.nodes past.entries }
 {
-    if c.kind == 1 {
-        if !kinds::fits_kind(1, met) {
-            return refuse(definitions::IMAGE_BROKEN);
-        }
+    if c.kind == NodeKind::Dense && !kinds::fits_kind(NodeKind::Dense, met) {
+        return Err(Refusal::ImageBroken);
     }
-    Past {
-        at,
-        refusal: 0,
-        nodes,
-        entries,
-    }
+    Ok(past)
 }
 
 // Whether the node at an index is bare: of kind 3, with neither prefix nor chunk.
@@ -298,13 +230,7 @@ pub fn is_bare(s: &[u8], at: usize) -> bool
     let kind = s[at];
     let prefixes = words::get64(s, at + 1);
     let chunks = words::get64(s, at + 9);
-    if prefixes != chunks {
-        return false;
-    }
-    if chunks != (kind / 4) as u64 {
-        return false;
-    }
-    kind == 3
+    prefixes == chunks && chunks == (kind / 4) as u64 && kind == 3
 }
 
 // Whether it has no suffix either, and one child.
@@ -317,10 +243,7 @@ pub fn is_single_without_lists(s: &[u8], at: usize) -> bool
     }
     let suffixes = words::get64(s, at + 17);
     let children = words::get64(s, at + 25);
-    if suffixes != children / 2 {
-        return false;
-    }
-    children == 1
+    suffixes == children / 2 && children == 1
 }
 
 // The bytes of such a node up to its child, where that is due.
@@ -331,17 +254,11 @@ fn is_single_before_child(s: &[u8], at: usize) -> bool
     requires { at ≤ length s.now }
     ensures { result ≡ true → SingleBeforeChild s.now at }
 {
-    if s.len() - at < SINGLE_SIZE {
-        return false;
-    }
-    if !is_single_without_lists(s, at) {
+    if s.len() - at < SINGLE_SIZE || !is_single_without_lists(s, at) {
         return false;
     }
     let flag = at + 42;
-    if words::get64(s, at + 34) != flag as u64 {
-        return false;
-    }
-    s[flag] == 1
+    words::get64(s, at + 34) == flag as u64 && s[flag] == 1
 }
 
 // How many such nodes stand below each other from an index on, at most so many.
@@ -349,12 +266,10 @@ pub fn singles_below(s: &[u8], at: usize, most: usize) -> usize
     requires { at ≤ length s.now }
     ensures { SinglesBelow s.now at most result }
 {
-    let mut k = 0;
-    while k < most {
+    for k in 0..most {
         if !is_single_before_child(s, at + SINGLE_SIZE * k) {
             return k;
         }
-        k += 1;
     }
-    k
+    most
 }

@@ -109,19 +109,20 @@ one_range k n e = go (fits_view k n e)
     go (two x a b) = (omega arith, x ∙ sym (kind_two n a b))
     go (one x a b) = (b, x ∙ sym (kind_one n a b))
 
+-- the number of a kind is 1, 2 or 3
+pub number_range : (k : NodeKind) → (0 < kind_number k) × (kind_number k ≤ 3)
+number_range K.Dense = (omega arith, omega arith)
+number_range K.ByByte = (omega arith, omega arith)
+number_range K.ByArrival = (omega arith, omega arith)
+
 -- a kind may have a count exactly if it is that count's kind
 pub fits_eqb : (k : NodeKind) (n : ℕ) → eqb (kind_of n) (kind_number k) ≡ fits (kind_number k) n
 fits_eqb k n = go (eqb (kind_of n) (kind_number k)) refl (fits (kind_number k) n) refl (leb n 256) refl
   where
-    some : (k : NodeKind) → 0 < kind_number k
-    some K.Dense = omega arith
-    some K.ByByte = omega arith
-    some K.ByArrival = omega arith
-
     go : (p : Bool) → eqb (kind_of n) (kind_number k) ≡ p → (q : Bool) → fits (kind_number k) n ≡ q → (r : Bool) → leb n 256 ≡ r → p ≡ q
     go true x true y r z = refl
     go true x false y true z = sym (subst (λ m. fits m n ≡ true) (eqb-true (kind_of n) (kind_number k) x) (some_range n (leb-true n 256 z))) ∙ y
-    go true x false y false z = absurd (omega (arith, some k, eqb-true (kind_of n) (kind_number k) x, kind_none n (leb-false n 256 z)))
+    go true x false y false z = absurd (omega (arith, number_range k, eqb-true (kind_of n) (kind_number k) x, kind_none n (leb-false n 256 z)))
     go false x true y r z = absurd (eqb-false (kind_of n) (kind_number k) x (sym (one_range (kind_number k) n y).1))
     go false x false y r z = refl
 
@@ -138,19 +139,28 @@ has_kind n None e h = absurd (go (fits_view (kind_of n) n (some_range n h)))
 -- ── the table as the code reads it ──
 
 -- the comparison of kinds is that of their numbers
+eq_kind : (j k : NodeKind) → NodeKindPartialEq.TheImpl.eq-value.it j k ≡ eqb (kind_number j) (kind_number k)
+eq_kind K.Dense K.Dense = refl
+eq_kind K.Dense K.ByByte = refl
+eq_kind K.Dense K.ByArrival = refl
+eq_kind K.ByByte K.Dense = refl
+eq_kind K.ByByte K.ByByte = refl
+eq_kind K.ByByte K.ByArrival = refl
+eq_kind K.ByArrival K.Dense = refl
+eq_kind K.ByArrival K.ByByte = refl
+eq_kind K.ByArrival K.ByArrival = refl
+
+pub is_kind : (j k : NodeKind) → true ≡ NodeKindPartialEq.TheImpl.eq-value.it j k → kind_number j ≡ kind_number k
+is_kind j k e = eqb-true (kind_number j) (kind_number k) (sym (e ∙ eq_kind j k))
+
+pub is_other_kind : (j k : NodeKind) → false ≡ NodeKindPartialEq.TheImpl.eq-value.it j k → kind_number j ≡ kind_number k → ⊥
+is_other_kind j k e = eqb-false (kind_number j) (kind_number k) (sym (e ∙ eq_kind j k))
+
 pub same_kind : (o : Option NodeKind) (k : NodeKind) → option_eq NodeKindPartialEq.TheImpl.eq-value.it o (Some k) ≡ eqb (kind_in o) (kind_number k)
 same_kind None K.Dense = refl
 same_kind None K.ByByte = refl
 same_kind None K.ByArrival = refl
-same_kind (Some K.Dense) K.Dense = refl
-same_kind (Some K.Dense) K.ByByte = refl
-same_kind (Some K.Dense) K.ByArrival = refl
-same_kind (Some K.ByByte) K.Dense = refl
-same_kind (Some K.ByByte) K.ByByte = refl
-same_kind (Some K.ByByte) K.ByArrival = refl
-same_kind (Some K.ByArrival) K.Dense = refl
-same_kind (Some K.ByArrival) K.ByByte = refl
-same_kind (Some K.ByArrival) K.ByArrival = refl
+same_kind (Some j) k = eq_kind j k
 
 -- the first range that has a count has its kind
 pub first_kind : (n : ℕ) (o : Option KindRange) → o ≡ find (λ r. has r n) kinds → kind_in (option_map (λ (r : KindRange). r.kind) o) ≡ kind_of n

@@ -1,31 +1,35 @@
 -- `fields::open_table` meets its contract. Assumes nothing.
-use Prim.Native.Nat.{ℕ}
 use native.Mathlib.Omega.{arith}
 use mathlib.Core.Path.{◌∙◌, ap, refl, sym}
-use Rattle.fields.proofs.AnswerLaws.{table_right, table_with}
+use Rattle.definitions.specs.Refusals.{cause_of}
+use Rattle.definitions.proofs.Checks.{number_some}
+use Rattle.kinds.specs.Kinds.{kind_number}
+use Rattle.kinds.proofs.KindRule.{is_other_kind}
+use Rattle.kinds.specs.declared.NodeKind.TheVariants as K
 use Rattle.image_format.proofs.Tables.{open_count, open_cut, open_fault, open_ready, range_most, table_turns}
-use Rattle.image_format.specs.Reading.{open_table}
+use Rattle.fields.specs.Answers.{table_of}
+use Rattle.fields.proofs.Passed.{passed}
 use Rattle.fields.proofs.open_table.Goals as goal
 
-pub returns-then-kind-eq1 : goal.returns-then-kind-eq1
-returns-then-kind-eq1 c = c.open_dense.ensures ∙ ap (λ (k : ℕ). open_table c.args.s.now k c.args.at) (sym c.if-kind-eq1.true)
-
 pub returns-then-s-at-lt8 : goal.returns-then-s-at-lt8
-returns-then-s-at-lt8 c = table_with _ 13 c.refuse_children.ensures (omega arith) ∙ open_cut _ _ _ c.if-kind-eq1.false (omega arith)
+returns-then-s-at-lt8 c = open_cut _ _ _ (is_other_kind c.args.kind K.Dense c.if-eq.ensures) (omega arith)
 
 pub returns-then-not-fits_kind : goal.returns-then-not-fits_kind
-returns-then-not-fits_kind c = table_with _ 15 c.refuse_children-then-not-fits_kind.ensures (omega arith) ∙ open_count _ _ _ c.if-kind-eq1.false _ c.get64-n.ensures (omega arith) (sym c.fits_kind.ensures ∙ c.if-not-fits_kind.true)
+returns-then-not-fits_kind c = open_count _ _ _ (is_other_kind c.args.kind K.Dense c.if-eq.ensures) _ c.get64-count.ensures (omega arith) (sym c.if-not-fits_kind.ensures)
 
-pub returns-then-fault-ne0 : goal.returns-then-fault-ne0
-returns-then-fault-ne0 c = table_with _ _ c.refuse_children-then-fault-ne0.ensures c.if-fault-ne0.true ∙ open_fault _ _ _ c.if-kind-eq1.false _ _ c.get64-n.ensures (omega arith) (sym c.fits_kind.ensures ∙ c.if-not-fits_kind.false) c.table_fault-fault.ensures c.if-fault-ne0.true
+pub returns-in_err-table_fault : goal.returns-in_err-table_fault
+returns-in_err-table_fault c =
+    ap table_of (passed _ _ c.from_residual.ensures.1) ∙
+    open_fault _ _ _ (is_other_kind c.args.kind K.Dense c.if-eq.ensures) _ _ c.get64-count.ensures (omega arith) (sym c.if-not-fits_kind.ensures) c.in_err-table_fault.ensures
+    (number_some (cause_of c.in_err-table_fault.field-0.0))
 
 pub overflow_mul-result : goal.overflow_mul-result
-overflow_mul-result c = omega (arith, range_most c.args.kind c.get64-n.result c.if-kind-eq1.false (sym c.fits_kind.ensures ∙ c.if-not-fits_kind.false))
+overflow_mul-result c = omega (arith, range_most (kind_number c.args.kind) c.get64-count.result (is_other_kind c.args.kind K.Dense c.if-eq.ensures) (sym c.if-not-fits_kind.ensures))
 
 pub overflow_add-result : goal.overflow_add-result
-overflow_add-result c = omega (arith, range_most c.args.kind c.get64-n.result c.if-kind-eq1.false (sym c.fits_kind.ensures ∙ c.if-not-fits_kind.false))
+overflow_add-result c = omega (arith, range_most (kind_number c.args.kind) c.get64-count.result (is_other_kind c.args.kind K.Dense c.if-eq.ensures) (sym c.if-not-fits_kind.ensures))
 
 pub returns : goal.returns
 returns c =
-    table_right _ refl ∙ table_turns _ _ _ _ c.turns_of.ensures ∙
-    open_ready _ _ _ c.if-kind-eq1.false _ _ c.get64-n.ensures (omega arith) (sym c.fits_kind.ensures ∙ c.if-not-fits_kind.false) c.table_fault-fault.ensures c.if-fault-ne0.false
+    table_turns _ _ _ _ c.turns_of.ensures ∙
+    open_ready _ _ _ (is_other_kind c.args.kind K.Dense c.if-eq.ensures) _ _ c.get64-count.ensures (omega arith) (sym c.if-not-fits_kind.ensures) c.in_ok-table_fault.ensures refl

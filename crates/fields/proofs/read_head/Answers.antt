@@ -1,71 +1,70 @@
 -- `fields::read_head` meets its contract. Assumes nothing.
-use Prim.Native.Nat.{◌+◌}
+use Prim.Native.Nat.{ℕ, ◌+◌, ◌<◌}
 use native.Mathlib.Omega.{arith}
-use mathlib.Core.Path.{◌∙◌, ◌≡◌, refl, sym}
-use Rattle.fields.proofs.AnswerLaws.{head_right, head_with, list_refused, list_right}
+use mathlib.Core.List.{List}
+use mathlib.Core.Logic.{◌⊎◌, inl, inr}
+use mathlib.Core.Path.{◌∙◌, ◌≡◌, ap}
+use lib.ListN.{get_or, length}
+use Rattle.std.specs.Prelude.{Result, Err}
+use Rattle.std.specs.Result.{IsErrAnd}
+use Rattle.definitions.specs.declared.refusal.Refusal.{Refusal}
+use Rattle.definitions.specs.declared.refusal.Refusal.TheVariants.{CutShort}
+use Rattle.kinds.specs.declared.NodeKind.{NodeKind}
+use Rattle.kinds.specs.Kinds.{kind_number}
+use Rattle.kinds.proofs.KindRule.{number_range}
 use Rattle.image_format.proofs.Heads.{head_end, head_lists, head_over, head_zero, list_bound, lists_cut, lists_cut_2, lists_cut_3, lists_ready}
-use Rattle.image_format.specs.Reading.{past, read_list}
+use Rattle.image_format.specs.Reading.{no_head, read_head, read_lists}
+use Rattle.fields.specs.declared.Head.{Head}
+use Rattle.fields.specs.Answers.{head_of}
+use Rattle.fields.proofs.Passed.{passed}
 use Rattle.fields.proofs.read_head.Goals as goal
 
+module _ (s : List ℕ) (at : ℕ) (h : at < length s) where
+  unknown : (get_or s at 0 ≡ 0) ⊎ (3 < get_or s at 0) → no_head 14 ≡ read_head s at
+  unknown (inl e) = head_zero s at h e
+  unknown (inr e) = head_over s at h e
+
+  known : (k : NodeKind) → kind_number k ≡ get_or s at 0 → read_lists s (kind_number k) (at + 1) ≡ read_head s at
+  known k e = ap (λ (n : ℕ). read_lists s n (at + 1)) e ∙ head_lists s at h (omega (arith, number_range k)) (omega (arith, number_range k))
+
+-- what is passed on of a list that is cut short
+cut_short : (r : Result Head Refusal) (e : Refusal) → IsErrAnd r (λ x. x ≡ e) → e ≡ CutShort → head_of r ≡ no_head 13
+cut_short r e h k = ap head_of (passed r e h ∙ ap Err k)
+
 pub returns-then-at-s : goal.returns-then-at-s
-returns-then-at-s c = head_with _ 13 c.refuse_head.ensures (omega arith) ∙ head_end _ _ (omega arith)
+returns-then-at-s c = head_end _ _ (omega arith)
 
-pub returns-then-kind-eq0 : goal.returns-then-kind-eq0
-returns-then-kind-eq0 c = head_with _ 14 c.refuse_head-then-kind-eq0.ensures (omega arith) ∙ head_zero _ _ (omega arith) c.if-kind-eq0.true
+pub returns-in_default : goal.returns-in_default
+returns-in_default c = unknown _ _ (omega arith) c.in_default.ensures
 
-pub returns-then-kind-gt3 : goal.returns-then-kind-gt3
-returns-then-kind-gt3 c = head_with _ 14 c.refuse_head-then-kind-gt3.ensures (omega arith) ∙ head_over _ _ (omega arith) c.if-kind-gt3.true
+pub read_list-requires-2 : goal.read_list-requires-2
+read_list-requires-2 c = (list_bound _ _ _ _ c.in_ok-prefixes.ensures.list).1
 
-pub returns-then-a-ne0 : goal.returns-then-a-ne0
-returns-then-a-ne0 c =
-    let lists = head_lists c.args.s.now c.args.at (omega arith) c.if-kind-eq0.false c.if-kind-gt3.false in
-    head_with _ 13 c.refuse_head-then-a-ne0.ensures (omega arith) ∙ lists_cut _ _ _ (sym (list_refused _ c.if-a-ne0.true) ∙ c.read_list-a.ensures) ∙ lists
-
-pub read_list-b-requires : goal.read_list-b-requires
-read_list-b-requires c =
-    let first : past c.read_list-a.result.at c.read_list-a.result.entries ≡ read_list c.args.s.now (c.args.at + 1) = sym (list_right _ c.if-a-ne0.false) ∙ c.read_list-a.ensures in
-    (list_bound _ _ _ _ first).1
-
-pub returns-then-b-ne0 : goal.returns-then-b-ne0
-returns-then-b-ne0 c =
-    let lists = head_lists c.args.s.now c.args.at (omega arith) c.if-kind-eq0.false c.if-kind-gt3.false in
-    let first : past c.read_list-a.result.at c.read_list-a.result.entries ≡ read_list c.args.s.now (c.args.at + 1) = sym (list_right _ c.if-a-ne0.false) ∙ c.read_list-a.ensures in
-    head_with _ 13 c.refuse_head-then-b-ne0.ensures (omega arith) ∙ lists_cut_2 _ _ _ _ _ first (sym (list_refused _ c.if-b-ne0.true) ∙ c.read_list-b.ensures) ∙ lists
-
-pub read_list-c-requires : goal.read_list-c-requires
-read_list-c-requires c =
-    let second : past c.read_list-b.result.at c.read_list-b.result.entries ≡ read_list c.args.s.now c.read_list-a.result.at = sym (list_right _ c.if-b-ne0.false) ∙ c.read_list-b.ensures in
-    (list_bound _ _ _ _ second).1
-
-pub returns-then-c-ne0 : goal.returns-then-c-ne0
-returns-then-c-ne0 c =
-    let lists = head_lists c.args.s.now c.args.at (omega arith) c.if-kind-eq0.false c.if-kind-gt3.false in
-    let first : past c.read_list-a.result.at c.read_list-a.result.entries ≡ read_list c.args.s.now (c.args.at + 1) = sym (list_right _ c.if-a-ne0.false) ∙ c.read_list-a.ensures in
-    let second : past c.read_list-b.result.at c.read_list-b.result.entries ≡ read_list c.args.s.now c.read_list-a.result.at = sym (list_right _ c.if-b-ne0.false) ∙ c.read_list-b.ensures in
-    head_with _ 13 c.refuse_head-then-c-ne0.ensures (omega arith) ∙ lists_cut_3 _ _ _ _ _ _ _ first second (sym (list_refused _ c.if-c-ne0.true) ∙ c.read_list-c.ensures) ∙ lists
+pub read_list-requires-3 : goal.read_list-requires-3
+read_list-requires-3 c = (list_bound _ _ _ _ c.in_ok-chunks.ensures.list).1
 
 pub overflow_add-result : goal.overflow_add-result
-overflow_add-result c =
-    let first : past c.read_list-a.result.at c.read_list-a.result.entries ≡ read_list c.args.s.now (c.args.at + 1) = sym (list_right _ c.if-a-ne0.false) ∙ c.read_list-a.ensures in
-    let second : past c.read_list-b.result.at c.read_list-b.result.entries ≡ read_list c.args.s.now c.read_list-a.result.at = sym (list_right _ c.if-b-ne0.false) ∙ c.read_list-b.ensures in
-    let x = list_bound _ _ _ _ first in
-    let y = list_bound _ _ _ _ second in
-    omega (arith, x, y)
+overflow_add-result c = omega (arith, list_bound _ _ _ _ c.in_ok-prefixes.ensures.list, list_bound _ _ _ _ c.in_ok-chunks.ensures.list)
 
 pub overflow_add-result-2 : goal.overflow_add-result-2
-overflow_add-result-2 c =
-    let first : past c.read_list-a.result.at c.read_list-a.result.entries ≡ read_list c.args.s.now (c.args.at + 1) = sym (list_right _ c.if-a-ne0.false) ∙ c.read_list-a.ensures in
-    let second : past c.read_list-b.result.at c.read_list-b.result.entries ≡ read_list c.args.s.now c.read_list-a.result.at = sym (list_right _ c.if-b-ne0.false) ∙ c.read_list-b.ensures in
-    let third : past c.read_list-c.result.at c.read_list-c.result.entries ≡ read_list c.args.s.now c.read_list-b.result.at = sym (list_right _ c.if-c-ne0.false) ∙ c.read_list-c.ensures in
-    let x = list_bound _ _ _ _ first in
-    let y = list_bound _ _ _ _ second in
-    let z = list_bound _ _ _ _ third in
-    omega (arith, x, y, z)
+overflow_add-result-2 c = omega (arith, list_bound _ _ _ _ c.in_ok-prefixes.ensures.list, list_bound _ _ _ _ c.in_ok-chunks.ensures.list, list_bound _ _ _ _ c.in_ok-suffixes.ensures.list)
+
+pub returns-in_err-prefixes : goal.returns-in_err-prefixes
+returns-in_err-prefixes c =
+    cut_short _ _ c.from_residual.ensures.1 c.in_err-prefixes.ensures.cut_short ∙
+    lists_cut _ _ _ c.in_err-prefixes.ensures.list ∙ known _ _ (omega arith) _ c.in-Ok.ensures
+
+pub returns-in_err-chunks : goal.returns-in_err-chunks
+returns-in_err-chunks c =
+    cut_short _ _ c.from_residual-in_err-chunks.ensures.1 c.in_err-chunks.ensures.cut_short ∙
+    lists_cut_2 _ _ _ _ _ c.in_ok-prefixes.ensures.list c.in_err-chunks.ensures.list ∙ known _ _ (omega arith) _ c.in-Ok.ensures
+
+pub returns-in_err-suffixes : goal.returns-in_err-suffixes
+returns-in_err-suffixes c =
+    cut_short _ _ c.from_residual-in_err-suffixes.ensures.1 c.in_err-suffixes.ensures.cut_short ∙
+    lists_cut_3 _ _ _ _ _ _ _ c.in_ok-prefixes.ensures.list c.in_ok-chunks.ensures.list c.in_err-suffixes.ensures.list ∙ known _ _ (omega arith) _ c.in-Ok.ensures
 
 pub returns : goal.returns
 returns c =
-    let lists = head_lists c.args.s.now c.args.at (omega arith) c.if-kind-eq0.false c.if-kind-gt3.false in
-    let first : past c.read_list-a.result.at c.read_list-a.result.entries ≡ read_list c.args.s.now (c.args.at + 1) = sym (list_right _ c.if-a-ne0.false) ∙ c.read_list-a.ensures in
-    let second : past c.read_list-b.result.at c.read_list-b.result.entries ≡ read_list c.args.s.now c.read_list-a.result.at = sym (list_right _ c.if-b-ne0.false) ∙ c.read_list-b.ensures in
-    let third : past c.read_list-c.result.at c.read_list-c.result.entries ≡ read_list c.args.s.now c.read_list-b.result.at = sym (list_right _ c.if-c-ne0.false) ∙ c.read_list-c.ensures in
-    head_right _ refl ∙ lists_ready _ _ _ _ _ _ _ _ _ first second third ∙ lists
+    lists_ready _ _ _ _ _ _ _ _ _ c.in_ok-prefixes.ensures.list c.in_ok-chunks.ensures.list c.in_ok-suffixes.ensures.list ∙
+    known _ _ (omega arith) _ c.in-Ok.ensures

@@ -1,10 +1,6 @@
 -- `fields::singles_below` meets its contract. Assumes nothing.
-use Prim.Native.Nat.{◌-◌}
 use Rattle.fields.specs.Singles.{SinglesBelow}
 use Rattle.fields.proofs.singles_below.Given as goal
 
 abbrev pub invariant-loop-k : goal.invariant-loop-k
 invariant-loop-k l = SinglesBelow l.s l.at l.most l.k
-
-abbrev pub decreases-loop-k : goal.decreases-loop-k
-decreases-loop-k l = l.most - l.k

@@ -14,8 +14,8 @@ decreases-read_table l = 2 * l.left + 1
 
 abbrev pub invariant-read_table-loop-i : goal.invariant-read_table-loop-i
 invariant-read_table-loop-i l =
-    (l.i ≤ l.c.turns) × (l.at ≤ length l.s) × (l.met + l.nodes + l.entries ≤ l.at) ×
-    (read_turns l.s (read_node l.s l.left) (table_in l.c) (l.c.turns - l.i) l.i l.at l.met l.nodes l.entries ≡ read_table l.s (read_node l.s l.left) (table_in l.c))
+    (l.i ≤ l.c.turns) × (l.past.at ≤ length l.s) × (l.met + l.past.nodes + l.past.entries ≤ l.past.at) ×
+    (read_turns l.s (read_node l.s l.left) (table_in l.c) (l.c.turns - l.i) l.i l.past.at l.met l.past.nodes l.past.entries ≡ read_table l.s (read_node l.s l.left) (table_in l.c))
 
 abbrev pub decreases-read_table-loop-i : goal.decreases-read_table-loop-i
 decreases-read_table-loop-i l = l.c.turns - l.i

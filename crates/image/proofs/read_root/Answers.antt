@@ -1,12 +1,10 @@
 -- `image::read_root` meets its contract. Assumes nothing.
-use native.Mathlib.Omega.{arith}
 use mathlib.Core.Path.{◌∙◌}
-use Rattle.fields.proofs.AnswerLaws.{step_with}
 use Rattle.image_format.proofs.Roots.{root_cut, root_empty, root_node}
 use Rattle.image.proofs.read_root.Goals as goal
 
 pub returns-then-s-eq0 : goal.returns-then-s-eq0
-returns-then-s-eq0 c = step_with _ 13 c.refuse.ensures (omega arith) ∙ root_cut _ c.if-s-eq0.true
+returns-then-s-eq0 c = root_cut _ c.if-s-eq0.true
 
 pub returns-then-s-eq0-2 : goal.returns-then-s-eq0-2
 returns-then-s-eq0-2 c = c.read_empty.ensures ∙ root_empty _ c.if-s-eq0.false c.if-s-eq0-2.true
