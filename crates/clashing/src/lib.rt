@@ -19,16 +19,14 @@ fn reaches(mem: &[u8], v: Line, g: usize, q: usize, x: SpacetimeLocation) -> boo
     requires { Inside mem.now v × OneAddress mem.now v g q (plain x) }
     ensures { result ≡ strikes mem.now v (q - g) g (plain x) }
 {
-    let mut k = q;
-    while g < k {
-        let y = lined_locations::location(mem, v, k - 1);
-        if y.destroyed_at.0 <= x.created_at.0 {
+    for k in (g..q).rev() {
+        let y = lined_locations::location(mem, v, k);
+        if y.destroyed_at <= x.created_at {
             return false;
         }
-        if x.address.0 < y.address.0 + certificate::piece_size(mem, v, k - 1) {
+        if x.address.0 < y.address.0 + certificate::piece_size(mem, v, k) {
             return true;
         }
-        k -= 1;
     }
     false
 }
@@ -56,10 +54,7 @@ fn strikes_below(mem: &[u8], v: Line, from: usize, upto: usize, x: SpacetimeLoca
 fn lowest(a: u64) -> u64
     ensures { result ≡ a - 15 }
 {
-    if a < PIECE_SIZE as u64 {
-        return 0;
-    }
-    a - (PIECE_SIZE as u64 - 1)
+    a.saturating_sub(PIECE_SIZE as u64 - 1)
 }
 
 // Whether a block of n bytes at x conflicts with one of the pieces that h counts, of which so many have a byte.

@@ -18,9 +18,7 @@ fn shift(mem: &mut [u8], base: usize, from: usize, upto: usize, by: usize)
     requires { (from ≤ upto) × (base + 16 * (upto + by) ≤ length mem.old) }
     ensures { mem.new ≡ sets mem.old (base + 16 * (from + by)) (take (16 * (upto - from)) (drop (base + 16 * from) mem.old)) }
 {
-    let mut k = upto;
-    while from < k {
-        k -= 1;
+    for k in (from..upto).rev() {
         let at = base + CERTIFIED_SIZE * k;
         let number = words::get64(mem, at);
         let end = words::get64(mem, at + 8);
@@ -45,8 +43,7 @@ pub fn enter_pieces(mem: &mut [u8], h: Header, count: usize, new: usize)
 {
     let base = certificate::certificate_at(h);
     let mut upto = count;
-    let mut j = 0;
-    while j < new {
+    for j in 0..new {
         let piece = HEADER_SIZE + LOGGED_SIZE * (h.payload + j);
         let l = location::location_at(mem, piece + 24);
         let line = Line {
@@ -59,6 +56,5 @@ pub fn enter_pieces(mem: &mut [u8], h: Header, count: usize, new: usize)
         let place = base + CERTIFIED_SIZE * (k + new - j - 1);
         put_entry(mem, place, (h.payload + j) as u64, l.destroyed_at.0);
         upto = k;
-        j += 1;
     }
 }

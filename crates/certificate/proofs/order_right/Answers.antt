@@ -3,11 +3,8 @@ use Prim.Native.Nat.{ℕ, ◌<◌}
 use native.Mathlib.Omega.{arith}
 use lib.ListN.{get_or}
 use Rattle.memory_header.specs.Answers.{header_of}
-use Rattle.certificate.proofs.Answers.{sound, rooms, log_within, entries_room, entries_wrong, within, line_wrong, inside, none_decides}
+use Rattle.certificate.proofs.Answers.{sound, log_within, entries_room, entries_wrong, within, line_wrong, inside, none_decides}
 use Rattle.certificate.proofs.order_right.Goals as goal
-
-pub certificate_at-base-requires : goal.certificate_at-base-requires
-certificate_at-base-requires c = rooms c.args.mem.now (λ j. omega (arith, c.type_inv.mem j)) (header_of c.args.h) c.requires.0 c.requires.1 c.requires.2
 
 pub filled-count-requires : goal.filled-count-requires
 filled-count-requires c =

@@ -6,15 +6,10 @@ use Rattle.ordering.proofs.Moving.{moving_start, moving_end}
 use Rattle.ordering.proofs.Turns.{Turn, turn_within, turn_lined, turn_low, turn_held, turn_on}
 use Rattle.ordering.proofs.enter_pieces.Goals as goal
 
-pub certificate_at-base-requires : goal.certificate_at-base-requires
-certificate_at-base-requires c =
-    let stored = c.requires.stored in
-    (stored.some_nodes, stored.some_entries)
-
 pub loop-j-init : goal.loop-j-init
 loop-j-init c =
     let a = c.args in
-    moving_start a.mem.now (λ j. omega (arith, c.type_inv.mem j)) (header_of a.h) a.count a.new c.requires
+    moving_start a.mem.now (λ j. omega (arith, c.slice_known-1.given j)) (header_of a.h) a.count a.new c.requires
 
 pub first_from-k-requires : goal.first_from-k-requires
 first_from-k-requires c =
@@ -136,4 +131,4 @@ loop-j-preserved c =
 pub returns : goal.returns
 returns c =
     let a = c.args in
-    moving_end a.mem.now (λ j. omega (arith, c.slice_known-1.given j)) (header_of a.h) a.count a.new c.requires c.loop-j.mem c.loop-j.upto c.loop-j.j c.loop-j.invariant (omega (arith, c.loop-j-test.false, c.loop-j.invariant.few))
+    moving_end a.mem.now (λ j. omega (arith, c.slice_known-1.given j)) (header_of a.h) a.count a.new c.requires c.loop-j.mem c.loop-j.upto c.loop-j.j c.loop-j.invariant (omega (arith, c.loop-j.invariant.few))
