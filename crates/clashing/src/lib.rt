@@ -21,7 +21,7 @@ fn reaches(mem: &[u8], v: Line, g: usize, q: usize, x: SpacetimeLocation) -> boo
 {
     for k in (g..q).rev() {
         let y = lined_locations::location(mem, v, k);
-        if y.destroyed_at <= x.created_at {
+        if y.destroyed_at.0 <= x.created_at.0 {
             return false;
         }
         if x.address.0 < y.address.0 + certificate::piece_size(mem, v, k) {

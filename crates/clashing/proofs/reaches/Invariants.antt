@@ -1,12 +1,8 @@
 -- `clashing::reaches` meets its contract: what is asked of all entries is asked of those before k. Assumes nothing.
-use Prim.Native.Nat.{◌-◌, ◌≤◌}
-use mathlib.Core.Path.{◌≡◌}
+use Rattle.std.proofs.Common.{◌≡◌, ◌-◌, ◌≤◌}
 use Rattle.location.specs.Plain.{plain}
 use Rattle.clashing.specs.Strikes.{strikes}
 use Rattle.clashing.proofs.reaches.Given as goal
 
 abbrev pub invariant-loop-k : goal.invariant-loop-k
-invariant-loop-k l = (l.g ≤ l.k) × (l.k ≤ l.q) × (strikes l.mem l.v (l.k - l.g) l.g (plain l.x) ≡ strikes l.mem l.v (l.q - l.g) l.g (plain l.x))
-
-abbrev pub decreases-loop-k : goal.decreases-loop-k
-decreases-loop-k l = l.k
+invariant-loop-k l = (l.g ≤ l.k) × (strikes l.mem l.v (l.k - l.g) l.g (plain l.x) ≡ strikes l.mem l.v (l.q - l.g) l.g (plain l.x))
