@@ -18,7 +18,7 @@ fn sort_tails(mem: &mut [u8], pieces: usize, work: usize) -> usize
     ensures { TailsSorted mem.old mem.new pieces work result }
 {
     let n = tail_records::expand(mem, pieces, work);
-    sort::sort(mem, work, 7, n);
+    sort::sort::<7>(mem, work, n);
     n
 }
 

@@ -14,7 +14,7 @@ use Rattle.words.proofs.Holding.{holds_append, holds_ext, holds_sets}
 use Rattle.records.specs.Records.{records, records_bytes, sorted, drop_repeats, drop_after, Ordered}
 use Rattle.records.proofs.Bytes.{Bytes, length_records}
 use Rattle.records.proofs.Lists.{length_drop_repeats, sorted_fixed}
-use Rattle.records.proofs.Compare.{is_ordered_lem, sorted_end}
+use Rattle.records.proofs.Compare.{is_ordered_lem, ordered_few}
 use Rattle.sort.proofs.Finish.{sort_ready}
 use Rattle.sort.proofs.Results.{length_sorted_bytes, length_drop_repeats_bytes, records_after_sort, records_after_drop}
 use Rattle.definitions.specs.Location.{Location, normal, locations_in, locations_bytes}
@@ -102,7 +102,7 @@ few_records (suc (suc n)) s p h = absurd (omega arith)
 
 pub closed_few_places : (s s₃ : List ℕ) (at n : ℕ) → Bytes s → at + 8 + 24 * n ≤ length s → n ≤ 1 → s₃ ≡ set_le64 s at n → Closed s s₃ at n (locations_in s n (at + 8)) n
 closed_few_places s s₃ at n b fits few e =
-    let o : Ordered (records 3 n s (at + 8)) = is_ordered_lem (records 3 n s (at + 8)) (sym (sorted_end 3 n s (at + 8) few)) in
+    let o : Ordered (records 3 n s (at + 8)) = is_ordered_lem (records 3 n s (at + 8)) (ordered_few 3 n s (at + 8) few) in
     let e₁ = sort_ready 3 n s (at + 8) b (omega arith) o in
     let d = few_records n s (at + 8) few in
     let e₂ = e₁ ∙ ap (λ (rs : List (List ℕ)). sets s (at + 8) (records_bytes rs)) (sorted_fixed (records 3 n s (at + 8)) o ∙ sym d) in

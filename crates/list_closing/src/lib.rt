@@ -11,8 +11,8 @@ fn close_many(mem: &mut [u8], at: usize, n: usize) -> usize
     ensures { Closed mem.old mem.new at n (locations_in mem.old n (at + 8)) result }
 {
     let from = at + 8;
-    sort::sort(mem, from, 3, n);
-    let kept = records::drop_repeats(mem, from, 3, n);
+    sort::sort::<3>(mem, from, n);
+    let kept = records::drop_repeats::<3>(mem, from, n);
     words::put64(mem, at, kept as u64);
     kept
 }

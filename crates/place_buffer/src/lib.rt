@@ -25,8 +25,8 @@ pub fn tidy(scratch: &mut [u8], base: usize, count: usize) -> usize
 {
     let at = base * LOCATION_SIZE;
     let n = count - base;
-    sort::sort(scratch, at, 3, n);
-    let kept = records::drop_repeats(scratch, at, 3, n);
+    sort::sort::<3>(scratch, at, n);
+    let kept = records::drop_repeats::<3>(scratch, at, n);
     base + kept
 }
 
