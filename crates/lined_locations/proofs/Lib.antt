@@ -1,6 +1,5 @@
--- Where locations stand, what tests decide, and the steps of the loops on entries by number. Assumes nothing.
+-- Where locations stand, and the steps of the loops and of the search on entries by number. Assumes nothing.
 pub mod Places
-pub mod Deciding
 pub mod Neighbours
-pub mod Narrowing
+pub mod Search
 pub mod Addresses

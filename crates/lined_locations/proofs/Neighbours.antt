@@ -1,5 +1,5 @@
 -- Whether each is ahead of the next, neighbour by neighbour. Assumes nothing.
-use Prim.Native.Nat.{ℕ, zero, suc, ◌+◌, ◌-◌, ◌≤◌, ◌<◌, max}
+use Prim.Native.Nat.{ℕ, zero, suc, ◌+◌, ◌-◌, ◌≤◌, ◌<◌}
 use native.Mathlib.Nat.{not-suc-le-zero}
 use native.Mathlib.Omega.{arith}
 use mathlib.Core.Path.{◌≡◌, refl, sym, ap, subst, ◌∙◌}
@@ -52,6 +52,3 @@ module _ (at : ℕ → Location) where
         is_not : (u : Bool) → not u ≡ true → u ≡ false
         is_not true g = sym g
         is_not false g = refl
-
-  pub line_done : (n i : ℕ) → 1 ≤ i → n ≤ i → i ≤ max 1 n → true ≡ in_line at (i - 1) → true ≡ in_line at (n - 1)
-  line_done n i h k l e = let p : i - 1 ≡ n - 1 = omega arith in e ∙ ap (in_line at) p

@@ -16,12 +16,21 @@ pub const CERTIFIED_SIZE: usize = 16;
 // The location of a piece in the log stands behind its length and its bytes.
 const PIECE_LOCATION: usize = 24;
 
-// Where they stand: from index base on, 24 bytes each; or in the log, by the numbers of the certificate from index base on.
+// How locations in line stand in memory.
+#[derive(Clone, Copy, Debug, PartialEq, Eq)]
+pub enum LineKind {
+    // One behind the other, 24 bytes each.
+    Row,
+    // In the log, by the numbers of a certificate.
+    Logged,
+}
+
+// The row begins at index base, or the certificate does.
 #[derive(Clone, Copy)]
 pub struct Line {
     pub base: usize,
     pub count: usize,
-    pub logged: bool,
+    pub kind: LineKind,
 }
 
 // Where location i stands.
@@ -29,11 +38,13 @@ fn place(s: &[u8], v: Line, i: usize) -> usize
     requires { Within s.now v × (i < v.count) }
     ensures { result ≡ place_of s.now v i }
 {
-    if v.logged {
-        let number = words::get64(s, v.base + CERTIFIED_SIZE * i) as usize;
-        return HEADER_SIZE + LOGGED_SIZE * number + PIECE_LOCATION;
+    match v.kind {
+        LineKind::Row => v.base + LOCATION_SIZE * i,
+        LineKind::Logged => {
+            let number = words::get64(s, v.base + CERTIFIED_SIZE * i) as usize;
+            HEADER_SIZE + LOGGED_SIZE * number + PIECE_LOCATION
+        }
     }
-    v.base + LOCATION_SIZE * i
 }
 
 // Location i.
@@ -48,13 +59,7 @@ pub fn location(s: &[u8], v: Line, i: usize) -> SpacetimeLocation
 fn ahead(l: SpacetimeLocation, m: SpacetimeLocation) -> bool
     ensures { result ≡ is_ahead (plain l) (plain m) }
 {
-    if l.address.0 < m.address.0 {
-        return true;
-    }
-    if m.address.0 < l.address.0 {
-        return false;
-    }
-    l.destroyed_at.0 <= m.created_at.0
+    l.address < m.address || l.address == m.address && l.destroyed_at <= m.created_at
 }
 
 // Whether each location is ahead of the next.
@@ -62,29 +67,19 @@ pub fn in_line(s: &[u8], v: Line) -> bool
     requires { Within s.now v }
     ensures { result ≡ in_line (location_of s.now v) (v.count - 1) }
 {
-    let mut i = 1;
-    while i < v.count {
+    for i in 1..v.count {
         if !ahead(location(s, v, i - 1), location(s, v, i)) {
             return false;
         }
-        i += 1;
     }
     true
 }
 
-// Whether location i comes before address b and tick c.
-fn comes_before(s: &[u8], v: Line, i: usize, b: u64, c: u64) -> bool
-    requires { Within s.now v × (i < v.count) }
-    ensures { result ≡ earlier (location_of s.now v i) b c }
+// Whether l comes before address b and tick c.
+fn comes_before(l: SpacetimeLocation, b: u64, c: u64) -> bool
+    ensures { result ≡ earlier (plain l) b c }
 {
-    let l = location(s, v, i);
-    if l.address.0 < b {
-        return true;
-    }
-    if b < l.address.0 {
-        return false;
-    }
-    l.created_at.0 < c
+    l.address.0 < b || l.address.0 == b && l.created_at.0 < c
 }
 
 // The first location from number from on that does not come before address b and tick c.
@@ -92,17 +87,7 @@ pub fn first_from(s: &[u8], v: Line, from: usize, b: u64, c: u64) -> usize
     requires { Within s.now v × (from ≤ v.count) × Lined v.count (location_of s.now v) }
     ensures { result ≡ first_from (location_of s.now v) (v.count - from) from b c }
 {
-    let mut lo = from;
-    let mut hi = v.count;
-    while lo < hi {
-        let mid = lo + (hi - lo) / 2;
-        if comes_before(s, v, mid, b, c) {
-            lo = mid + 1;
-        } else {
-            hi = mid;
-        }
-    }
-    lo
+    halving::partition_point(from, v.count, |i| comes_before(location(s, v, i), b, c))
 }
 
 // Whether a location from number from on at an address below end lives together with x. At one address the last that is

@@ -7,7 +7,4 @@ use Rattle.lined_locations.specs.Line.{location_of}
 use Rattle.lined_locations.proofs.in_line.Given as goal
 
 abbrev pub invariant-loop-i : goal.invariant-loop-i
-invariant-loop-i l = (1 ≤ l.i) × (l.i ≤ max 1 l.v.count) × (true ≡ in_line (location_of l.s l.v) (l.i - 1))
-
-abbrev pub decreases-loop-i : goal.decreases-loop-i
-decreases-loop-i l = l.v.count - l.i
+invariant-loop-i l = (l.i ≤ max 1 l.v.count) × (true ≡ in_line (location_of l.s l.v) (l.i - 1))

@@ -3,46 +3,23 @@ use native.Mathlib.Omega.{arith}
 use Rattle.lined_locations.proofs.Places.{logged_place, plain_place, logged_within, plain_within}
 use Rattle.lined_locations.proofs.place.Goals as goal
 
-pub overflow_mul-i : goal.overflow_mul-i
-overflow_mul-i c = omega (arith, c.requires.0.numbers c.if-v.true)
-
-pub overflow_add-v : goal.overflow_add-v
-overflow_add-v c = omega (arith, c.requires.0.numbers c.if-v.true)
-
-pub get64-number-requires : goal.get64-number-requires
-get64-number-requires c = omega (arith, c.requires.0.numbers c.if-v.true)
-
 pub overflow_mul-result : goal.overflow_mul-result
-overflow_mul-result c =
-    let a = c.args in
-    omega (arith, logged_within a.s.now a.v a.i c.requires c.if-v.true, c.get64-number.ensures)
+overflow_mul-result c = omega (arith, plain_within c.args.s.now c.args.v c.args.i c.requires c.in-Row.is)
 
 pub overflow_add-result : goal.overflow_add-result
-overflow_add-result c =
-    let a = c.args in
-    omega (arith, logged_within a.s.now a.v a.i c.requires c.if-v.true, c.get64-number.ensures)
+overflow_add-result c = omega (arith, plain_within c.args.s.now c.args.v c.args.i c.requires c.in-Row.is)
 
-pub overflow_add-result-then-v : goal.overflow_add-result-then-v
-overflow_add-result-then-v c =
-    let a = c.args in
-    omega (arith, logged_within a.s.now a.v a.i c.requires c.if-v.true, c.get64-number.ensures)
+pub returns-in-Row : goal.returns-in-Row
+returns-in-Row c = omega (arith, plain_place c.args.s.now c.args.v c.args.i c.in-Row.is)
 
-pub returns-then-v : goal.returns-then-v
-returns-then-v c =
-    let a = c.args in
-    omega (arith, logged_place a.s.now a.v a.i c.if-v.true, c.get64-number.ensures)
+pub overflow_mul-result-in-Logged : goal.overflow_mul-result-in-Logged
+overflow_mul-result-in-Logged c = omega (arith, logged_within c.args.s.now c.args.v c.args.i c.requires c.in-Logged.is, c.get64-number.ensures)
 
-pub overflow_mul-result-2 : goal.overflow_mul-result-2
-overflow_mul-result-2 c =
-    let a = c.args in
-    omega (arith, plain_within a.s.now a.v a.i c.requires c.if-v.false)
+pub overflow_add-result-in-Logged : goal.overflow_add-result-in-Logged
+overflow_add-result-in-Logged c = omega (arith, logged_within c.args.s.now c.args.v c.args.i c.requires c.in-Logged.is, c.get64-number.ensures)
 
-pub overflow_add-result-2 : goal.overflow_add-result-2
-overflow_add-result-2 c =
-    let a = c.args in
-    omega (arith, plain_within a.s.now a.v a.i c.requires c.if-v.false)
+pub overflow_add-result-in-Logged-2 : goal.overflow_add-result-in-Logged-2
+overflow_add-result-in-Logged-2 c = omega (arith, logged_within c.args.s.now c.args.v c.args.i c.requires c.in-Logged.is, c.get64-number.ensures)
 
-pub returns : goal.returns
-returns c =
-    let a = c.args in
-    omega (arith, plain_place a.s.now a.v a.i c.if-v.false)
+pub returns-in-Logged : goal.returns-in-Logged
+returns-in-Logged c = omega (arith, logged_place c.args.s.now c.args.v c.args.i c.in-Logged.is, c.get64-number.ensures)
