@@ -12,7 +12,7 @@ pub fn put_finished(mem: &mut [u8], h: Header)
     requires { Closable mem.old (header_of h) }
     ensures { mem.new ≡ closed mem.old (header_of h) }
 {
-    let end = memory_header::needed(h.node_room, h.entry_room);
+    let end = h.capacity.needed();
     copying::clear(mem, HEADER_SIZE + h.payload, end);
     memory_header::put_header(mem, h);
 }
