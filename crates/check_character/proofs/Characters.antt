@@ -2,7 +2,7 @@
 use Prim.Native.Nat.{ℕ, ◌+◌, ◌-◌, ◌*◌, ◌≤◌, ◌<◌}
 use native.Mathlib.Omega.{arith}
 use native.Mathlib.Numerals.{add-one}
-use mathlib.Core.Path.{◌≡◌, sym, ap, ◌∙◌, subst}
+use mathlib.Core.Path.{◌≡◌, refl, sym, ap, ◌∙◌, subst}
 use mathlib.Core.Bool.{Bool, true, false, ◌&&◌}
 use mathlib.Core.Logic.{◌⊎◌, inl, inr}
 use mathlib.Core.List.Memᴰ.{head as here}
@@ -13,9 +13,11 @@ use lib.ListN.{length, get_or, take, drop, drop_of_length-le}
 use lib.Seq.{drop-cons}
 use lib.Dec.{ltb, eqb}
 use borrow.Author.Tests.{lt-ltb, le-ltb, le-leb, lt-leb, eq-eqb, ne_eqb}
-use Rattle.definitions.proofs.Views.{Lt, lt, lt_or_le}
+use Rattle.std.specs.Prelude.{Option, Some, None, SomeIff}
+use Rattle.std.specs.Option.{option_eq}
+use Rattle.definitions.proofs.Views.{Eq, eq, Lt, lt, lt_or_le}
 use Rattle.definitions.proofs.Order.{mem_get_or}
-use Rattle.check_character.specs.Number.{value, values, characters, weighted, sum_from, check, right}
+use Rattle.check_character.specs.Number.{value, values, characters, weighted, sum_from, check, check_of, right}
 
 -- ── the value of a character ──
 
@@ -55,6 +57,39 @@ module _ (b : ℕ) where
       let j : 65 ≤ b = omega arith in
       rw (le-leb 48 b m, lt-leb b 57 k, le-leb 65 b j, lt-leb b 90 h, ne_eqb b 42 n)
 
+  -- only digits, letters and `*` have a value below 37
+  pub value_other : (b ≡ 42 → ⊥) → (48 ≤ b → 57 < b) → (65 ≤ b → 90 < b) → 37 ≡ value b
+  value_other n d l = go (lt_or_le b 48) (lt_or_le b 65)
+    where
+      go : (b < 48) ⊎ (48 ≤ b) → (b < 65) ⊎ (65 ≤ b) → 37 ≡ value b
+      go (inl h) k = value_low n h
+      go (inr h) (inl k) = value_between n (d h) k
+      go (inr h) (inr k) = value_high n (l k)
+
+  -- the value of what is neither digit nor letter
+  pub value_above : (48 ≤ b → 57 < b) → (65 ≤ b → 90 < b) → 36 ≤ value b
+  value_above d l = go (eqb b 42) (eq b 42)
+    where
+      go : (o : Bool) → Eq o b 42 → 36 ≤ value b
+      go true e = omega (arith, value_star e)
+      go false n = omega (arith, value_other n d l)
+
+  -- without `*`, the values below 37 are those below 36
+  pub value_below : (b ≡ 42 → ⊥) → value b < 37 → value b < 36
+  value_below n h = go (lt_or_le b 48) (lt_or_le b 58) (lt_or_le b 65) (lt_or_le b 91)
+    where
+      go : (b < 48) ⊎ (48 ≤ b) → (b < 58) ⊎ (58 ≤ b) → (b < 65) ⊎ (65 ≤ b) → (b < 91) ⊎ (91 ≤ b) → value b < 36
+      go (inl k) x y z = absurd (omega (arith, value_low n k))
+      go (inr k) (inl x) y z = omega (arith, value_digit k (omega arith))
+      go (inr k) (inr x) (inl y) z = absurd (omega (arith, value_between n (omega arith) y))
+      go (inr k) (inr x) (inr y) (inl z) = omega (arith, value_letter y (omega arith))
+      go (inr k) (inr x) (inr y) (inr z) = absurd (omega (arith, value_high n (omega arith)))
+
+  -- what is no `*` has a check value where it has a value in a number
+  pub star_too : (b ≡ 42 → ⊥) → (r : Option ℕ) → SomeIff r (value b < 36) (value b) → SomeIff r (value b < 37) (value b)
+  star_too n None h = λ k. h (value_below n k)
+  star_too n (Some v) h = (omega (arith, h.0), h.1)
+
 -- ── the characters of a number ──
 
 module _ (l : List ℕ) (i : ℕ) where
@@ -84,13 +119,23 @@ module _ (l : List ℕ) (i : ℕ) where
     unfolding sum_from
     sum_on p = rw (rest h)
 
--- what was summed before place i + 1, one place further on
-pub summed : (l : List ℕ) (i s : ℕ) → i < length l → (v : ℕ) → v ≡ value (get_or l i 0) → (w : ℕ) → w ≡ weighted v (i + 1)
-    → (i ≤ 13) × (s ≤ 36 * i) × (s + sum_from (i + 1) (values (drop i l)) ≡ sum_from 1 (values l)) → i < 13
-    → (i + 1 ≤ 13) × (s + w ≤ 36 * (i + 1)) × (s + w + sum_from (i + 1 + 1) (values (drop (i + 1) l)) ≡ sum_from 1 (values l))
-summed l i s h v e w f k m =
+-- the characters passed were summed, before place i + 1
+pub record Summed (l : List ℕ) (i s : ℕ) : Type 0 where
+  pub small : s ≤ 36 * i
+  pub passed : characters (drop i l) ≡ characters l
+  pub sum : s + sum_from (i + 1) (values (drop i l)) ≡ sum_from 1 (values l)
+
+pub summed : (l : List ℕ) (i s : ℕ) → i < length l → (v : ℕ) → v ≡ value (get_or l i 0) → v < 36 → (w : ℕ) → w ≡ weighted v (i + 1) → Summed l i s → Summed l (i + 1) (s + w)
+summed l i s h v e k w f m =
     let g : w ≡ weighted (value (get_or l i 0)) (i + 1) = f ∙ ap (λ (x : ℕ). weighted x (i + 1)) e in
-    (omega arith, omega arith, omega (arith, sum_on l i h (i + 1)))
+    record {
+      small = omega (arith, m.small);
+      passed = characters_on l i h (omega arith) ∙ m.passed;
+      sum = omega (arith, m.sum, sum_on l i h (i + 1));
+    }
+
+pub summed_all : (l : List ℕ) (i s : ℕ) → length l ≤ i → Summed l i s → (characters l ≡ true) × (s ≡ sum_from 1 (values l))
+summed_all l i s h m = (sym m.passed ∙ sym (characters_end l i h), omega (arith, m.sum, sum_end l i (i + 1) h))
 
 -- each character of a number has a value below 36
 pub character_in : (l : List ℕ) → characters l ≡ true → (c : ℕ) → Mem c l → value c < 36
@@ -122,11 +167,19 @@ module _ (l : List ℕ) where
   right_length n = rw (ne_eqb (length l) 14 n)
 
   module _ (e : length l ≡ 14) where
-    pub right_off : characters (take 13 l) ≡ false → false ≡ right l
+    pub right_off : (characters (take 13 l) ≡ true → ⊥) → false ≡ right l
     unfolding right
-    right_off f = rw (eq-eqb (length l) 14 e, f)
+    right_off n = rw (eq-eqb (length l) 14 e) (go (characters (take 13 l)) refl)
+      where
+        go : (o : Bool) → characters (take 13 l) ≡ o → false ≡ (o && eqb (value (get_or l 13 0)) (check_of (values (take 13 l))))
+        go true f = absurd (n f)
+        go false f = refl
 
     -- with the value v of the last one, the sum s and its check k
-    pub right_so : characters (take 13 l) ≡ true → (v s k : ℕ) → v ≡ value (get_or l 13 0) → s ≡ sum_from 1 (values (take 13 l)) → k ≡ check s → eqb v k ≡ right l
+    pub right_so : characters (take 13 l) ≡ true → (v : Option ℕ) (s k : ℕ) → SomeIff v (value (get_or l 13 0) < 37) (value (get_or l 13 0))
+        → s ≡ sum_from 1 (values (take 13 l)) → k ≡ check s → option_eq eqb v (Some k) ≡ right l
     unfolding right
-    right_so f v s k p q r = rw (eq-eqb (length l) 14 e, f, r, q, p)
+    right_so f None s k p q r =
+        let n = ne_eqb (value (get_or l 13 0)) (check s) (λ z. p (omega arith)) in
+        rw (eq-eqb (length l) 14 e, f, ← q, n)
+    right_so f (Some v) s k p q r = rw (eq-eqb (length l) 14 e, f, r, q, p.1)

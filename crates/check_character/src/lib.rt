@@ -3,7 +3,7 @@
 
 mod table;
 
-ghost use Rattle.std.specs.Prelude.{◌≡◌, true, ◌≤◌, ◌<◌, length};
+ghost use Rattle.std.specs.Prelude.{◌≡◌, true, ◌≤◌, ◌<◌, length, SomeIff};
 ghost use Rattle.check_character.specs.Number.{value, weighted, check, characters, values, sum_from, right};
 
 use table::WEIGHTED;
@@ -13,26 +13,22 @@ pub const NUMBER_SIZE: usize = 13;
 // What is typed: a number and its check character.
 const TYPED_SIZE: usize = 14;
 
-// The value of a character: 0 to 35 of 0-9 and A-Z, 36 of `*`, 37 of any other.
-fn value_of(b: u8) -> usize
-    ensures { result ≡ value b }
+// The value of a character of a number: 0 to 35 of 0-9 and A-Z.
+fn number_value(b: u8) -> Option<usize>
+    ensures { SomeIff result (value b < 36) (value b) }
 {
-    if b == b'*' {
-        return 36;
+    match b {
+        b'0'..=b'9' => Some(usize::from(b - b'0')),
+        b'A'..=b'Z' => Some(usize::from(b - b'A' + 10)),
+        _ => None,
     }
-    if b < b'0' {
-        return 37;
-    }
-    if b <= b'9' {
-        return (b - b'0') as usize;
-    }
-    if b < b'A' {
-        return 37;
-    }
-    if b <= b'Z' {
-        return (b - b'A' + 10) as usize;
-    }
-    37
+}
+
+// The value of a check character, which may be `*`, too.
+fn check_value(b: u8) -> Option<usize>
+    ensures { SomeIff result (value b < 37) (value b) }
+{
+    if b == b'*' { Some(36) } else { number_value(b) }
 }
 
 // The table's entry for value v at place p.
@@ -40,35 +36,20 @@ fn weighted_value(v: usize, p: usize) -> usize
     requires { (v < 36) × (1 ≤ p) × (p ≤ 13) }
     ensures { result ≡ weighted v p }
 {
-    WEIGHTED[v * NUMBER_SIZE + p - 1] as usize
+    usize::from(WEIGHTED[v * NUMBER_SIZE + p - 1])
 }
 
-// Whether each byte is a character with a value below 36.
-fn are_characters(number: &[u8]) -> bool
-    ensures { result ≡ characters number.now }
-{
-    let mut i = 0;
-    while i < number.len() {
-        if 35 < value_of(number[i]) {
-            return false;
-        }
-        i += 1;
-    }
-    true
-}
-
-// The sum P of the 13 characters of a number.
-fn sum_of(number: &[u8]) -> usize
-    requires { (length number.now ≡ 13) × (characters number.now ≡ true) }
-    ensures { result ≡ sum_from 1 (values number.now) }
+// The sum P of 13 bytes, where each is a character of a number.
+fn sum_of(number: &[u8]) -> Option<usize>
+    requires { length number.now ≡ 13 }
+    ensures { SomeIff result (characters number.now ≡ true) (sum_from 1 (values number.now)) }
 {
     let mut sum = 0;
-    let mut i = 0;
-    while i < NUMBER_SIZE {
-        sum += weighted_value(value_of(number[i]), i + 1);
-        i += 1;
+    for (i, b) in number.iter().enumerate() {
+        let v = number_value(*b)?;
+        sum += weighted_value(v, i + 1);
     }
-    sum
+    Some(sum)
 }
 
 // The value of the check for the sum P.
@@ -85,9 +66,8 @@ pub fn is_number(typed: &[u8]) -> bool
     if typed.len() != TYPED_SIZE {
         return false;
     }
-    let number = &typed[..NUMBER_SIZE];
-    if !are_characters(number) {
+    let Some(sum) = sum_of(&typed[..NUMBER_SIZE]) else {
         return false;
-    }
-    value_of(typed[NUMBER_SIZE]) == check_of(sum_of(number))
+    };
+    check_value(typed[NUMBER_SIZE]) == Some(check_of(sum))
 }
