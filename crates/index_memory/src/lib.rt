@@ -26,10 +26,7 @@ pub fn entry_charge(m: usize) -> usize
     requires { m ≤ 4096 }
     ensures { result ≡ entry_charge m }
 {
-    if m == 0 {
-        return 1;
-    }
-    2 * m
+    if m == 0 { 1 } else { 2 * m }
 }
 
 // Whether the piece at index at is sound: its length, its life, its end.
