@@ -13,9 +13,10 @@ use Rattle.tails.specs.Groups.{locations_of}
 use Rattle.tail_words.specs.Tail.{tails_in}
 use Rattle.tail_groups.proofs.Memory.{tails_none}
 use Rattle.list_closing.specs.Closed.{Closed}
-use Rattle.list_writer.specs.Written.{Copied, ListWritten}
+use Rattle.list_writer.specs.Written.{taken, Copied, ListWritten}
 use Rattle.list_writer.specs.declared.End.{End}
-use Rattle.list_writer.proofs.Copying.{length_locations_of}
+use Rattle.list_writer.specs.declared.Listed.{Listed}
+use Rattle.list_writer.proofs.Copying.{length_locations_of, taken_none}
 
 -- locations copied, then made a list
 pub written : {s s₁ s₂ : List ℕ} {n k : ℕ} {ls : List Location} (e r : End) → Copied s s₁ e.at n ls → Closed s₁ s₂ e.at n (locations_in s₁ n (e.at + 8)) k
@@ -38,10 +39,7 @@ written {s} {s₁} {s₂} {n} {k} {ls} e r w c q =
 pub copied_within : {s s₁ : List ℕ} {at n work : ℕ} (ts : List Tail) → Copied s s₁ at n (locations_of ts) → at + 8 + 24 * length ts ≤ work → at + 8 + 24 * n ≤ work
 copied_within ts w h = omega (arith, w.count, length_locations_of ts)
 
--- no tails, and a single one
-module _ {s s₁ : List ℕ} {e r : End} (f : List Tail → List Tail) (t : List ℕ) (work lo : ℕ) {n : ℕ} where
-  pub written_none : f [] ≡ [] → n ≡ 0 → ListWritten s s₁ [] e r → ListWritten s s₁ (locations_of (f (tails_in t work lo (lo + n)))) e r
-  written_none z h w = rw (tails_none t work lo (lo + n) (omega arith), z) w
-
-  pub written_single : n ≡ 1 → ListWritten s s₁ (locations_of (f (tails_in t work lo (lo + 1)))) e r → ListWritten s s₁ (locations_of (f (tails_in t work lo (lo + n)))) e r
-  written_single h w = rw h w
+-- no tails
+module _ {s s₁ : List ℕ} {e r : End} (o : Listed) (t : List ℕ) (work lo hi : ℕ) where
+  pub written_none : hi ≡ lo → ListWritten s s₁ [] e r → ListWritten s s₁ (locations_of (taken o (tails_in t work lo hi))) e r
+  written_none h w = rw (tails_none t work lo hi (omega arith), taken_none o) w

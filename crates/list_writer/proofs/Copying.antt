@@ -1,5 +1,5 @@
 -- The locations of tails copied one behind the other, all of them or those of whole pieces. Assumes nothing.
-use Prim.Native.Nat.{ℕ, suc, ◌+◌, ◌-◌, ◌*◌, ◌%◌, ◌≤◌, ◌<◌}
+use Prim.Native.Nat.{ℕ, suc, ◌+◌, ◌*◌, ◌%◌, ◌≤◌, ◌<◌}
 use native.Mathlib.Omega.{arith}
 use mathlib.Core.Path.{◌≡◌, refl, sym, ap, subst, ◌∙◌}
 use mathlib.Core.Bool.{Bool, true, false, cond}
@@ -8,7 +8,6 @@ use mathlib.Core.List.{List, [], ◌∷◌, ◌++◌, append-nil}
 use lib.ListN.{length, get_or, length-append}
 use lib.Seq.{sets, length-sets}
 use lib.Dec.{eqb}
-use borrow.Author.Tests.{eq-eqb, ne_eqb}
 use Rattle.words.specs.Words.{le64}
 use Rattle.words.proofs.Parts.{get_or_sets_out}
 use Rattle.records.specs.Records.{record_at}
@@ -20,9 +19,11 @@ use Rattle.location.proofs.Bytes.{length_location, location_fits}
 use Rattle.tails.specs.Tails.{Tail}
 use Rattle.tails.specs.Groups.{locations_of, wholes}
 use Rattle.tail_words.specs.Tail.{tail_of_record, tail_in, tails_in}
-use Rattle.tail_groups.proofs.Memory.{tails_none, tails_step, tails_split, tails_length, record_ext}
+use Rattle.tail_groups.proofs.Memory.{tails_none, tails_step, tails_split, record_ext}
 use Rattle.place_buffer.proofs.Scratch.{locations_written}
-use Rattle.list_writer.specs.Written.{Copied}
+use Rattle.list_writer.specs.Written.{takes, taken, Copied}
+use Rattle.list_writer.specs.declared.Listed.{Listed}
+use Rattle.list_writer.specs.declared.Listed.TheVariants.{All, Wholes}
 
 -- ── a tail's numbers in memory ──
 
@@ -42,12 +43,8 @@ tail_whole s work i =
     let a : work + 56 * i + 8 + 8 ≡ work + 56 * i + 16 = omega arith in
     ap (λ (p : ℕ). eqb (le64 s p % 2) 1) a
 
-module _ (s : List ℕ) (work i : ℕ) {x : ℕ} (got : x ≡ le64 s (work + 56 * i + 16)) where
-  pub is_whole : x % 2 ≡ 1 → (tail_in s work i).entry.whole ≡ true
-  is_whole e = tail_whole s work i ∙ ap (λ (y : ℕ). eqb (y % 2) 1) (sym got) ∙ eq-eqb (x % 2) 1 e
-
-  pub not_whole : ¬ (x % 2 ≡ 1) → (tail_in s work i).entry.whole ≡ false
-  not_whole e = tail_whole s work i ∙ ap (λ (y : ℕ). eqb (y % 2) 1) (sym got) ∙ ne_eqb (x % 2) 1 e
+pub whole_taken : (s : List ℕ) (work i x : ℕ) {r : Bool} → x ≡ le64 s (work + 56 * i + 16) → r ≡ eqb (x % 2) 1 → r ≡ (tail_in s work i).entry.whole
+whole_taken s work i x got e = e ∙ ap (λ (y : ℕ). eqb (y % 2) 1) got ∙ sym (tail_whole s work i)
 
 pub tail_fits : (s : List ℕ) (work i : ℕ) → Bytes s → Fits (tail_in s work i).entry.at
 tail_fits s work i b = subst Fits (tail_location s work i) (location_fits s (work + 56 * i + 24) b)
@@ -102,150 +99,114 @@ wholes_append (t ∷ ts) us = go t.entry.whole (wholes_append ts us)
     go true e = ap (λ (vs : List Tail). t ∷ vs) e
     go false e = e
 
-module _ (s : List ℕ) (work lo : ℕ) where
-  -- the tails from lo to i
-  tails_snoc : (i : ℕ) → lo ≤ i → tails_in s work lo (i + 1) ≡ tails_in s work lo i ++ (tail_in s work i ∷ [])
-  tails_snoc i h =
-      tails_split s work lo i (i + 1) h (omega arith)
-      ∙ ap (λ (ts : List Tail). tails_in s work lo i ++ ts) (tails_step s work i (i + 1) (omega arith) ∙ ap (λ (ts : List Tail). tail_in s work i ∷ ts) (tails_none s work (i + 1) (i + 1) (omega arith)))
+taken_append : (w : Listed) (ts us : List Tail) → taken w (ts ++ us) ≡ taken w ts ++ taken w us
+taken_append All ts us = refl
+taken_append Wholes ts us = wholes_append ts us
 
-  locations_snoc : (i : ℕ) → lo ≤ i → locations_of (tails_in s work lo (i + 1)) ≡ locations_of (tails_in s work lo i) ++ ((tail_in s work i).entry.at ∷ [])
-  locations_snoc i h = ap locations_of (tails_snoc i h) ∙ locations_of_append (tails_in s work lo i) (tail_in s work i ∷ [])
+taken_one : (w : Listed) (t : Tail) → taken w (t ∷ []) ≡ cond (takes w t) (t ∷ []) []
+taken_one All t = refl
+taken_one Wholes t = refl
 
-  wholes_snoc : (i : ℕ) → lo ≤ i → wholes (tails_in s work lo (i + 1)) ≡ wholes (tails_in s work lo i) ++ cond (tail_in s work i).entry.whole (tail_in s work i ∷ []) []
-  wholes_snoc i h = ap wholes (tails_snoc i h) ∙ wholes_append (tails_in s work lo i) (tail_in s work i ∷ [])
+pub taken_none : (w : Listed) → taken w [] ≡ []
+taken_none All = refl
+taken_none Wholes = refl
+
+module _ (w : Listed) (s : List ℕ) (work lo : ℕ) where
+  -- those taken up to i
+  taken_snoc : (i : ℕ) → lo ≤ i → taken w (tails_in s work lo (i + 1)) ≡ taken w (tails_in s work lo i) ++ cond (takes w (tail_in s work i)) (tail_in s work i ∷ []) []
+  taken_snoc i h =
+      let one : tails_in s work i (i + 1) ≡ tail_in s work i ∷ [] =
+      tails_step s work i (i + 1) (omega arith) ∙ ap (λ (ts : List Tail). tail_in s work i ∷ ts) (tails_none s work (i + 1) (i + 1) (omega arith)) in
+      ap (taken w) (tails_split s work lo i (i + 1) h (omega arith)) ∙ taken_append w (tails_in s work lo i) (tails_in s work i (i + 1))
+      ∙ ap (λ (ts : List Tail). taken w (tails_in s work lo i) ++ ts) (ap (taken w) one ∙ taken_one w (tail_in s work i))
 
   -- there are at most as many up to i as up to hi
-  pub wholes_within : (i hi : ℕ) → lo ≤ i → i ≤ hi → length (wholes (tails_in s work lo i)) ≤ length (wholes (tails_in s work lo hi))
-  wholes_within i hi a b =
-      let e : wholes (tails_in s work lo hi) ≡ wholes (tails_in s work lo i) ++ wholes (tails_in s work i hi) =
-      ap wholes (tails_split s work lo i hi a b) ∙ wholes_append (tails_in s work lo i) (tails_in s work i hi) in
-      omega (arith, ap length e, length-append (wholes (tails_in s work lo i)) (wholes (tails_in s work i hi)))
+  pub taken_within : (i hi : ℕ) → lo ≤ i → i ≤ hi → length (taken w (tails_in s work lo i)) ≤ length (taken w (tails_in s work lo hi))
+  taken_within i hi a b =
+      let e : taken w (tails_in s work lo hi) ≡ taken w (tails_in s work lo i) ++ taken w (tails_in s work i hi) =
+      ap (taken w) (tails_split s work lo i hi a b) ∙ taken_append w (tails_in s work lo i) (tails_in s work i hi) in
+      omega (arith, ap length e, length-append (taken w (tails_in s work lo i)) (taken w (tails_in s work i hi)))
 
 -- ── the loops ──
 
--- s₁ has the locations of the tails from lo to i - 1 that are to be copied
-pub record OnCopy (f : List Tail → List Tail) (s s₁ : List ℕ) (work lo hi at n i : ℕ) : Type 0 where
+-- s₁ has the locations of the tails from lo to i - 1 that are taken
+pub record OnCopy (w : Listed) (s s₁ : List ℕ) (work lo hi at n i : ℕ) : Type 0 where
   pub from : lo ≤ i
   pub upto : i ≤ hi
   pub bytes : Bytes s₁
-  pub copied : Copied s s₁ at n (locations_of (f (tails_in s work lo i)))
-
--- what the code asks of a turn
-pub record CopyAsks (len work at n i : ℕ) : Type 0 where
-  pub to : at + 8 + 24 * n + 24 ≤ len
-  pub tail : work + 56 * i + 56 ≤ len
-
-abbrev pub all : List Tail → List Tail
-all ts = ts
+  pub copied : Copied s s₁ at n (locations_of (taken w (tails_in s work lo i)))
 
 -- the tails are not written
 same_tail : (s s₁ : List ℕ) (work at n i : ℕ) {ls : List Location} → Copied s s₁ at n ls → at + 8 + 24 * n ≤ work → tail_in s₁ work i ≡ tail_in s work i
 same_tail s s₁ work at n i w h = ap tail_of_record (record_ext s s₁ work i (i + 1) (λ k a b. w.away k (inr (omega arith))) i (omega arith) (omega arith))
 
-module _ (s : List ℕ) (work lo hi at : ℕ) (le : lo ≤ hi) (held : work + 56 * hi ≤ length s) where
-  pub copy_start : Bytes s → OnCopy all s s work lo hi at 0 lo
-  copy_start b = record { from = omega arith; upto = le; bytes = b; copied = rw (tails_none s work lo lo (omega arith)) (copied_none s at) }
+module _ (o : Listed) (s : List ℕ) (work lo hi at : ℕ) (le : lo ≤ hi) (held : work + 56 * hi ≤ length s) where
+  pub copy_start : Bytes s → OnCopy o s s work lo hi at 0 lo
+  copy_start b = record { from = omega arith; upto = le; bytes = b; copied = rw (tails_none s work lo lo (omega arith), taken_none o) (copied_none s at) }
 
-  pub whole_start : Bytes s → OnCopy wholes s s work lo hi at 0 lo
-  whole_start b = record { from = omega arith; upto = le; bytes = b; copied = rw (tails_none s work lo lo (omega arith)) (copied_none s at) }
-
-  pub copy_done : {f : List Tail → List Tail} {s₁ : List ℕ} {n i : ℕ} → OnCopy f s s₁ work lo hi at n i → hi ≤ i → Copied s s₁ at n (locations_of (f (tails_in s work lo hi)))
-  copy_done {f} {s₁} {n} {i} w h =
+  pub copy_done : {s₁ : List ℕ} {n i : ℕ} → OnCopy o s s₁ work lo hi at n i → hi ≤ i → Copied s s₁ at n (locations_of (taken o (tails_in s work lo hi)))
+  copy_done {s₁} {n} {i} w h =
       let e : i ≡ hi = omega (arith, w.upto) in
-      subst (λ (j : ℕ). Copied s s₁ at n (locations_of (f (tails_in s work lo j)))) e w.copied
+      subst (λ (j : ℕ). Copied s s₁ at n (locations_of (taken o (tails_in s work lo j)))) e w.copied
 
-  module _ (room : at + 8 + 24 * length (tails_in s work lo hi) ≤ work) {s₁ : List ℕ} {n i : ℕ} (w : OnCopy all s s₁ work lo hi at n i) (h : i < hi) where
-    copy_count : n ≡ i - lo
-    copy_count = w.copied.count ∙ length_locations_of (tails_in s work lo i) ∙ tails_length s work lo i
+  module _ (room : at + 8 + 24 * length (taken o (tails_in s work lo hi)) ≤ work) {s₁ : List ℕ} {n i : ℕ} (w : OnCopy o s s₁ work lo hi at n i) (h : i < hi) where
+    copy_count : n ≡ length (taken o (tails_in s work lo i))
+    copy_count = w.copied.count ∙ length_locations_of (taken o (tails_in s work lo i))
 
-    pub copy_asks : CopyAsks (length s₁) work at n i
-    copy_asks = record {
-      to = omega (arith, copy_count, tails_length s work lo hi, w.from, w.copied.long);
-      tail = omega (arith, w.copied.long);
-    }
+    -- there is room for one more, where tail i is taken
+    copy_room : (c : Bool) → c ≡ takes o (tail_in s work i) → at + 8 + 24 * (n + cond c 1 0) ≤ work
+    copy_room true e =
+        let x : taken o (tails_in s work lo (i + 1)) ≡ taken o (tails_in s work lo i) ++ (tail_in s work i ∷ []) =
+        taken_snoc o s work lo i w.from ∙ ap (λ (c : Bool). taken o (tails_in s work lo i) ++ cond c (tail_in s work i ∷ []) []) (sym e) in
+        omega (arith, copy_count, ap length x, length-append (taken o (tails_in s work lo i)) (tail_in s work i ∷ []), taken_within o s work lo (i + 1) hi (omega (arith, w.from)) (omega arith))
+    copy_room false e = omega (arith, copy_count, taken_within o s work lo i hi w.from w.upto)
 
-    pub copy_turn : (s₂ : List ℕ) → Bytes s₂ → s₂ ≡ sets s₁ (at + 8 + 24 * n) (location_bytes (tail_in s₁ work i).entry.at) → OnCopy all s s₂ work lo hi at (n + 1) (i + 1)
-    copy_turn s₂ b e =
-        let q : at + 8 + 24 * n + 24 ≤ work = omega (arith, copy_count, tails_length s work lo hi, w.from) in
-        let t : tail_in s₁ work i ≡ tail_in s work i = same_tail s s₁ work at n i w.copied (omega arith) in
-        let l : Location = (tail_in s work i).entry.at in
-        let fits : Fits l = subst (λ (t : Tail). Fits t.entry.at) t (tail_fits s₁ work i w.bytes) in
-        let e₂ : s₂ ≡ sets s₁ (at + 8 + 24 * n) (location_bytes l) = e ∙ ap (λ (t : Tail). sets s₁ (at + 8 + 24 * n) (location_bytes t.entry.at)) t in
-        record {
-          from = omega (arith, w.from);
-          upto = omega arith;
-          bytes = b;
-          copied = rw (locations_snoc s work lo i w.from) (copied_one s at s₂ l w.copied fits (omega arith) e₂);
-        }
+    copy_same : tail_in s₁ work i ≡ tail_in s work i
+    copy_same = same_tail s s₁ work at n i w.copied (omega (arith, copy_count, taken_within o s work lo i hi w.from w.upto))
 
-  module _ (room : at + 8 + 24 * length (wholes (tails_in s work lo hi)) ≤ work) {s₁ : List ℕ} {n i : ℕ} (w : OnCopy wholes s s₁ work lo hi at n i) (h : i < hi) where
-    whole_count : n ≡ length (wholes (tails_in s work lo i))
-    whole_count = w.copied.count ∙ length_locations_of (wholes (tails_in s work lo i))
+    pub copy_asks : at + 8 + 24 * (n + cond (takes o (tail_in s₁ work i)) 1 0) ≤ work
+    copy_asks = copy_room (takes o (tail_in s₁ work i)) (ap (takes o) copy_same)
 
-    -- there is room for one more, where tail i is a whole piece
-    whole_room : (o : Bool) → o ≡ (tail_in s work i).entry.whole → at + 8 + 24 * (n + cond o 1 0) ≤ work
-    whole_room true e =
-        let x : wholes (tails_in s work lo (i + 1)) ≡ wholes (tails_in s work lo i) ++ (tail_in s work i ∷ []) =
-        wholes_snoc s work lo i w.from ∙ ap (λ (o : Bool). wholes (tails_in s work lo i) ++ cond o (tail_in s work i ∷ []) []) (sym e) in
-        omega (arith, whole_count, ap length x, length-append (wholes (tails_in s work lo i)) (tail_in s work i ∷ []), wholes_within s work lo (i + 1) hi (omega (arith, w.from)) (omega arith))
-    whole_room false e = omega (arith, whole_count, wholes_within s work lo i hi w.from w.upto)
-
-    whole_same : tail_in s₁ work i ≡ tail_in s work i
-    whole_same = same_tail s s₁ work at n i w.copied (omega (arith, whole_count, wholes_within s work lo i hi w.from w.upto))
-
-    pub whole_asks : at + 8 + 24 * (n + cond (tail_in s₁ work i).entry.whole 1 0) ≤ work
-    whole_asks = whole_room (tail_in s₁ work i).entry.whole (ap (λ (t : Tail). t.entry.whole) whole_same)
-
-    pub whole_turn : (s₂ : List ℕ) (m : ℕ) → Bytes s₂ → m ≡ n + cond (tail_in s₁ work i).entry.whole 1 0
-        → s₂ ≡ cond (tail_in s₁ work i).entry.whole (sets s₁ (at + 8 + 24 * n) (location_bytes (tail_in s₁ work i).entry.at)) s₁
-        → OnCopy wholes s s₂ work lo hi at m (i + 1)
-    whole_turn s₂ m b p e = record { from = omega (arith, w.from); upto = omega arith; bytes = b; copied = rw (wholes_snoc s work lo i w.from) (go (tail_in s work i).entry.whole refl p' e') }
+    pub copy_turn : (s₂ : List ℕ) (m : ℕ) → Bytes s₂ → m ≡ n + cond (takes o (tail_in s₁ work i)) 1 0
+        → s₂ ≡ cond (takes o (tail_in s₁ work i)) (sets s₁ (at + 8 + 24 * n) (location_bytes (tail_in s₁ work i).entry.at)) s₁ → OnCopy o s s₂ work lo hi at m (i + 1)
+    copy_turn s₂ m b p e = record { from = omega (arith, w.from); upto = omega arith; bytes = b; copied = rw (taken_snoc o s work lo i w.from) (go (takes o (tail_in s work i)) refl p' e') }
       where
         l : Location
         l = (tail_in s work i).entry.at
 
-        p' : m ≡ n + cond (tail_in s work i).entry.whole 1 0
-        p' = p ∙ ap (λ (t : Tail). n + cond t.entry.whole 1 0) whole_same
+        p' : m ≡ n + cond (takes o (tail_in s work i)) 1 0
+        p' = p ∙ ap (λ (t : Tail). n + cond (takes o t) 1 0) copy_same
 
-        e' : s₂ ≡ cond (tail_in s work i).entry.whole (sets s₁ (at + 8 + 24 * n) (location_bytes (tail_in s work i).entry.at)) s₁
-        e' = e ∙ ap (λ (t : Tail). cond t.entry.whole (sets s₁ (at + 8 + 24 * n) (location_bytes t.entry.at)) s₁) whole_same
+        e' : s₂ ≡ cond (takes o (tail_in s work i)) (sets s₁ (at + 8 + 24 * n) (location_bytes (tail_in s work i).entry.at)) s₁
+        e' = e ∙ ap (λ (t : Tail). cond (takes o t) (sets s₁ (at + 8 + 24 * n) (location_bytes t.entry.at)) s₁) copy_same
 
         fits : Fits (tail_in s work i).entry.at
-        fits = subst (λ (t : Tail). Fits t.entry.at) whole_same (tail_fits s₁ work i w.bytes)
+        fits = subst (λ (t : Tail). Fits t.entry.at) copy_same (tail_fits s₁ work i w.bytes)
 
-        go : (o : Bool) → o ≡ (tail_in s work i).entry.whole → m ≡ n + cond o 1 0 → s₂ ≡ cond o (sets s₁ (at + 8 + 24 * n) (location_bytes (tail_in s work i).entry.at)) s₁
-            → Copied s s₂ at m (locations_of (wholes (tails_in s work lo i) ++ cond o (tail_in s work i ∷ []) []))
+        go : (c : Bool) → c ≡ takes o (tail_in s work i) → m ≡ n + cond c 1 0 → s₂ ≡ cond c (sets s₁ (at + 8 + 24 * n) (location_bytes (tail_in s work i).entry.at)) s₁
+            → Copied s s₂ at m (locations_of (taken o (tails_in s work lo i) ++ cond c (tail_in s work i ∷ []) []))
         go true q p e =
-            let r = whole_room true q in
-            let c : Copied s s₂ at (n + 1) (locations_of (wholes (tails_in s work lo i)) ++ ((tail_in s work i).entry.at ∷ [])) =
+            let r = copy_room true q in
+            let c : Copied s s₂ at (n + 1) (locations_of (taken o (tails_in s work lo i)) ++ ((tail_in s work i).entry.at ∷ [])) =
             copied_one s at s₂ (tail_in s work i).entry.at w.copied fits (omega arith) e in
-            rw (p, locations_of_append (wholes (tails_in s work lo i)) (tail_in s work i ∷ [])) c
+            rw (p, locations_of_append (taken o (tails_in s work lo i)) (tail_in s work i ∷ [])) c
         go false q p e =
             let z : n + 0 ≡ n = omega arith in
-            rw (p, z, e, locations_of_append (wholes (tails_in s work lo i)) []) (nil w.copied)
+            rw (p, z, e, locations_of_append (taken o (tails_in s work lo i)) []) (nil w.copied)
           where
-            nil : Copied s s₁ at n (locations_of (wholes (tails_in s work lo i))) → Copied s s₁ at n (locations_of (wholes (tails_in s work lo i)) ++ [])
+            nil : Copied s s₁ at n (locations_of (taken o (tails_in s work lo i))) → Copied s s₁ at n (locations_of (taken o (tails_in s work lo i)) ++ [])
             nil c = rw append-nil c
 
 -- ── a single tail ──
-module _ (s : List ℕ) (work i at : ℕ) (held : work + 56 * (i + 1) ≤ length s) (b : Bytes s) (room : at + 8 + 24 * length (wholes (tails_in s work i (i + 1))) ≤ work) where
-  first : OnCopy wholes s s work i (i + 1) at 0 i
-  first = whole_start s work i (i + 1) at (omega arith) held b
 
-  pub single_whole_asks : at + 8 + 24 * (0 + cond (tail_in s work i).entry.whole 1 0) ≤ work
-  single_whole_asks = whole_asks s work i (i + 1) at (omega arith) held room first (omega arith)
+module _ (o : Listed) (s : List ℕ) (work i at : ℕ) (held : work + 56 * (i + 1) ≤ length s) (b : Bytes s) (room : at + 8 + 24 * length (taken o (tails_in s work i (i + 1))) ≤ work) where
+  first : OnCopy o s s work i (i + 1) at 0 i
+  first = copy_start o s work i (i + 1) at (omega arith) held b
 
-  pub single_whole : (s₁ : List ℕ) (n : ℕ) → Bytes s₁ → n ≡ 0 + cond (tail_in s work i).entry.whole 1 0
-      → s₁ ≡ cond (tail_in s work i).entry.whole (sets s (at + 8 + 24 * 0) (location_bytes (tail_in s work i).entry.at)) s → Copied s s₁ at n (locations_of (wholes (tails_in s work i (i + 1))))
-  single_whole s₁ n b₁ en es =
-      copy_done s work i (i + 1) at (omega arith) held (whole_turn s work i (i + 1) at (omega arith) held room first (omega arith) s₁ n b₁ en es) (omega arith)
+  pub single_asks : at + 8 + 24 * (0 + cond (takes o (tail_in s work i)) 1 0) ≤ work
+  single_asks = copy_asks o s work i (i + 1) at (omega arith) held room first (omega arith)
 
-pub single_tail : (s : List ℕ) (work i at : ℕ) → work + 56 * (i + 1) ≤ length s → Bytes s → at + 32 ≤ work → (s₁ : List ℕ) → Bytes s₁
-    → s₁ ≡ sets s (at + 8) (location_bytes (tail_in s work i).entry.at) → Copied s s₁ at 1 (locations_of (tails_in s work i (i + 1)))
-single_tail s work i at held b room s₁ b₁ es =
-    let one : length (tails_in s work i (i + 1)) ≡ 1 = tails_length s work i (i + 1) ∙ omega arith in
-    let p : at + 8 ≡ at + 8 + 24 * 0 = omega arith in
-    let turned = copy_turn s work i (i + 1) at (omega arith) held (omega arith) (copy_start s work i (i + 1) at (omega arith) held b) (omega arith) s₁ b₁
-    (es ∙ ap (λ (x : ℕ). sets s x (location_bytes (tail_in s work i).entry.at)) p) in
-    copy_done s work i (i + 1) at (omega arith) held turned (omega arith)
+  pub single_copied : (s₁ : List ℕ) (n : ℕ) → Bytes s₁ → n ≡ 0 + cond (takes o (tail_in s work i)) 1 0
+      → s₁ ≡ cond (takes o (tail_in s work i)) (sets s (at + 8 + 24 * 0) (location_bytes (tail_in s work i).entry.at)) s → Copied s s₁ at n (locations_of (taken o (tails_in s work i (i + 1))))
+  single_copied s₁ n b₁ en es =
+      copy_done o s work i (i + 1) at (omega arith) held (copy_turn o s work i (i + 1) at (omega arith) held room first (omega arith) s₁ n b₁ en es) (omega arith)

@@ -1,9 +1,23 @@
 -- A list in memory: its locations copied, and the list that is made of them. Assumes nothing.
-use Rattle.std.specs.Prelude.{ℕ, ◌+◌, ◌*◌, ◌≤◌, ◌<◌, ◌≡◌, ◌⊎◌, List, length, get_or}
+use Rattle.std.specs.Prelude.{ℕ, ◌+◌, ◌*◌, ◌≤◌, ◌<◌, ◌≡◌, ◌⊎◌, Bool, true, List, length, get_or}
 use Rattle.words.specs.Holding.{Holds}
 use Rattle.definitions.specs.Location.{Location, normal, locations_in}
 use Rattle.image_format.specs.Image.{list_bytes}
+use Rattle.tails.specs.Tails.{Tail}
+use Rattle.tails.specs.Groups.{wholes}
 use Rattle.list_writer.specs.declared.End.{End}
+use Rattle.list_writer.specs.declared.Listed.{Listed}
+use Rattle.list_writer.specs.declared.Listed.TheVariants.{All, Wholes}
+
+-- whether a tail is taken: each is, or whole pieces alone
+abbrev pub takes : Listed → Tail → Bool
+takes All t = true
+takes Wholes t = t.entry.whole
+
+-- those that are taken
+abbrev pub taken : Listed → List Tail → List Tail
+taken All ts = ts
+taken Wholes ts = wholes ts
 
 -- s' is s with the n locations ls behind the eight bytes at an index
 pub record Copied (s s' : List ℕ) (at n : ℕ) (ls : List Location) : Type 0 where

@@ -1,10 +1,25 @@
--- `list_writer::put_single_list` meets its contract: one location is copied, and made a list. Assumes nothing.
+-- `list_writer::put_single_list` meets its contract: at most one location is copied, and made a list. Assumes nothing.
 use native.Mathlib.Omega.{arith}
-use Rattle.list_writer.proofs.Copying.{single_tail}
+use Rattle.list_writer.proofs.Copying.{single_asks, single_copied}
 use Rattle.list_writer.proofs.Closing.{written}
 use Rattle.list_writer.proofs.put_single_list.Goals as goal
 
+pub put_taken-n-requires : goal.put_taken-n-requires
+put_taken-n-requires c =
+    let asks = single_asks _ _ _ _ _ c.requires.0 (λ j. omega (arith, c.slice_known-1.given j)) c.requires.1 in
+    (omega (arith, c.requires.0), omega (arith, c.requires.0))
+
+pub close_list-kept-requires : goal.close_list-kept-requires
+close_list-kept-requires c =
+    let asks = single_asks _ _ _ _ _ c.requires.0 (λ j. omega (arith, c.slice_known-1.given j)) c.requires.1 in
+    omega (arith, c.requires.0, c.put_taken-n.ensures.count, c.put_taken-n.auto.mem)
+
+pub behind_list-requires : goal.behind_list-requires
+behind_list-requires c =
+    let asks = single_asks _ _ _ _ _ c.requires.0 (λ j. omega (arith, c.slice_known-1.given j)) c.requires.1 in
+    (omega (arith, c.requires.0, c.put_taken-n.ensures.count, c.close_list-kept.ensures.few), c.requires.2)
+
 pub returns : goal.returns
 returns c =
-    let copied = single_tail _ _ _ _ c.requires.0 (λ j. omega (arith, c.slice_known-1.given j)) c.requires.1 _ (λ j. omega (arith, c.slice_known-2-1.given j)) c.put_tail_location.ensures in
+    let copied = single_copied _ _ _ _ _ c.requires.0 (λ j. omega (arith, c.slice_known-1.given j)) c.requires.1 _ _ (λ j. omega (arith, c.slice_known-2-1.given j)) c.put_taken-n.ensures.count c.put_taken-n.ensures.bytes in
     written _ _ copied c.close_list-kept.ensures c.behind_list.ensures
