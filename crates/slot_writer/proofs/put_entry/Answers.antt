@@ -5,24 +5,24 @@ use Rattle.slot_writer.proofs.SlotTurn.{known_readable, known_inside, entry_put}
 use Rattle.slot_writer.proofs.put_entry.Goals as goal
 
 pub overflow_mul-place : goal.overflow_mul-place
-overflow_mul-place c = omega (arith, known_inside c.requires.known _ _ c.requires.group c.rank.ensures, c.requires.table, c.requires.flag)
+overflow_mul-place c = omega (arith, known_inside c.requires.known _ _ c.requires.group c.rank-rank.ensures, c.requires.table, c.requires.flag)
 
 pub overflow_add-place : goal.overflow_add-place
-overflow_add-place c = omega (arith, known_inside c.requires.known _ _ c.requires.group c.rank.ensures, c.requires.table, c.requires.flag)
+overflow_add-place c = omega (arith, known_inside c.requires.known _ _ c.requires.group c.rank-rank.ensures, c.requires.table, c.requires.flag)
 
 pub tail_byte-byte-requires : goal.tail_byte-byte-requires
 tail_byte-byte-requires c = known_readable c.requires.known _ c.requires.group
 
 pub bounds-mem-place : goal.bounds-mem-place
-bounds-mem-place c = omega (arith, known_inside c.requires.known _ _ c.requires.group c.rank.ensures, c.requires.table, c.requires.flag)
+bounds-mem-place c = omega (arith, known_inside c.requires.known _ _ c.requires.group c.rank-rank.ensures, c.requires.table, c.requires.flag)
 
 pub overflow_add-place-2 : goal.overflow_add-place-2
-overflow_add-place-2 c = omega (arith, known_inside c.requires.known _ _ c.requires.group c.rank.ensures, c.requires.table, c.requires.flag)
+overflow_add-place-2 c = omega (arith, known_inside c.requires.known _ _ c.requires.group c.rank-rank.ensures, c.requires.table, c.requires.flag)
 
 pub put_slot-requires : goal.put_slot-requires
 put_slot-requires c =
-    let i = known_inside c.requires.known _ _ c.requires.group c.rank.ensures in
+    let i = known_inside c.requires.known _ _ c.requires.group c.rank-rank.ensures in
     simp length-set (omega (arith, i, c.requires.table, c.requires.flag), c.requires.flag, c.requires.from)
 
 pub returns : goal.returns
-returns c = entry_put c.requires.known _ _ _ _ _ _ c.requires.group c.rank.ensures c.tail_byte-byte.ensures c.put_slot.ensures
+returns c = entry_put c.requires.known _ _ _ _ _ _ c.requires.group c.rank-rank.ensures c.tail_byte-byte.ensures c.put_slot.ensures
