@@ -21,7 +21,8 @@ use Rattle.image_format.specs.Image.{lists_bytes, lists_size}
 use Rattle.tails.specs.Runs.{Pairs, Run}
 use Rattle.tails.specs.Weights.{weights, group_weights}
 use Rattle.tail_words.specs.Tail.{tails_in, Held}
-use Rattle.tail_groups.specs.Found.{Longer, Found}
+use Rattle.tail_groups.specs.Found.{Longer, Grouped}
+use Rattle.tail_groups.specs.declared.Grouping.{Grouping}
 use Rattle.tail_groups.proofs.Memory.{tails_split, tails_length, tails_ext, held_part}
 use Rattle.tail_groups.proofs.Front.{run_after}
 use Rattle.tail_groups.proofs.Buffer.{grouped_memory}
@@ -124,14 +125,13 @@ module _ {s : List ℕ} {work lo hi d : ℕ} {e : End} (q : HeadAsked s work lo 
       suffixes = normal (locations_of (wholes (rest i)));
     }
 
-    pub head_written : {s₂ buf buf₂ : List ℕ} {n : ℕ} {e₂ : End} → Front s s₂ work lo hi d n e e₂ → Found s work mid hi d buf buf₂ n → HeadWritten s s₂ work lo hi d e buf buf₂ (record { below = mid; groups = n; end = e₂ })
-    head_written {s₂} f found = record {
+    pub head_written : {s₂ : List ℕ} {x : Grouping} {e₂ : End} → Front s s₂ work lo hi d x.count e e₂ → Grouped s work mid hi d x x.count → HeadWritten s s₂ work lo hi d e x (record { below = mid; end = e₂ })
+    head_written {s₂} f grouped = record {
       from = omega (arith, cut.from, cut₂.from);
       upto = cut₂.upto;
       rest = rest;
       front = f;
-      grouped = grouped_memory s₂ found.grouped (λ k a b. f.behind k (omega arith));
-      kept = found.kept;
+      grouped = grouped_memory s₂ grouped (λ k a b. f.behind k (omega arith));
     }
 
     module _ (n kind : ℕ) (is-kind : kind ≡ kind_of n) {e₁ : End} (behind-kind : (e₁.at ≡ e.at + 1) × (e₁.nodes ≡ e.nodes + 1) × (e₁.entries ≡ e.entries)) where

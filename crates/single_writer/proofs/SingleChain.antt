@@ -29,7 +29,7 @@ use Rattle.tail_groups.proofs.Runs.{run_none, run_stops, run_goes}
 use Rattle.list_writer.specs.declared.End.{End}
 use Rattle.single_writer.specs.Heads.{HeadAsked, Front}
 use Rattle.kinds.specs.Kinds.{kind_of}
-use Rattle.single_writer.specs.Nodes.{node_of, SpanAsked, SpanWritten, NodeAsked, NodeWritten}
+use Rattle.single_writer.specs.Nodes.{node_of, SpanAsked, SpanWritten, NodeAsked}
 use Rattle.single_writer.specs.Singles.{single_bytes, SingleWritten, LeafWritten}
 use Rattle.single_writer.proofs.SingleNode.{not_ended, goes_node, goes_weight, ends_node, sizes, single_length, leaf_stands, single_stands}
 use Rattle.single_writer.proofs.WholeNode.{node_lists, span_head}
@@ -46,8 +46,8 @@ module _ (s : List ℕ) (work i k : ℕ) {b : Bool} (e : b ≡ ltb k (length (ta
   pub goes_not : b ≡ false → length (tail_in s work i).entry.path ≤ k
   goes_not h = ltb-false k (length (tail_in s work i).entry.path) (sym e ∙ h)
 
-pub goes_run : (s : List ℕ) (work i d : ℕ) (w : Bool) → d < length (tail_in s work i).entry.path → (p : ℕ) → p ≡ i → p + 0 ≡ p + length (run (ends_as d w) (tails_in s work p (i + 1)))
-goes_run s work i d w long p e = rw e (omega (arith, run_stops s work (i + 1) (ends_as d w) i (omega arith) (not_ended d (tail_in s work i) long w)))
+pub goes_run : (s : List ℕ) (work i d : ℕ) (w : Bool) → d < length (tail_in s work i).entry.path → i ≡ i + length (run (ends_as d w) (tails_in s work i (i + 1)))
+goes_run s work i d w long = omega (arith, run_stops s work (i + 1) (ends_as d w) i (omega arith) (not_ended d (tail_in s work i) long w))
 
 pub ends_run : (s : List ℕ) (work i d parts : ℕ) → length (tail_in s work i).entry.path ≡ d → parts ≡ i + length (run (ends_as d false) (tails_in s work i (i + 1)))
     → i + 1 ≡ parts + length (run (ends_as d true) (tails_in s work parts (i + 1)))
@@ -203,9 +203,9 @@ module _ {s : List ℕ} {work i d : ℕ} {e : End} {left : ℕ} (q : SpanAsked s
 
 -- ── a node of a single tail ──
 
-module _ {s : List ℕ} {work lo hi d : ℕ} {e : End} {buf : List ℕ} {left : ℕ} (q : NodeAsked s work lo hi d e buf left) (one : hi ≡ lo + 1) where
+module _ {s : List ℕ} {work lo hi d : ℕ} {e : End} {left : ℕ} (q : NodeAsked s work lo hi d e left) (one : hi ≡ lo + 1) where
   pub single_asked : SpanAsked s work lo (lo + 1) d e left
   single_asked = subst (λ (h : ℕ). SpanAsked s work lo h d e left) one q.span
 
-  pub single_node : {s' : List ℕ} {r : End} → SpanWritten s s' work lo (lo + 1) d e left r → NodeWritten s s' work lo hi d e buf buf left r
-  single_node {s'} {r} w = record { span = subst (λ (h : ℕ). SpanWritten s s' work lo h d e left r) (sym one) w; kept = λ k a. refl }
+  pub single_node : {s' : List ℕ} {r : End} → SpanWritten s s' work lo (lo + 1) d e left r → SpanWritten s s' work lo hi d e left r
+  single_node {s'} {r} w = subst (λ (h : ℕ). SpanWritten s s' work lo h d e left r) (sym one) w

@@ -2,7 +2,6 @@
 use Prim.Native.Nat.{ℕ, zero, suc, ◌+◌, ◌-◌, ◌*◌, ◌≤◌, ◌<◌}
 use native.Mathlib.Omega.{arith}
 use mathlib.Core.Path.{◌≡◌, refl, sym, ap, subst, ◌∙◌}
-use mathlib.Core.Logic.{inl}
 use mathlib.Core.List.Memᴰ.{head as here}
 use mathlib.Core.List.{List, [], ◌∷◌, ◌++◌, Memᴰ as Mem}
 use lib.ListN.{length}
@@ -28,11 +27,12 @@ use Rattle.tail_groups.specs.Ranks.{Apart}
 use Rattle.tail_groups.proofs.Memory.{tails_ext, held_ext, held_part}
 use Rattle.tail_groups.proofs.Distinct.{groups_different, apart_part}
 use Rattle.list_writer.specs.declared.End.{End}
+use Rattle.tail_groups.specs.declared.Grouping.{Grouping}
 use Rattle.single_writer.specs.declared.Head.{Head}
 use Rattle.single_writer.specs.Kids.{kids}
 use Rattle.slot_writer.specs.Turns.{groups_in}
 use Rattle.single_writer.specs.Heads.{HeadAsked, HeadWritten}
-use Rattle.single_writer.specs.Nodes.{child_node, children_in, TableAsked, TableWritten, node_of, SpanAsked, NodeAsked, NodeWritten}
+use Rattle.single_writer.specs.Nodes.{child_node, children_in, TableAsked, TableWritten, node_of, SpanAsked, SpanWritten, NodeAsked}
 use Rattle.single_writer.proofs.Orders.{forest_kids, length_kids}
 use Rattle.single_writer.proofs.Places.{kept_length, kept_total}
 use Rattle.single_writer.proofs.NodeHead.{below_longer}
@@ -75,7 +75,7 @@ span_head q order = record {
   counted = q.counted;
 }
 
-module _ {s : List ℕ} {work lo hi d : ℕ} {e : End} {buf : List ℕ} {left : ℕ} (q : NodeAsked s work lo hi d e buf left) where
+module _ {s : List ℕ} {work lo hi d : ℕ} {e : End} {left : ℕ} (q : NodeAsked s work lo hi d e left) where
   kids_are : children_of (node_of s work lo hi d left).children ≡ kids (child_node left d) (kept_groups (groups d (below d (tails_in s work lo hi))))
   kids_are = node_kids left d (tails_in s work lo hi) q.span.run q.span.depth
 
@@ -92,7 +92,7 @@ module _ {s : List ℕ} {work lo hi d : ℕ} {e : End} {buf : List ℕ} {left : 
 
   -- ── what the table asks ──
 
-  module _ {s₁ buf₁ : List ℕ} {h : Head} (w : HeadWritten s s₁ work lo hi d e buf buf₁ h) where
+  module _ {s₁ : List ℕ} {gr : Grouping} {h : Head} (w : HeadWritten s s₁ work lo hi d e gr h) where
     rest : tails_in s₁ work h.below hi ≡ below d (tails_in s work lo hi)
     rest = tails_ext s s₁ work h.below hi (λ k a b. w.front.behind k (omega arith)) ∙ w.rest
 
@@ -111,14 +111,13 @@ module _ {s : List ℕ} {work lo hi d : ℕ} {e : End} {buf : List ℕ} {left : 
         subst Apart (sym (tails_ext s s₁ work h.below hi (λ k a b. w.front.behind k (omega arith))))
         (apart_part s work lo hi h.below hi q.apart w.from w.upto (omega arith))
 
-    pub table_asked : length buf₁ ≡ length buf → TableAsked s₁ work h.below hi d h.groups h.end buf₁ left
+    pub table_asked : TableAsked s₁ work h.below hi d gr.count h.end gr left
     unfolding lists_size
-    table_asked long = record {
+    table_asked = record {
       order = w.upto;
       grouped = w.grouped;
       held = held_ext s s₁ work h.below hi (λ k a b. w.front.behind k (omega arith)) (held_part h.below hi q.span.held w.from (omega arith));
       memory = omega (arith, w.front.long, q.span.memory);
-      buffer = omega (arith, q.buffer);
       different = groups_different d (tails_in s₁ work h.below hi) apart₁;
       rising = subst (λ (gs : List Group). Rising (bytes_of gs)) (sym groups_are) (groups_rising d (tails_in s work lo hi) q.span.run);
       small = subst (λ (gs : List Group). (g : Group) → Mem g gs → g.byte < 256) (sym groups_are) small;
@@ -134,42 +133,39 @@ module _ {s : List ℕ} {work lo hi d : ℕ} {e : End} {buf : List ℕ} {left : 
 
     -- ── the whole ──
 
-    pub node_written : {s₂ buf₂ : List ℕ} {r : End} → TableWritten s₁ s₂ work h.below hi d h.groups h.end buf₁ buf₂ left r → NodeWritten s s₂ work lo hi d e buf buf₂ left r
+    pub node_written : {s₂ : List ℕ} {r : End} → TableWritten s₁ s₂ work h.below hi d gr.count h.end left r → SpanWritten s s₂ work lo hi d e left r
     unfolding Holds node_bytes node_size lists_size
-    node_written {s₂} {buf₂} {r} t =
+    node_written {s₂} {r} t =
         let H : Lists = group_lists d (tails_in s work lo hi) in
         let KS : List Child = kids (child_node left d) (kept_groups (groups d (below d (tails_in s work lo hi)))) in
         let same : children_in s₁ work h.below hi d left ≡ KS = ap (λ (gs : List Group). kids (child_node left d) (kept_groups gs)) groups_are in
-        let count : length KS ≡ h.groups =
+        let count : length KS ≡ gr.count =
         length_kids (child_node left d) (kept_groups (groups d (below d (tails_in s work lo hi)))) ∙ kept_length (groups d (below d (tails_in s work lo hi))) ∙ ap length (sym groups_are) ∙ sym w.grouped.count in
         let hl = head_length H in
         let at₁ : h.end.at ≡ e.at + 1 + (24 + 24 * entries_of H) = w.front.at in
-        let front : Holds s₂ e.at (kind_of h.groups ∷ lists_bytes H) = holds_ext s₁ s₂ e.at (kind_of h.groups ∷ lists_bytes H) (λ k a b. t.before k (omega (arith, hl))) w.front.bytes in
+        let front : Holds s₂ e.at (kind_of gr.count ∷ lists_bytes H) = holds_ext s₁ s₂ e.at (kind_of gr.count ∷ lists_bytes H) (λ k a b. t.before k (omega (arith, hl))) w.front.bytes in
         let off : h.end.at - 64 ≡ e.at - 64 + 1 + (24 + 24 * entries_of H) = omega (arith, q.span.from) in
-        let table : Holds s₂ (e.at + 1 + (24 + 24 * entries_of H)) (table_bytes (kind_of h.groups) (e.at - 64 + 1 + (24 + 24 * entries_of H)) KS) =
-        subst (λ (x : ℕ). Holds s₂ x (table_bytes (kind_of h.groups) (e.at - 64 + 1 + (24 + 24 * entries_of H)) KS)) at₁
-        (subst (λ (x : ℕ). Holds s₂ h.end.at (table_bytes (kind_of h.groups) x KS)) off (subst (λ (ks : List Child). Holds s₂ h.end.at (table_bytes (kind_of h.groups) (h.end.at - 64) ks)) same t.bytes)) in
-        let whole : Holds s₂ e.at (kind_of h.groups ∷ (lists_bytes H ++ table_bytes (kind_of h.groups) (e.at - 64 + 1 + (24 + 24 * entries_of H)) KS)) =
-        (front.0, holds_append s₂ (e.at + 1) (24 + 24 * entries_of H) (lists_bytes H) (table_bytes (kind_of h.groups) (e.at - 64 + 1 + (24 + 24 * entries_of H)) KS) hl front.1 table) in
-        let sized : r.at ≡ e.at + (1 + (24 + 24 * entries_of H) + table_size (kind_of h.groups) KS) =
-        t.at ∙ ap (λ (ks : List Child). h.end.at + table_size (kind_of h.groups) ks) same ∙ omega arith in
+        let table : Holds s₂ (e.at + 1 + (24 + 24 * entries_of H)) (table_bytes (kind_of gr.count) (e.at - 64 + 1 + (24 + 24 * entries_of H)) KS) =
+        subst (λ (x : ℕ). Holds s₂ x (table_bytes (kind_of gr.count) (e.at - 64 + 1 + (24 + 24 * entries_of H)) KS)) at₁
+        (subst (λ (x : ℕ). Holds s₂ h.end.at (table_bytes (kind_of gr.count) x KS)) off (subst (λ (ks : List Child). Holds s₂ h.end.at (table_bytes (kind_of gr.count) (h.end.at - 64) ks)) same t.bytes)) in
+        let whole : Holds s₂ e.at (kind_of gr.count ∷ (lists_bytes H ++ table_bytes (kind_of gr.count) (e.at - 64 + 1 + (24 + 24 * entries_of H)) KS)) =
+        (front.0, holds_append s₂ (e.at + 1) (24 + 24 * entries_of H) (lists_bytes H) (table_bytes (kind_of gr.count) (e.at - 64 + 1 + (24 + 24 * entries_of H)) KS) hl front.1 table) in
+        let sized : r.at ≡ e.at + (1 + (24 + 24 * entries_of H) + table_size (kind_of gr.count) KS) =
+        t.at ∙ ap (λ (ks : List Child). h.end.at + table_size (kind_of gr.count) ks) same ∙ omega arith in
         let nodes₂ : r.nodes ≡ h.end.nodes + nodes_in KS = t.nodes ∙ ap (λ (ks : List Child). h.end.nodes + nodes_in ks) same in
         let entries₂ : r.entries ≡ h.end.entries + entries_in KS = t.entries ∙ ap (λ (ks : List Child). h.end.entries + entries_in ks) same in
         let lists₂ : entries_of (node_of s work lo hi d left).lists ≡ entries_of H = ap entries_of (node_lists left d (tails_in s work lo hi)) in
         let lean₂ : r.at ≤ h.end.at + 8 + 64 * nodes_in KS + 24 * group_weights (suc d) (groups d (below d (tails_in s work lo hi))) =
         subst (λ (gs : List Group). r.at ≤ h.end.at + 8 + 64 * nodes_in (kids (child_node left d) (kept_groups gs)) + 24 * group_weights (suc d) gs) groups_are t.lean in
         record {
-          span = record {
-            bytes = rw (node_lists left d (tails_in s work lo hi), kids_are, count) whole;
-            at = rw (node_lists left d (tails_in s work lo hi), kids_are, count) sized;
-            nodes = omega (arith, nodes₂, w.front.nodes, nodes_are);
-            entries = omega (arith, entries₂, w.front.entries, entries_are, lists₂);
-            lean = omega (arith, lean₂, w.front.few, nodes_are, at₁);
-            counted_nodes = t.counted_nodes;
-            counted = t.counted;
-            long = t.long ∙ w.front.long;
-            before = λ k a. t.before k (omega (arith, at₁)) ∙ w.front.before k a;
-            behind = λ k a. t.behind k a ∙ w.front.behind k a;
-          };
-          kept = λ k a. t.kept k a ∙ w.kept k (inl a);
+          bytes = rw (node_lists left d (tails_in s work lo hi), kids_are, count) whole;
+          at = rw (node_lists left d (tails_in s work lo hi), kids_are, count) sized;
+          nodes = omega (arith, nodes₂, w.front.nodes, nodes_are);
+          entries = omega (arith, entries₂, w.front.entries, entries_are, lists₂);
+          lean = omega (arith, lean₂, w.front.few, nodes_are, at₁);
+          counted_nodes = t.counted_nodes;
+          counted = t.counted;
+          long = t.long ∙ w.front.long;
+          before = λ k a. t.before k (omega (arith, at₁)) ∙ w.front.before k a;
+          behind = λ k a. t.behind k a ∙ w.front.behind k a;
         }

@@ -1,5 +1,5 @@
 -- A node up to its table: its kind and its lists. Assumes nothing.
-use Rattle.std.specs.Prelude.{ℕ, suc, ◌+◌, ◌*◌, ◌≤◌, ◌<◌, ◌≡◌, true, false, ◌⊎◌, List, ◌∷◌, length, get_or}
+use Rattle.std.specs.Prelude.{ℕ, suc, ◌+◌, ◌*◌, ◌≤◌, ◌<◌, ◌≡◌, true, false, List, ◌∷◌, length, get_or}
 use Rattle.words.specs.Holding.{Holds}
 use Rattle.definitions.specs.Location.{normal}
 use Rattle.trie.specs.Trie.{Lists, entries_of}
@@ -10,6 +10,7 @@ use Rattle.tails.specs.Runs.{Run}
 use Rattle.tails.specs.Weights.{weights, group_weights}
 use Rattle.tail_words.specs.Tail.{tails_in, Held}
 use Rattle.tail_groups.specs.Found.{Grouped}
+use Rattle.tail_groups.specs.declared.Grouping.{Grouping}
 use Rattle.list_writer.specs.declared.End.{End}
 use Rattle.single_writer.specs.declared.Head.{Head}
 
@@ -73,10 +74,9 @@ pub record Front (s s' : List ℕ) (work lo hi d n : ℕ) (e r : End) : Type 0 w
   pub behind : (k : ℕ) → work ≤ k → get_or s' k 0 ≡ get_or s k 0
 
 -- the kind and the lists of the node of the tails number lo to hi - 1, and the groups of those that go on
-pub record HeadWritten (s s' : List ℕ) (work lo hi d : ℕ) (e : End) (buf buf' : List ℕ) (r : Head) : Type 0 where
+pub record HeadWritten (s s' : List ℕ) (work lo hi d : ℕ) (e : End) (x : Grouping) (r : Head) : Type 0 where
   pub from : lo ≤ r.below
   pub upto : r.below ≤ hi
   pub rest : tails_in s work r.below hi ≡ below d (tails_in s work lo hi)
-  pub front : Front s s' work lo hi d r.groups e r.end
-  pub grouped : Grouped s' work r.below hi d buf' r.groups
-  pub kept : (k : ℕ) → (k < d * 513) ⊎ (d * 513 + 513 ≤ k) → get_or buf' k 0 ≡ get_or buf k 0
+  pub front : Front s s' work lo hi d x.count e r.end
+  pub grouped : Grouped s' work r.below hi d x x.count

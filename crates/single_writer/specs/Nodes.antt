@@ -12,6 +12,7 @@ use Rattle.tails.specs.Runs.{Run}
 use Rattle.tails.specs.Weights.{weights, group_weights}
 use Rattle.tail_words.specs.Tail.{tails_in, Held}
 use Rattle.tail_groups.specs.Found.{Grouped}
+use Rattle.tail_groups.specs.declared.Grouping.{Grouping}
 use Rattle.tail_groups.specs.Ranks.{Apart}
 use Rattle.list_writer.specs.declared.End.{End}
 use Rattle.single_writer.specs.Kids.{kids}
@@ -27,12 +28,11 @@ child_node left d = group_node (left - 1) (suc d)
 abbrev pub children_in : List ℕ → ℕ → ℕ → ℕ → ℕ → ℕ → List Child
 children_in s work lo hi d left = kids (child_node left d) (kept_groups (groups_in s work lo hi d))
 
-pub record TableAsked (s : List ℕ) (work lo hi d n : ℕ) (e : End) (buf : List ℕ) (left : ℕ) : Type 0 where
+pub record TableAsked (s : List ℕ) (work lo hi d n : ℕ) (e : End) (x : Grouping) (left : ℕ) : Type 0 where
   pub order : lo ≤ hi
-  pub grouped : Grouped s work lo hi d buf n
+  pub grouped : Grouped s work lo hi d x n
   pub held : Held s work lo hi
   pub memory : work + 56 * hi ≤ length s
-  pub buffer : 8721 ≤ length buf
   pub different : Different (groups_in s work lo hi d)
   pub rising : Rising (bytes_of (groups_in s work lo hi d))
   pub small : (g : Group) → Memᴰ g (groups_in s work lo hi d) → g.byte < 256
@@ -44,7 +44,7 @@ pub record TableAsked (s : List ℕ) (work lo hi d n : ℕ) (e : End) (buf : Lis
   pub counted : e.entries ≤ e.at
   pub room : e.at + 39 + 64 * nodes_in (kids (child_node left d) (groups_in s work lo hi d)) + 24 * group_weights (suc d) (groups_in s work lo hi d) ≤ work
 
-pub record TableWritten (s s' : List ℕ) (work lo hi d n : ℕ) (e : End) (buf buf' : List ℕ) (left : ℕ) (r : End) : Type 0 where
+pub record TableWritten (s s' : List ℕ) (work lo hi d n : ℕ) (e : End) (left : ℕ) (r : End) : Type 0 where
   pub bytes : Holds s' e.at (table_bytes (kind_of n) (e.at - 64) (children_in s work lo hi d left))
   pub at : r.at ≡ e.at + table_size (kind_of n) (children_in s work lo hi d left)
   pub nodes : r.nodes ≡ e.nodes + nodes_in (children_in s work lo hi d left)
@@ -55,7 +55,6 @@ pub record TableWritten (s s' : List ℕ) (work lo hi d n : ℕ) (e : End) (buf 
   pub long : length s' ≡ length s
   pub before : (k : ℕ) → k < e.at → get_or s' k 0 ≡ get_or s k 0
   pub behind : (k : ℕ) → work ≤ k → get_or s' k 0 ≡ get_or s k 0
-  pub kept : (k : ℕ) → k < d * 513 → get_or buf' k 0 ≡ get_or buf k 0
 
 -- ── nodes ──
 
@@ -92,12 +91,7 @@ pub record SpanAsked (s : List ℕ) (work lo hi d : ℕ) (e : End) (left : ℕ) 
 abbrev pub SpanWritten : List ℕ → List ℕ → ℕ → ℕ → ℕ → ℕ → End → ℕ → End → Type 0
 SpanWritten s s' work lo hi d e left r = Stands s s' (node_of s work lo hi d left) (weights d (tails_in s work lo hi)) work e r
 
-pub record NodeAsked (s : List ℕ) (work lo hi d : ℕ) (e : End) (buf : List ℕ) (left : ℕ) : Type 0 where
+pub record NodeAsked (s : List ℕ) (work lo hi d : ℕ) (e : End) (left : ℕ) : Type 0 where
   pub span : SpanAsked s work lo hi d e left
   pub order : lo ≤ hi
   pub apart : Apart (tails_in s work lo hi)
-  pub buffer : 8721 ≤ length buf
-
-pub record NodeWritten (s s' : List ℕ) (work lo hi d : ℕ) (e : End) (buf buf' : List ℕ) (left : ℕ) (r : End) : Type 0 where
-  pub span : SpanWritten s s' work lo hi d e left r
-  pub kept : (k : ℕ) → k < d * 513 → get_or buf' k 0 ≡ get_or buf k 0

@@ -7,14 +7,13 @@ ghost use Rattle.single_writer.specs.Nodes.{SpanAsked, SpanWritten};
 ghost use Rattle.single_writer.specs.Singles.{SingleWritten, LeafWritten};
 ghost use Rattle.single_writer.specs.Heads.{ListsAsked, ListsWritten, HeadAsked, FrontAsked, Front};
 
-use list_writer::End;
-use slot_writer::Span;
+use list_writer::{End, Listed};
+use tail_groups::Span;
 
-// A node up to its table: where the tails begin that go on, how many groups they have, and where the image ends.
+// A node up to its table: where the tails begin that go on, and where the image ends.
 #[derive(Clone, Copy)]
 pub struct Head {
     pub below: usize,
-    pub groups: usize,
     pub end: End,
 }
 
@@ -23,21 +22,16 @@ fn put_lists(mem: &mut [u8], s: Span, parts: usize, below: usize, e: End) -> End
     requires { ListsAsked mem.old s.work s.lo parts below s.hi e }
     ensures { ListsWritten mem.old mem.new s.work s.lo parts below s.hi e result }
 {
-    let past_prefixes = list_writer::put_run_list(mem, s.work, s.lo, parts, e);
-    let past_chunks = list_writer::put_run_list(mem, s.work, parts, below, past_prefixes);
-    list_writer::put_suffix_list(mem, s.work, below, s.hi, past_chunks)
-}
-
-// The same for a single tail, as most nodes have: how many prefixes and chunks it makes says how it ends.
-fn put_single_lists(mem: &mut [u8], s: Span, prefixes: usize, chunks: usize, e: End) -> End
-    requires { ListsAsked mem.old s.work s.lo (s.lo + prefixes) (s.lo + prefixes + chunks) s.hi e × (s.hi ≡ s.lo + 1) }
-    ensures { ListsWritten mem.old mem.new s.work s.lo (s.lo + prefixes) (s.lo + prefixes + chunks) s.hi e result }
-{
-    let parts = s.lo + prefixes;
-    let below = parts + chunks;
-    let past_prefixes = list_writer::put_short_run_list(mem, s.work, s.lo, prefixes, e);
-    let past_chunks = list_writer::put_short_run_list(mem, s.work, parts, chunks, past_prefixes);
-    list_writer::put_short_suffix_list(mem, s.work, below, 1 - prefixes - chunks, past_chunks)
+    let prefixes = Span { hi: parts, ..s };
+    let chunks = Span {
+        lo: parts,
+        hi: below,
+        ..s
+    };
+    let suffixes = Span { lo: below, ..s };
+    let past_prefixes = list_writer::put_list(mem, prefixes, Listed::All, e);
+    let past_chunks = list_writer::put_list(mem, chunks, Listed::All, past_prefixes);
+    list_writer::put_list(mem, suffixes, Listed::Wholes, past_chunks)
 }
 
 // The end behind the kind of one more node.
@@ -48,7 +42,7 @@ fn behind_kind(e: End) -> End
     End {
         at: e.at + 1,
         nodes: e.nodes + 1,
-        entries: e.entries,
+        ..e
     }
 }
 
@@ -58,25 +52,8 @@ pub fn put_front(mem: &mut [u8], s: Span, parts: usize, below: usize, n: usize, 
     ensures { Front mem.old mem.new s.work s.lo s.hi s.depth n e result }
 {
     let at = e.at;
-    mem[at] = kinds::kind_of(n);
+    mem[at] = slot_writer::node_kind(n).number();
     put_lists(mem, s, parts, below, behind_kind(e))
-}
-
-// The same for a single tail.
-fn put_single_front(
-    mem: &mut [u8],
-    s: Span,
-    prefixes: usize,
-    chunks: usize,
-    n: usize,
-    e: End,
-) -> End
-    requires { FrontAsked mem.old s.work s.lo s.hi s.depth (s.lo + prefixes) (s.lo + prefixes + chunks) n e × (s.hi ≡ s.lo + 1) }
-    ensures { Front mem.old mem.new s.work s.lo s.hi s.depth n e result }
-{
-    let at = e.at;
-    mem[at] = kinds::kind_of(n);
-    put_single_lists(mem, s, prefixes, chunks, behind_kind(e))
 }
 
 // Writes the node of the single tail i, which goes on behind its first d bytes, up to the node below it.
@@ -90,7 +67,7 @@ fn put_single(mem: &mut [u8], work: usize, i: usize, d: usize, e: End) -> End
         hi: i + 1,
         depth: d,
     };
-    let front = put_single_front(mem, s, 0, 0, 1, e);
+    let front = put_front(mem, s, i, i, 1, e);
     let table = front.at;
     let byte = tail_groups::tail_byte(mem, work, i, d);
     words::put64(mem, table, 1);
@@ -98,8 +75,7 @@ fn put_single(mem: &mut [u8], work: usize, i: usize, d: usize, e: End) -> End
     slot_writer::put_slot(mem, table + 9, table + 17, 1);
     End {
         at: table + 18,
-        nodes: front.nodes,
-        entries: front.entries,
+        ..front
     }
 }
 
@@ -114,14 +90,13 @@ fn put_leaf(mem: &mut [u8], work: usize, i: usize, d: usize, e: End) -> End
         hi: i + 1,
         depth: d,
     };
-    let parts = tail_groups::run_end(mem, work, i, i + 1, d, false);
-    let front = put_single_front(mem, s, parts - i, i + 1 - parts, 0, e);
+    let parts = tail_groups::run_end(mem, s, false);
+    let front = put_front(mem, s, parts, i + 1, 0, e);
     let table = front.at;
     words::put64(mem, table, 0);
     End {
         at: table + 8,
-        nodes: front.nodes,
-        entries: front.entries,
+        ..front
     }
 }
 

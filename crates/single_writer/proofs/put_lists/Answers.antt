@@ -2,15 +2,15 @@
 use Rattle.single_writer.proofs.NodeLists.{second_asked, third_asked, lists_written}
 use Rattle.single_writer.proofs.put_lists.Goals as goal
 
-pub put_run_list-past_chunks-requires : goal.put_run_list-past_chunks-requires
-put_run_list-past_chunks-requires c =
-    let a = second_asked c.requires c.put_run_list-past_prefixes.ensures in
+pub put_list-past_chunks-requires : goal.put_list-past_chunks-requires
+put_list-past_chunks-requires c =
+    let a = second_asked c.requires c.put_list-past_prefixes.ensures in
     (c.requires.second, a.memory, a.room, a.counted)
 
-pub put_suffix_list-requires : goal.put_suffix_list-requires
-put_suffix_list-requires c =
-    let a = third_asked c.requires c.put_run_list-past_prefixes.ensures c.put_run_list-past_chunks.ensures in
+pub put_list-requires : goal.put_list-requires
+put_list-requires c =
+    let a = third_asked c.requires c.put_list-past_prefixes.ensures c.put_list-past_chunks.ensures in
     (c.requires.third, a.memory, a.room, a.counted)
 
 pub returns : goal.returns
-returns c = lists_written c.requires c.put_run_list-past_prefixes.ensures c.put_run_list-past_chunks.ensures c.put_suffix_list.ensures
+returns c = lists_written c.requires c.put_list-past_prefixes.ensures c.put_list-past_chunks.ensures c.put_list.ensures
