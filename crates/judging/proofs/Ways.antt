@@ -11,7 +11,7 @@ use Rattle.memory_header.specs.Layout.{Header}
 use Rattle.memory_header.specs.Answers.{header_of}
 use Rattle.memory_header.specs.declared.Header as C
 use Rattle.tally.specs.Tallied.{recorded}
-use Rattle.header_tally.specs.Tallies.{tally_in, with_tally}
+use Rattle.header_tally.specs.Tallies.{with_tally}
 use Rattle.judging.specs.Judged.{piece_count, block_nodes, grown, Verdict, counted, refused, verdict}
 
 -- by what it charges
@@ -54,5 +54,5 @@ module _ (c : Capacity) (clashes : Bool) (nodes entries n : ℕ) (l : Location) 
 
 -- the header that counts a block: what it charges goes to the tally
 pub grown_by : (h r : C.Header) (n x y z : ℕ) → x ≡ block_nodes n → y ≡ entry_charge n → z ≡ piece_count n
-    → r ≡ with_tally h (recorded (tally_in h) x y) (h.payload + z) → header_of r ≡ grown (header_of h) n
+    → r ≡ with_tally h (recorded h.tally x y) (h.payload + z) → header_of r ≡ grown (header_of h) n
 grown_by h r n x y z e f g w = ap header_of w ∙ rw (e, f, g) refl

@@ -10,16 +10,9 @@ ghost use Rattle.certificate.specs.Stored.{pieces_in, Stored};
 ghost use Rattle.judging.specs.Judged.{piece_count, block_nodes, counted_within, judged};
 ghost use Rattle.judging.specs.Verdicts.{verdict_of};
 
-use definitions::PIECE_SIZE;
+use definitions::{DATA_LIMIT, PIECE_SIZE, Refusal};
 use location::SpacetimeLocation;
 use memory_header::Header;
-
-// A block judged: the header that counts it too, or the number of its refusal.
-#[derive(Clone, Copy)]
-pub enum Judged {
-    Counted(Header),
-    Refused(u64),
-}
 
 // The nodes that a piece of 16 bytes charges.
 const WHOLE_PIECE_NODES: usize = 136;
@@ -33,20 +26,20 @@ fn block_nodes(n: usize) -> usize
 }
 
 // The header that counts a block of n bytes too, if there is room for it.
-fn count_block(h: Header, n: usize) -> Judged
-    requires { (n ≤ 4096) × (h.nodes ≤ h.node_room) × (h.entries ≤ h.entry_room) × (h.payload ≤ h.entries) }
+fn count_block(h: Header, n: usize) -> Result<Header, Refusal>
+    requires { (n ≤ 4096) × (h.tally.nodes ≤ h.capacity.nodes) × (h.tally.entries ≤ h.capacity.entries) × (h.payload ≤ h.tally.entries) }
     ensures { verdict_of result ≡ counted_within (header_of h) n }
 {
     let nodes = block_nodes(n);
     let entries = index_memory::entry_charge(n);
-    if h.node_room - h.nodes < nodes {
-        return Judged::Refused(definitions::TOO_MANY_NODES);
+    if h.capacity.nodes - h.tally.nodes < nodes {
+        return Err(Refusal::TooManyNodes);
     }
-    if h.entry_room - h.entries < entries {
-        return Judged::Refused(definitions::TOO_MANY_ENTRIES);
+    if h.capacity.entries - h.tally.entries < entries {
+        return Err(Refusal::TooManyEntries);
     }
     let pieces = piece_count(n);
-    Judged::Counted(header_tally::charged(h, nodes, entries, h.payload + pieces))
+    Ok(header_tally::charged(h, nodes, entries, h.payload + pieces))
 }
 
 // How many pieces a block of n bytes has.
@@ -54,29 +47,32 @@ pub fn piece_count(n: usize) -> usize
     requires { n ≤ 4096 }
     ensures { result ≡ piece_count n }
 {
-    if n == 0 {
-        return 1;
-    }
-    (n + PIECE_SIZE - 1) / PIECE_SIZE
+    n.div_ceil(PIECE_SIZE).max(1)
 }
 
-// A Memory block judged behind the pieces that h counts, of which so many have a byte.
-pub fn judge(mem: &[u8], h: Header, count: usize, l: SpacetimeLocation, data: &[u8]) -> Judged
-    requires { (h.nodes ≤ h.node_room) × (h.entries ≤ h.entry_room) × (h.payload ≤ h.entries) × Stored mem.now (header_of h) count }
+// A Memory block judged behind the pieces that h counts, of which so many have a byte: the header that counts it too.
+pub fn judge(
+    mem: &[u8],
+    h: Header,
+    count: usize,
+    l: SpacetimeLocation,
+    data: &[u8],
+) -> Result<Header, Refusal>
+    requires { (h.tally.nodes ≤ h.capacity.nodes) × (h.tally.entries ≤ h.capacity.entries) × (h.payload ≤ h.tally.entries) × Stored mem.now (header_of h) count }
     ensures { verdict_of result ≡ judged (header_of h) (clash (pieces (record { bytes = «data».now; at = plain l })) (pieces_in mem.now (header_of h))) (length «data».now) (plain l) }
 {
     let n = data.len();
-    if definitions::DATA_LIMIT < n {
-        return Judged::Refused(definitions::DATA_TOO_LONG);
+    if DATA_LIMIT < n {
+        return Err(Refusal::DataTooLong);
     }
     if l.destroyed_at.0 <= l.created_at.0 {
-        return Judged::Refused(definitions::NO_LIFE);
+        return Err(Refusal::NoLife);
     }
     if u64::MAX - (n as u64) < l.address.0 {
-        return Judged::Refused(definitions::ADDRESS_TOO_HIGH);
+        return Err(Refusal::AddressTooHigh);
     }
     if clashing::clashes(mem, h, count, l, n) {
-        return Judged::Refused(definitions::CONFLICT);
+        return Err(Refusal::Conflict);
     }
     count_block(h, n)
 }

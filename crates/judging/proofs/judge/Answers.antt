@@ -8,29 +8,8 @@ use Rattle.definitions.proofs.Conflicts.{block_clashes}
 use Rattle.location.specs.Plain.{plain}
 use Rattle.memory_header.specs.Answers.{header_of}
 use Rattle.certificate.specs.Stored.{pieces_in}
-use Rattle.judging.proofs.Ways.{refused_4, refused_5, refused_6, refused_18, charge_decides}
+use Rattle.judging.proofs.Ways.{refused_18, charge_decides}
 use Rattle.judging.proofs.judge.Goals as goal
-
-pub returns-then-n-gt-DATA_LIMIT : goal.returns-then-n-gt-DATA_LIMIT
-returns-then-n-gt-DATA_LIMIT c =
-    let a = c.args in
-    let b : Block = record { bytes = a.«data».now; at = plain a.l } in
-    refused_4 (header_of a.h).capacity (clash (pieces b) (pieces_in a.mem.now (header_of a.h))) _ _ (length a.«data».now) (plain a.l) _ c.if-n-gt-DATA_LIMIT.true
-
-pub returns-then-l : goal.returns-then-l
-returns-then-l c =
-    let a = c.args in
-    let b : Block = record { bytes = a.«data».now; at = plain a.l } in
-    refused_5 (header_of a.h).capacity (clash (pieces b) (pieces_in a.mem.now (header_of a.h))) _ _ (length a.«data».now) (plain a.l) _ c.if-n-gt-DATA_LIMIT.false c.if-l.true
-
-pub returns-then-n-l : goal.returns-then-n-l
-returns-then-n-l c =
-    let a = c.args in
-    let b : Block = record { bytes = a.«data».now; at = plain a.l } in
-    refused_6 (header_of a.h).capacity (clash (pieces b) (pieces_in a.mem.now (header_of a.h))) _ _ (length a.«data».now) (plain a.l) _ c.if-n-gt-DATA_LIMIT.false c.if-l.false (omega arith)
-
-pub clashes-requires : goal.clashes-requires
-clashes-requires c = (c.requires.3, c.if-l.false, omega arith)
 
 pub returns-then-clashes : goal.returns-then-clashes
 returns-then-clashes c =
@@ -38,9 +17,6 @@ returns-then-clashes c =
     let b : Block = record { bytes = a.«data».now; at = plain a.l } in
     let e = sym (c.clashes.ensures b refl refl ∙ sym (block_clashes b (pieces_in a.mem.now (header_of a.h)))) in
     refused_18 (header_of a.h).capacity (clash (pieces b) (pieces_in a.mem.now (header_of a.h))) _ _ (length a.«data».now) (plain a.l) _ c.if-n-gt-DATA_LIMIT.false c.if-l.false (omega arith) (e ∙ c.if-clashes.true)
-
-pub count_block-requires : goal.count_block-requires
-count_block-requires c = (c.if-n-gt-DATA_LIMIT.false, c.requires.0, c.requires.1, c.requires.2)
 
 pub returns : goal.returns
 returns c =
