@@ -3,7 +3,8 @@ use Prim.Native.Nat.{ℕ, ◌-◌, ◌<◌}
 use native.Mathlib.Omega.{arith}
 use mathlib.Core.Path.{◌≡◌, refl, sym, ap, subst, ◌∙◌}
 use mathlib.Core.List.{List, [], ◌∷◌, ◌++◌, append-nil, append_assoc}
-use mathlib.Core.Option.{Option, some}
+use mathlib.Core.Option.{Option as Maybe, some}
+use Rattle.std.specs.Prelude.{Option, Some}
 use Rattle.definitions.specs.Location.{Location}
 use Rattle.trie.specs.Trie.{Node, collect, collect_forest}
 use Rattle.image_format.specs.Held.{Entry}
@@ -16,7 +17,7 @@ use Rattle.image_walk.proofs.Here.{here_bounds, here_leaf, here_slots}
 use Rattle.place_buffer.specs.declared.Places.{Places}
 use Rattle.place_buffer.specs.Buffer.{Valid, Taken}
 use Rattle.place_buffer.proofs.Adding.{taken_none, taken_more}
-use Rattle.collecting.specs.Collected.{Standing, Collected, Reached, Followed}
+use Rattle.collecting.specs.Collected.{Standing, LeadsTo, Collected, Reached, Followed}
 use Rattle.collecting.proofs.Nodes.{Both, both_taken, children_are}
 use Rattle.collecting.proofs.Passing.{First, first_of, no_more}
 
@@ -30,22 +31,23 @@ record Only (img : List ℕ) (d at : ℕ) (n : Node) : Type 0 where
 
 only_slot : (img : List ℕ) (table children : ℕ) {e : Entry} → some e ≡ slot_in img table children 0 → (k : ℕ) → k ≡ 1 → slots_from img table children k 0 ≡ e ∷ []
 unfolding slots_from
-only_slot img table children h k z = rw z (ap (λ (o : Option Entry). put o []) (sym h))
+only_slot img table children h k z = rw z (ap (λ (o : Maybe Entry). put o []) (sym h))
 
-module _ {img : List ℕ} {at d : ℕ} {m : Parts} (p : m ≡ parts_at img at) (z : m.children ≡ 1) {e : Entry} (k : some e ≡ slot_in img m.table m.children 0) where
+module _ {img : List ℕ} {at d : ℕ} {m : Parts} (p : m ≡ parts_at img at) {next : ℕ} (k : LeadsTo img m.table next) where
   -- a node with an entry has a level below it
   level_below : {n : Node} → NodeHere img d at n → d ≡ 0 → ⊥
   level_below {n} h l =
       let g : NodeHere img 0 at n = subst (λ (i : ℕ). NodeHere img i at n) l h in
-      let q : slots_from img m.table m.children m.children 0 ≡ [] = rw p (here_slots g ∙ (here_leaf g).1) in
-      let c : e ∷ [] ≡ [] = sym (only_slot img m.table m.children k m.children z) ∙ q in
+      let q : slots_from img m.table.at m.table.count m.table.count 0 ≡ [] = rw p (here_slots g ∙ (here_leaf g).1) in
+      let entry : Entry = record { byte = k.byte; node = next } in
+      let c : entry ∷ [] ≡ [] = sym (only_slot img m.table.at m.table.count k.slot m.table.count k.single) ∙ q in
       let y : ◌≡◌ {A = ℕ} 0 1 = cc in
       omega arith
 
-  only_child : {n : Node} → NodeHere img d at n → Only img (d - 1) e.node n
-  only_child {n} h = go (first_of img (d - 1) e [] n.children (subst (λ (es : List Entry). Matches img (d - 1) es n.children) (only_slot img m.table m.children k m.children z) (children_are p h (level_below h))))
+  only_child : {n : Node} → NodeHere img d at n → Only img (d - 1) next n
+  only_child {n} h = go (first_of img (d - 1) (record { byte = k.byte; node = next }) [] n.children (subst (λ (es : List Entry). Matches img (d - 1) es n.children) (only_slot img m.table.at m.table.count k.slot m.table.count k.single) (children_are p h (level_below h))))
     where
-      go : First img (d - 1) [] e.node n.children → Only img (d - 1) e.node n
+      go : First img (d - 1) [] next n.children → Only img (d - 1) next n
       go f =
           let none : collect_forest n.children ≡ collect f.node = f.whole ∙ ap (λ (ls : List Location). collect f.node ++ ls) (no_more img (d - 1) f.later f.matches) ∙ append-nil (collect f.node) in
           record { child = f.node; here = f.here; whole = ap (λ (ls : List Location). n.lists.prefixes ++ n.lists.chunks ++ ls) none }
@@ -64,30 +66,30 @@ module _ {img s s' : List ℕ} {p r : Places} {m : Parts} {d at left : ℕ} (h :
   pub followed_stands : Standing img d at → Standing img left h.next
   followed_stands k = let q = h.reached k.node k.here in record { node = q.node; here = q.here }
 
-  pub followed_taken : (k : Standing img d at) → Taken s s' p (h.reached k.node k.here).done r
+  pub followed_taken : (k : Standing img d at) → Taken s s' p (h.reached k.node k.here).done (Some r)
   followed_taken k = (h.reached k.node k.here).taken
 
-  pub followed_table : Standing img d at → TableHere img m.table m.children
+  pub followed_table : Standing img d at → TableHere img m.table.at m.table.count
   followed_table k = rw h.parts (here_bounds (followed_stands k).here).table
 
   -- what the node reached and all under it hold is the rest
-  pub followed_collected : {s'' : List ℕ} {r' : Places} → Collected img left h.next s' s'' r r' → Collected img d at s s'' p r'
-  followed_collected {s''} {r'} c = record { taken = λ n k. go (h.reached n k) }
+  pub followed_collected : {s'' : List ℕ} {o : Option Places} → Collected img left h.next s' s'' r o → Collected img d at s s'' p o
+  followed_collected {s''} {o} c = record { taken = λ n k. go (h.reached n k) }
     where
-      go : {n : Node} → Reached img left h.next s s' p r n → Taken s s'' p (collect n) r'
-      go q = subst (λ (ls : List Location). Taken s s'' p ls r') (sym q.whole) (taken_more q.taken (c.taken q.node q.here))
+      go : {n : Node} → Reached img left h.next s s' p r n → Taken s s'' p (collect n) o
+      go q = subst (λ (ls : List Location). Taken s s'' p ls o) (sym q.whole) (taken_more q.taken (c.taken q.node q.here))
 
   -- its only entry leads to a node
-  module _ (z : m.children ≡ 1) {b next : ℕ} (e : some (record { byte = b; node = next }) ≡ slot_in img m.table m.children 0) where
+  module _ {next : ℕ} (e : LeadsTo img m.table next) where
     pub follow_level : Standing img d at → 0 < left
     follow_level k =
-        let l : left ≡ 0 → ⊥ = level_below h.parts z e (followed_stands k).here in
+        let l : left ≡ 0 → ⊥ = level_below h.parts e (followed_stands k).here in
         omega arith
 
     pub follow_stands : Standing img d at → Standing img (left - 1) next
-    follow_stands k = let o = only_child h.parts z e (followed_stands k).here in record { node = o.child; here = o.here }
+    follow_stands k = let o = only_child h.parts e (followed_stands k).here in record { node = o.child; here = o.here }
 
-    pub follow_next : {s'' : List ℕ} {r' : Places} {m' : Parts} → m' ≡ parts_at img next → Both img m s' s'' r r' → Followed img d at s s'' p m' (left - 1) r'
+    pub follow_next : {s'' : List ℕ} {r' : Places} {m' : Parts} → m' ≡ parts_at img next → Both img m s' s'' r (Some r') → Followed img d at s s'' p m' (left - 1) r'
     follow_next {s''} {r'} f t = record {
       next = next;
       parts = f;
@@ -97,7 +99,7 @@ module _ {img s s' : List ℕ} {p r : Places} {m : Parts} {d at left : ℕ} (h :
       where
         go : {n : Node} → Reached img left h.next s s' p r n → Reached img (left - 1) next s s'' p r' n
         go q =
-            let o = only_child h.parts z e q.here in
+            let o = only_child h.parts e q.here in
             let own = q.node.lists.prefixes ++ q.node.lists.chunks in
             record {
               done = q.done ++ own;

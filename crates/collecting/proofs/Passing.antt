@@ -2,10 +2,10 @@
 use Prim.Native.Nat.{ℕ, suc, ◌+◌, ◌-◌, ◌≤◌, ◌<◌}
 use native.Mathlib.Omega.{arith}
 use mathlib.Core.Path.{◌≡◌, refl, sym, ap, subst, ◌∙◌}
-use mathlib.Core.Bool.{true}
 use mathlib.Core.List.Memᴰ.{append_left}
 use mathlib.Core.List.{List, [], ◌∷◌, ◌++◌, append-nil, append_assoc}
-use mathlib.Core.Option.{Option, none, some}
+use mathlib.Core.Option.{Option as Maybe, none, some}
+use Rattle.std.specs.Prelude.{Some, None}
 use Rattle.definitions.specs.Location.{Location}
 use Rattle.trie.specs.Trie.{Forest, leaf, more, Node, collect, collect_forest}
 use Rattle.image_format.specs.Held.{Entry}
@@ -23,7 +23,7 @@ pub record Passed (img : List ℕ) (d table children j : ℕ) (s s' : List ℕ) 
   pub rest : Forest
   pub whole : collect_forest f ≡ done ++ collect_forest rest
   pub matches : Matches img d (slots_from img table children (children - j) j) rest
-  pub taken : Taken s s' p done r
+  pub taken : Taken s s' p done (Some r)
 
 -- so of all siblings that the table leads to
 pub record Passing (img : List ℕ) (d table children j : ℕ) (s s' : List ℕ) (p r : Places) : Type 0 where
@@ -51,7 +51,7 @@ no_more img d (more b h below later) m = absurd m
 -- ── the slots from number j on ──
 
 module _ (img : List ℕ) (table children j : ℕ) where
-  slots_next : j < children → (o : Option Entry) → o ≡ slot_in img table children j → slots_from img table children (children - j) j ≡ put o (slots_from img table children (children - (j + 1)) (j + 1))
+  slots_next : j < children → (o : Maybe Entry) → o ≡ slot_in img table children j → slots_from img table children (children - j) j ≡ put o (slots_from img table children (children - (j + 1)) (j + 1))
   unfolding slots_from
   slots_next h o e =
       let f : children - j ≡ suc (children - (j + 1)) = omega arith in
@@ -77,24 +77,17 @@ passing_none {img} d table children v = record {
 
 module _ {img s s' : List ℕ} {p r : Places} {d table children j : ℕ} (h : Passing img d table children j s s' p r) where
   -- what the table leads to, as far as it is collected
-  pub passing_taken : (k : Siblings img d table children) → Taken s s' p (h.passed k.forest k.matches).done r
+  pub passing_taken : (k : Siblings img d table children) → Taken s s' p (h.passed k.forest k.matches).done (Some r)
   passing_taken k = (h.passed k.forest k.matches).taken
 
-  -- a refused set is refused, whatever else were collected
-  pub passing_refused : r.full ≡ true → AllCollected img d table children s s' p r
-  passing_refused e = record { taken = λ f m. go (h.passed f m) }
-    where
-      go : {f : Forest} → Passed img d table children j s s' p r f → Taken s s' p (collect_forest f) r
-      go q = taken_over q.taken e (subst (Within q.done) (sym q.whole) (λ x k. append_left (collect_forest q.rest) k))
-
-  pub passing_done : children ≤ j → AllCollected img d table children s s' p r
+  pub passing_done : children ≤ j → AllCollected img d table children s s' p (Some r)
   passing_done l = record { taken = λ f m. go f (h.passed f m) }
     where
-      go : (f : Forest) → Passed img d table children j s s' p r f → Taken s s' p (collect_forest f) r
+      go : (f : Forest) → Passed img d table children j s s' p r f → Taken s s' p (collect_forest f) (Some r)
       go f q =
           let none : collect_forest q.rest ≡ [] = no_more img d q.rest (subst (λ (es : List Entry). Matches img d es q.rest) (slots_end img table children j l) q.matches) in
           let e : collect_forest f ≡ q.done = q.whole ∙ ap (λ (ls : List Location). q.done ++ ls) none ∙ append-nil q.done in
-          subst (λ (ls : List Location). Taken s s' p ls r) (sym e) q.taken
+          subst (λ (ls : List Location). Taken s s' p ls (Some r)) (sym e) q.taken
 
   -- slot j is empty
   pub passing_empty : j < children → none ≡ slot_in img table children j → Passing img d table children (j + 1) s s' p r
@@ -122,7 +115,7 @@ module _ {img s s' : List ℕ} {p r : Places} {d table children j : ℕ} (h : Pa
         go : {f : Forest} → Passed img d table children j s s' p r f → Standing img d at
         go q = let x = first q q.rest q.matches in record { node = x.node; here = x.here }
 
-    pub passing_child : {s'' : List ℕ} {r' : Places} → Collected img d at s' s'' r r' → Passing img d table children (j + 1) s s'' p r'
+    pub passing_child : {s'' : List ℕ} {r' : Places} → Collected img d at s' s'' r (Some r') → Passing img d table children (j + 1) s s'' p r'
     passing_child {s''} {r'} c = record { within = omega arith; passed = λ f m. go f (h.passed f m) }
       where
         go : (f : Forest) → Passed img d table children j s s' p r f → Passed img d table children (j + 1) s s'' p r' f
@@ -135,3 +128,13 @@ module _ {img s s' : List ℕ} {p r : Places} {d table children j : ℕ} (h : Pa
               matches = x.matches;
               taken = taken_more q.taken (c.taken x.node x.here);
             }
+
+    -- what that holds has no room, whatever else were collected
+    pub passing_over : {s'' : List ℕ} → Collected img d at s' s'' r None → AllCollected img d table children s s'' p None
+    passing_over {s''} c = record { taken = λ f m. go f (h.passed f m) }
+      where
+        go : (f : Forest) → Passed img d table children j s s' p r f → Taken s s'' p (collect_forest f) None
+        go f q =
+            let x = first q q.rest q.matches in
+            let whole : collect_forest f ≡ q.done ++ collect x.node ++ collect_forest x.later = q.whole ∙ ap (λ (ls : List Location). q.done ++ ls) x.whole ∙ sym (append_assoc q.done (collect x.node) (collect_forest x.later)) in
+            taken_over (taken_more q.taken (c.taken x.node x.here)) (subst (Within (q.done ++ collect x.node)) (sym whole) (λ y k. append_left (collect_forest x.later) k))

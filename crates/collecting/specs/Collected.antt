@@ -1,10 +1,12 @@
 -- What collecting from an image in place asks for, and what it adds to a set of places. Assumes nothing.
-use Rattle.std.specs.Prelude.{ℕ, ◌≤◌, ◌≡◌, List, ◌++◌}
+use Rattle.std.specs.Prelude.{ℕ, ◌≤◌, ◌≡◌, List, ◌++◌, Option, Some}
 use Rattle.definitions.specs.Location.{Location}
+use Rattle.std.proofs.Math.Option.{some}
 use Rattle.trie.specs.Trie.{Forest, Node, collect, collect_forest}
 use Rattle.image_walk.specs.declared.Node.{Node as Parts}
 use Rattle.image_walk.specs.Parts.{parts_at}
-use Rattle.image_walk.specs.Tables.{slots_from}
+use Rattle.image_walk.specs.declared.Table.{Table}
+use Rattle.image_walk.specs.Tables.{slot_in, slots_from}
 use Rattle.image_walk.specs.Bounds.{TableHere}
 use Rattle.image_walk.specs.Here.{NodeHere, Matches}
 use Rattle.place_buffer.specs.declared.Places.{Places}
@@ -23,19 +25,27 @@ pub record Siblings (img : List ℕ) (d table children : ℕ) : Type 0 where
   pub bounds : TableHere img table children
   pub matches : Matches img d (slots_from img table children children 0) forest
 
--- ── what is added: the set p in s became the set r in s' ──
+-- ── the way down ──
+
+-- a table has one entry, which leads to the node at index `at`
+pub record LeadsTo (img : List ℕ) (table : Table) (at : ℕ) : Type 0 where
+  pub single : table.count ≡ 1
+  pub byte : ℕ
+  pub slot : some (record { byte = byte; node = at }) ≡ slot_in img table.at table.count 0
+
+-- ── what is added: the set p in s became the set o in s', or has no room ──
 
 -- the prefixes and chunks of the node at index `at` and of all under it
-pub record Collected (img : List ℕ) (d at : ℕ) (s s' : List ℕ) (p r : Places) : Type 0 where
-  pub taken : (n : Node) → NodeHere img d at n → Taken s s' p (collect n) r
+pub record Collected (img : List ℕ) (d at : ℕ) (s s' : List ℕ) (p : Places) (o : Option Places) : Type 0 where
+  pub taken : (n : Node) → NodeHere img d at n → Taken s s' p (collect n) o
 
 -- those of the siblings that a table leads to and of all under them
-pub record AllCollected (img : List ℕ) (d table children : ℕ) (s s' : List ℕ) (p r : Places) : Type 0 where
-  pub taken : (f : Forest) → Matches img d (slots_from img table children children 0) f → Taken s s' p (collect_forest f) r
+pub record AllCollected (img : List ℕ) (d table children : ℕ) (s s' : List ℕ) (p : Places) (o : Option Places) : Type 0 where
+  pub taken : (f : Forest) → Matches img d (slots_from img table children children 0) f → Taken s s' p (collect_forest f) o
 
 -- the suffixes and chunks of the node at index `at`
-pub record Ended (img : List ℕ) (at : ℕ) (s s' : List ℕ) (p r : Places) : Type 0 where
-  pub taken : (d : ℕ) (n : Node) → NodeHere img d at n → Taken s s' p (n.lists.suffixes ++ n.lists.chunks) r
+pub record Ended (img : List ℕ) (at : ℕ) (s s' : List ℕ) (p : Places) (o : Option Places) : Type 0 where
+  pub taken : (d : ℕ) (n : Node) → NodeHere img d at n → Taken s s' p (n.lists.suffixes ++ n.lists.chunks) o
 
 -- ── nodes left behind on the way down ──
 
@@ -45,7 +55,7 @@ pub record Reached (img : List ℕ) (d at : ℕ) (s s' : List ℕ) (p r : Places
   pub node : Node
   pub here : NodeHere img d at node
   pub whole : collect n ≡ done ++ collect node
-  pub taken : Taken s s' p done r
+  pub taken : Taken s s' p done (Some r)
 
 -- from index `at` down a node with these parts is reached, with at most so many of d levels below it
 pub record Followed (img : List ℕ) (d at : ℕ) (s s' : List ℕ) (p : Places) (m : Parts) (left : ℕ) (r : Places) : Type 0 where

@@ -1,13 +1,15 @@
 // Collecting places from an image in place: what a node and all under it hold goes into a set of places.
 #![tactic(auto)]
 
-ghost use Rattle.std.specs.Prelude.{◌+◌, ◌*◌, ◌≤◌, ◌++◌, length};
+ghost use Rattle.std.specs.Prelude.{◌≡◌, ◌+◌, ◌*◌, ◌≤◌, ◌++◌, length, MatchOption, None, ⊤};
 ghost use Rattle.definitions.specs.Location.{locations_in};
+ghost use Rattle.image_walk.specs.Bounds.{TableHere};
 ghost use Rattle.image_walk.specs.Here.{Laid};
 ghost use Rattle.place_buffer.specs.Buffer.{Valid, Taken};
-ghost use Rattle.collecting.specs.Collected.{Standing, Siblings, Collected, AllCollected, Ended, Followed};
+ghost use Rattle.collecting.specs.Collected.{Standing, Siblings, LeadsTo, Collected, AllCollected, Ended, Followed};
 
-use image_walk::{Node, Slot};
+use image_walk::{Node, Table};
+use location_lists::List;
 use place_buffer::Places;
 
 // Where following ends: the first node with other than one child, how many levels are left below it, and the set by then.
@@ -18,84 +20,77 @@ struct Stop {
     places: Places,
 }
 
-// Adds the n locations from byte at of img on to a set. Most lists are empty, and these cost no call.
-fn take_any(img: &[u8], at: usize, n: usize, scratch: &mut [u8], p: Places) -> Places
-    requires { (at + n * 24 ≤ length img.now) × Valid scratch.old p }
-    ensures { Taken scratch.old scratch.new p (locations_in img.now n at) result }
+// Adds the locations of a list in img to a set. Most lists are empty, and these cost no call.
+fn take_any(img: &[u8], list: List, scratch: &mut [u8], p: Places) -> Option<Places>
+    requires { (list.at + list.count * 24 ≤ length img.now) × Valid scratch.old p }
+    ensures { Taken scratch.old scratch.new p (locations_in img.now list.count list.at) result }
 {
-    if n == 0 {
-        return p;
+    if list.count == 0 {
+        return Some(p);
     }
-    place_buffer::take_list(img, at, n, scratch, p)
+    place_buffer::take_list(img, list, scratch, p)
 }
 
 // Adds the prefixes and chunks of a node.
-fn take_both(img: &[u8], n: Node, scratch: &mut [u8], p: Places) -> Places
-    requires { (n.prefixes + n.prefix_count * 24 ≤ length img.now) × (n.chunks + n.chunk_count * 24 ≤ length img.now) × Valid scratch.old p }
-    ensures { Taken scratch.old scratch.new p (locations_in img.now n.prefix_count n.prefixes ++ locations_in img.now n.chunk_count n.chunks) result }
+fn take_both(img: &[u8], n: Node, scratch: &mut [u8], p: Places) -> Option<Places>
+    requires { (n.prefixes.at + n.prefixes.count * 24 ≤ length img.now) × (n.chunks.at + n.chunks.count * 24 ≤ length img.now) × Valid scratch.old p }
+    ensures { Taken scratch.old scratch.new p (locations_in img.now n.prefixes.count n.prefixes.at ++ locations_in img.now n.chunks.count n.chunks.at) result }
 {
-    let a = take_any(img, n.prefixes, n.prefix_count, scratch, p);
-    take_any(img, n.chunks, n.chunk_count, scratch, a)
+    let a = take_any(img, n.prefixes, scratch, p)?;
+    take_any(img, n.chunks, scratch, a)
+}
+
+// Where the only entry of a table leads; none where it has none, or several.
+fn only_child(img: &[u8], table: Table) -> Option<usize>
+    requires { TableHere img.now table.at table.count }
+    ensures { MatchOption result ⊤ (λ at. LeadsTo img.now table at) }
+{
+    if table.count != 1 {
+        return None;
+    }
+    image_walk::slot_in(img, table, 0).map(|e| e.node)
 }
 
 // Follows nodes with one child from index at down, and adds the prefixes and chunks of those that it leaves behind.
-fn follow_single(img: &[u8], at: usize, left: usize, scratch: &mut [u8], p: Places) -> Stop
+fn follow_single(img: &[u8], at: usize, left: usize, scratch: &mut [u8], p: Places) -> Option<Stop>
     requires { Standing img.now left at × Valid scratch.old p }
-    ensures { Followed img.now left at scratch.old scratch.new p result.node result.left result.places }
+    ensures { MatchOption result (Collected img.now left at scratch.old scratch.new p None) (λ e. Followed img.now left at scratch.old scratch.new p e.node e.left e.places) }
 {
     let mut node = image_walk::node_at(img, at);
     let mut rest = left;
     let mut r = p;
-    while node.children == 1 {
-        let slot = image_walk::slot_in(img, node.table, node.children, 0);
-        let Slot::Taken { byte: _, at: next } = slot else {
-            return Stop {
-                node,
-                left: rest,
-                places: r,
-            };
-        };
-        r = take_both(img, node, scratch, r);
+    while let Some(next) = only_child(img, node.table) {
+        r = take_both(img, node, scratch, r)?;
         node = image_walk::node_at(img, next);
         rest -= 1;
     }
-    Stop {
+    Some(Stop {
         node,
         left: rest,
         places: r,
-    }
+    })
 }
 
-// Adds the prefixes and chunks of the nodes that a table of so many entries leads to, and of all under them.
+// Adds the prefixes and chunks of the nodes that a table leads to, and of all under them.
 // Each of those nodes has at most left levels below it.
 #[cycle(collect_all_substrings_collect_children)]
 fn collect_children(
     img: &[u8],
-    table: usize,
-    children: usize,
+    table: Table,
     left: usize,
     scratch: &mut [u8],
     p: Places,
-) -> Places
-    requires { Siblings img.now left table children × Valid scratch.old p }
-    ensures { AllCollected img.now left table children scratch.old scratch.new p result }
+) -> Option<Places>
+    requires { Siblings img.now left table.at table.count × Valid scratch.old p }
+    ensures { AllCollected img.now left table.at table.count scratch.old scratch.new p result }
 {
     let mut r = p;
-    let mut i = 0;
-    while i < children {
-        if r.full {
-            return r;
-        }
-        let j = i;
-        i = j + 1;
-        match image_walk::slot_in(img, table, children, j) {
-            Slot::Empty => {}
-            Slot::Taken { byte: _, at } => {
-                r = collect_all_substrings(img, at, left, scratch, r);
-            }
+    for j in 0..table.count {
+        if let Some(e) = image_walk::slot_in(img, table, j) {
+            r = collect_all_substrings(img, e.node, left, scratch, r)?;
         }
     }
-    r
+    Some(r)
 }
 
 // Adds the prefixes and chunks of the node at index at and of all under it: at most left levels.
@@ -106,26 +101,24 @@ pub fn collect_all_substrings(
     left: usize,
     scratch: &mut [u8],
     p: Places,
-) -> Places
+) -> Option<Places>
     requires { Standing img.now left at × Valid scratch.old p }
     ensures { Collected img.now left at scratch.old scratch.new p result }
 {
-    let end = follow_single(img, at, left, scratch, p);
-    let n = end.node;
-    let rest = end.left;
-    let r = take_both(img, n, scratch, end.places);
-    if rest == 0 {
-        return r;
+    let end = follow_single(img, at, left, scratch, p)?;
+    let r = take_both(img, end.node, scratch, end.places)?;
+    if end.left == 0 {
+        return Some(r);
     }
-    collect_children(img, n.table, n.children, rest - 1, scratch, r)
+    collect_children(img, end.node.table, end.left - 1, scratch, r)
 }
 
 // Adds the suffixes and the chunks of the node at index at.
-pub fn find_suffixes(img: &[u8], at: usize, scratch: &mut [u8], p: Places) -> Places
+pub fn find_suffixes(img: &[u8], at: usize, scratch: &mut [u8], p: Places) -> Option<Places>
     requires { Laid img.now at × Valid scratch.old p }
     ensures { Ended img.now at scratch.old scratch.new p result }
 {
     let n = image_walk::node_at(img, at);
-    let a = place_buffer::take_list(img, n.suffixes, n.suffix_count, scratch, p);
-    place_buffer::take_list(img, n.chunks, n.chunk_count, scratch, a)
+    let a = place_buffer::take_list(img, n.suffixes, scratch, p)?;
+    place_buffer::take_list(img, n.chunks, scratch, a)
 }

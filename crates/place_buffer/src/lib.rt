@@ -8,6 +8,7 @@ ghost use Rattle.place_buffer.specs.Buffer.{Tidied, Valid, Placed, Taken};
 
 use definitions::LOCATION_SIZE;
 use location::SpacetimeLocation;
+use location_lists::List;
 
 // The places from number base to count - 1 are a set.
 // tight: there is no room, and they ascend, so that a further place is only looked up.
@@ -73,30 +74,36 @@ pub fn place(scratch: &mut [u8], p: Places, l: SpacetimeLocation) -> Option<Plac
     look_up(scratch, Places { tight: true, ..p }, l)
 }
 
-// Adds the n locations from byte at of img on to a set, one by one.
-fn take_each(img: &[u8], at: usize, n: usize, scratch: &mut [u8], p: Places) -> Option<Places>
-    requires { (at + n * 24 ≤ length img.now) × Valid scratch.old p }
-    ensures { Taken scratch.old scratch.new p (locations_in img.now n at) result }
+// Adds the locations of a list in img to a set, one by one.
+fn take_each(img: &[u8], list: List, scratch: &mut [u8], p: Places) -> Option<Places>
+    requires { (list.at + list.count * 24 ≤ length img.now) × Valid scratch.old p }
+    ensures { Taken scratch.old scratch.new p (locations_in img.now list.count list.at) result }
 {
     let mut r = p;
-    for i in 0..n {
-        let l = location::location_at(img, at + i * LOCATION_SIZE);
+    for i in 0..list.count {
+        let l = location::location_at(img, list.at + i * LOCATION_SIZE);
         r = place(scratch, r, l)?;
     }
     Some(r)
 }
 
-// Adds the n locations from byte at of img on to a set. Where there is room for all of them they are copied as they stand.
-pub fn take_list(img: &[u8], at: usize, n: usize, scratch: &mut [u8], p: Places) -> Option<Places>
-    requires { (at + n * 24 ≤ length img.now) × Valid scratch.old p }
-    ensures { Taken scratch.old scratch.new p (locations_in img.now n at) result }
+// Adds the locations of a list in img to a set. Where there is room for all of them they are copied as they stand.
+pub fn take_list(img: &[u8], list: List, scratch: &mut [u8], p: Places) -> Option<Places>
+    requires { (list.at + list.count * 24 ≤ length img.now) × Valid scratch.old p }
+    ensures { Taken scratch.old scratch.new p (locations_in img.now list.count list.at) result }
 {
-    if scratch.len() / LOCATION_SIZE - p.count < n {
-        return take_each(img, at, n, scratch, p);
+    if scratch.len() / LOCATION_SIZE - p.count < list.count {
+        return take_each(img, list, scratch, p);
     }
-    copying::copy(img, at, scratch, p.count * LOCATION_SIZE, n * LOCATION_SIZE);
+    copying::copy(
+        img,
+        list.at,
+        scratch,
+        p.count * LOCATION_SIZE,
+        list.count * LOCATION_SIZE,
+    );
     Some(Places {
-        count: p.count + n,
+        count: p.count + list.count,
         tight: false,
         ..p
     })

@@ -1,12 +1,15 @@
--- `collecting::find_suffixes` meets its contract: two lists are added one after the other. Assumes nothing.
-use Rattle.collecting.proofs.Nodes.{suffixes_within, chunks_within, ended}
+-- `collecting::find_suffixes` meets its contract: two lists are added one after the other, or the first has no room. Assumes nothing.
+use Rattle.collecting.proofs.Nodes.{suffixes_within, chunks_within, ended, ended_over}
 use Rattle.collecting.proofs.find_suffixes.Goals as goal
 
-pub take_list-a-requires : goal.take_list-a-requires
-take_list-a-requires c = (suffixes_within c.node_at-n.ensures c.requires.0, c.requires.1)
-
 pub take_list-requires : goal.take_list-requires
-take_list-requires c = (chunks_within c.node_at-n.ensures c.requires.0, c.take_list-a.ensures.valid)
+take_list-requires c = (suffixes_within c.node_at-n.ensures c.requires.0, c.requires.1)
+
+pub returns-in_err-a : goal.returns-in_err-a
+returns-in_err-a c = rw c.from_residual.ensures (ended_over c.node_at-n.ensures c.in_err-a.ensures)
+
+pub take_list-requires-2 : goal.take_list-requires-2
+take_list-requires-2 c = (chunks_within c.node_at-n.ensures c.requires.0, c.in_ok-a.ensures.set.valid)
 
 pub returns : goal.returns
-returns c = ended c.node_at-n.ensures c.take_list.ensures c.take_list-a.ensures
+returns c = ended c.node_at-n.ensures c.take_list-2.ensures c.in_ok-a.ensures

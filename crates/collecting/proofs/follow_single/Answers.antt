@@ -1,39 +1,36 @@
 -- `collecting::follow_single` meets its contract: what the nodes left behind hold is added, and the levels left fall. Assumes nothing.
 use native.Mathlib.Omega.{arith}
-use mathlib.Core.Path.{sym, ap, ◌∙◌}
-use Rattle.image_walk.specs.Answers.{entry_of_answer}
 use Rattle.collecting.proofs.Callers.{standing_laid}
-use Rattle.collecting.proofs.Nodes.{prefixes_within, chunks_within}
-use Rattle.collecting.proofs.Following.{follow_start, followed_stands, followed_taken, followed_table, follow_level, follow_stands, follow_next}
+use Rattle.collecting.proofs.Nodes.{prefixes_within, chunks_within, collected_over}
+use Rattle.collecting.proofs.Following.{follow_start, followed_stands, followed_taken, followed_table, followed_collected, follow_level, follow_stands, follow_next}
 use Rattle.collecting.proofs.follow_single.Goals as goal
 
 pub node_at-node-requires : goal.node_at-node-requires
 node_at-node-requires c = standing_laid c.requires.0
 
-pub loop-node-init : goal.loop-node-init
-loop-node-init c = follow_start c.node_at-node.ensures c.requires.1
+pub loop-next-init : goal.loop-next-init
+loop-next-init c = follow_start c.node_at-node.ensures c.requires.1
 
-pub slot_in-slot-requires : goal.slot_in-slot-requires
-slot_in-slot-requires c = (followed_table c.loop-node.invariant c.requires.0, omega arith)
+pub only_child-requires : goal.only_child-requires
+only_child-requires c = followed_table c.loop-next.invariant c.requires.0
 
-pub take_both-r-requires : goal.take_both-r-requires
-take_both-r-requires c =
+pub take_both-requires : goal.take_both-requires
+take_both-requires c =
     let start = c.requires.0 in
-    let there = standing_laid (followed_stands c.loop-node.invariant start) in
-    (prefixes_within c.loop-node.invariant.parts there, chunks_within c.loop-node.invariant.parts there, (followed_taken c.loop-node.invariant start).valid)
+    let there = standing_laid (followed_stands c.loop-next.invariant start) in
+    (prefixes_within c.loop-next.invariant.parts there, chunks_within c.loop-next.invariant.parts there, (followed_taken c.loop-next.invariant start).set.valid)
 
-pub node_at-node-requires-in-loop-node : goal.node_at-node-requires-in-loop-node
-node_at-node-requires-in-loop-node c = standing_laid (follow_stands c.loop-node.invariant c.loop-node-test.true (ap entry_of_answer (sym c.in-Taken.is) ∙ c.slot_in-slot.ensures) c.requires.0)
+pub returns-in_err-r : goal.returns-in_err-r
+returns-in_err-r c = rw c.from_residual.ensures (followed_collected c.loop-next.invariant (collected_over c.loop-next.invariant.parts c.in_err-r.ensures))
+
+pub node_at-node-requires-in-Some : goal.node_at-node-requires-in-Some
+node_at-node-requires-in-Some c = standing_laid (follow_stands c.loop-next.invariant c.in-Some.ensures c.requires.0)
 
 pub overflow_sub-rest : goal.overflow_sub-rest
-overflow_sub-rest c = follow_level c.loop-node.invariant c.loop-node-test.true (ap entry_of_answer (sym c.in-Taken.is) ∙ c.slot_in-slot.ensures) c.requires.0
+overflow_sub-rest c = follow_level c.loop-next.invariant c.in-Some.ensures c.requires.0
 
-pub loop-node-smaller : goal.loop-node-smaller
-loop-node-smaller c =
-    let l = follow_level c.loop-node.invariant c.loop-node-test.true (ap entry_of_answer (sym c.in-Taken.is) ∙ c.slot_in-slot.ensures) c.requires.0 in
-    omega (arith, l)
+pub loop-next-smaller : goal.loop-next-smaller
+loop-next-smaller c = omega (arith, follow_level c.loop-next.invariant c.in-Some.ensures c.requires.0)
 
-pub loop-node-preserved : goal.loop-node-preserved
-loop-node-preserved c =
-    follow_next c.loop-node.invariant c.loop-node-test.true (ap entry_of_answer (sym c.in-Taken.is) ∙ c.slot_in-slot.ensures) c.node_at-node-in-loop-node.ensures
-    c.take_both-r.ensures
+pub loop-next-preserved : goal.loop-next-preserved
+loop-next-preserved c = follow_next c.loop-next.invariant c.in-Some.ensures c.node_at-node-in-Some.ensures c.in_ok-r.ensures

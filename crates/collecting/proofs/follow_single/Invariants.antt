@@ -2,8 +2,8 @@
 use Rattle.collecting.specs.Collected.{Followed}
 use Rattle.collecting.proofs.follow_single.Given as goal
 
-abbrev pub invariant-loop-node : goal.invariant-loop-node
-invariant-loop-node l = Followed l.img l.left l.at l.initial.scratch l.scratch l.initial.r l.node l.rest l.r
+abbrev pub invariant-loop-next : goal.invariant-loop-next
+invariant-loop-next l = Followed l.img l.left l.at l.initial.scratch l.scratch l.initial.r l.node l.rest l.r
 
-abbrev pub decreases-loop-node : goal.decreases-loop-node
-decreases-loop-node l = l.rest
+abbrev pub decreases-loop-next : goal.decreases-loop-next
+decreases-loop-next l = l.rest

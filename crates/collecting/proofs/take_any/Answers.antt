@@ -2,5 +2,5 @@
 use Rattle.collecting.proofs.Nodes.{empty_taken}
 use Rattle.collecting.proofs.take_any.Goals as goal
 
-pub returns-then-n-eq0 : goal.returns-then-n-eq0
-returns-then-n-eq0 c = empty_taken _ _ _ c.if-n-eq0.true c.requires.1
+pub returns-then-list-eq0 : goal.returns-then-list-eq0
+returns-then-list-eq0 c = empty_taken _ _ _ c.if-list-eq0.true c.requires.1

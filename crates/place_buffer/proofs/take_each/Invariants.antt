@@ -5,4 +5,4 @@ use Rattle.place_buffer.specs.Buffer.{Taken}
 use Rattle.place_buffer.proofs.take_each.Given as goal
 
 abbrev pub invariant-loop-i : goal.invariant-loop-i
-invariant-loop-i l = Taken l.initial.scratch l.scratch l.initial.r (locations_in l.img l.i l.at) (Some l.r)
+invariant-loop-i l = Taken l.initial.scratch l.scratch l.initial.r (locations_in l.img l.i l.list.at) (Some l.r)
