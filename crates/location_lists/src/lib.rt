@@ -61,7 +61,7 @@ impl Lists {
 
     // Takes all of them away.
     pub fn clear(&mut self)
-        ensures { self.new ≡ record { each = self.old.each; count = 0; ahead = self.old.ahead } }
+        ensures { (self.new ≡ record { each = self.old.each; count = 0; ahead = self.old.ahead }) × (length self.new.each ≡ 512) }
     {
         self.count = 0;
     }

@@ -5,10 +5,11 @@ use mathlib.Core.Path.{◌≡◌, refl, sym, ap, ◌∙◌}
 use mathlib.Core.List.{List, ◌++◌, append-nil}
 use mathlib.Core.Option.{none, some}
 use lib.ListN.{length}
-use Rattle.definitions.specs.Location.{Location, locations_in}
+use Rattle.definitions.specs.Location.{Location}
 use Rattle.trie.specs.Trie.{Forest}
 use Rattle.trie.specs.Test.{child_lists, and_list}
-use Rattle.location_lists.specs.Lists.{Lists, lists_in, count_with}
+use Rattle.location_lists.specs.declared.Lists.{Lists}
+use Rattle.location_lists.specs.Lists.{held, AreLists, lists_in}
 use Rattle.location_lists.proofs.Buffers.{no_lists}
 use Rattle.image_format.specs.Held.{Entry}
 use Rattle.image_walk.specs.Parts.{parts_at}
@@ -18,7 +19,7 @@ use Rattle.node_rule.specs.Parts.{Ahead, TableOf, PartsOf, HasTable, HasParts}
 use Rattle.node_rule.specs.OneNode.{with_two, ChildLists}
 use Rattle.node_rule.proofs.Tables.{Next, slot_taken, slot_empty, slots_end}
 use Rattle.node_rule.proofs.Parts.{parts_of}
-use Rattle.node_rule.proofs.TwoLists.{count_two, two_among, two_valid}
+use Rattle.node_rule.proofs.TwoLists.{count_two, length_two, two_among, two_valid}
 use Rattle.image_walk.specs.declared.Node.{Node as Parts}
 
 -- ── the node of an entry ──
@@ -32,25 +33,26 @@ pub next_parts : {s : List ℕ} {d table children j : ℕ} {e : Entry} {f : Fore
 next_parts {s} {d} {e = e} c q x = rw q (parts_of s (d - 1) e.node (record { lists = x.lists; children = x.below }) x.here)
 
 module _ (s : List ℕ) (table children : ℕ) where
-  -- the lists in the buffer, and then those of the siblings ahead, are those of all
-  pub record Listed (d j : ℕ) (lists : List ℕ) (count : ℕ) (f : Forest) : Type 0 where
+  -- the lists that there are, and then those of the siblings ahead, are those of all
+  pub record Listed (d j : ℕ) (lists : Lists) (f : Forest) : Type 0 where
     pub rest : Forest
     pub ahead : Ahead s d table children j rest
-    pub lists_are : lists_in s lists count ++ child_lists rest ≡ child_lists f
+    pub lists_are : lists_in s lists ++ child_lists rest ≡ child_lists f
 
-  pub record Listing (j : ℕ) (lists : List ℕ) (count : ℕ) : Type 0 where
-    pub valid : Lists s lists count
-    pub few : count ≤ j * 2
-    pub listed : (d : ℕ) (f : Forest) → TableOf s d table children f → Listed d j lists count f
+  pub record Listing (j : ℕ) (lists : Lists) : Type 0 where
+    pub valid : AreLists s lists
+    pub few : lists.count ≤ j * 2
+    pub size : length lists.each ≡ 512
+    pub listed : (d : ℕ) (f : Forest) → TableOf s d table children f → Listed d j lists f
 
-  pub listing_start : (lists : List ℕ) → Listing 0 lists 0
-  listing_start lists = record { valid = no_lists s lists; few = omega arith; listed = λ d f t. record { rest = f; ahead = t.leads; lists_are = refl } }
+  pub listing_start : (lists : Lists) → lists.count ≡ 0 → length lists.each ≡ 512 → Listing 0 lists
+  listing_start lists z k = record { valid = no_lists s lists z; few = omega arith; size = k; listed = λ d f t. record { rest = f; ahead = t.leads; lists_are = rw z refl } }
 
-  module _ (j : ℕ) (lists : List ℕ) (count : ℕ) (i : Listing j lists count) (l : j < children) where
-    pub listing_skip : none ≡ slot_in s table children j → Listing (j + 1) lists count
-    listing_skip q = record { valid = i.valid; few = omega (arith, i.few); listed = step }
+  module _ (j : ℕ) (lists : Lists) (i : Listing j lists) (l : j < children) where
+    pub listing_skip : none ≡ slot_in s table children j → Listing (j + 1) lists
+    listing_skip q = record { valid = i.valid; few = omega (arith, i.few); size = i.size; listed = step }
       where
-        step : (d : ℕ) (f : Forest) → TableOf s d table children f → Listed d (j + 1) lists count f
+        step : (d : ℕ) (f : Forest) → TableOf s d table children f → Listed d (j + 1) lists f
         step d f t =
             let x = i.listed d f t in
             record { rest = x.rest; ahead = slot_empty s d table children j x.rest l q x.ahead; lists_are = x.lists_are }
@@ -67,41 +69,36 @@ module _ (s : List ℕ) (table children : ℕ) where
           let x = met h.depth h.forest h.is in
           record { depth = h.depth - 1; node = record { lists = x.lists; children = x.below }; is = next_parts c g x }
 
-      pub listing_add : HasTable s table children → count * 2 + 4 ≤ length lists → (c : Parts) → c ≡ parts_at s e.node →
-          Listing (j + 1) (with_two lists count c.chunks c.chunk_count c.suffixes c.suffix_count) (count_with (count_with count c.chunk_count) c.suffix_count)
-      listing_add h r c g =
+      room : HasTable s table children → lists.count + 2 ≤ length lists.each
+      room h = omega (arith, i.few, i.size, h.is.most)
+
+      pub listing_add : HasTable s table children → (c : Parts) → c ≡ parts_at s e.node → Listing (j + 1) (with_two lists c.chunks c.suffixes)
+      listing_add h c g =
           let p = (listing_parts h c g).is in
           record {
-            valid = two_valid lists count c.chunks c.chunk_count c.suffixes c.suffix_count s r p.chunks_in p.suffixes_in i.valid;
-            few = omega (arith, i.few, count_two lists count c.chunks c.chunk_count c.suffixes c.suffix_count);
+            valid = two_valid lists c.chunks c.suffixes s (room h) p.chunks_in p.suffixes_in i.valid;
+            few = omega (arith, i.few, count_two lists c.chunks c.suffixes);
+            size = length_two lists c.chunks c.suffixes ∙ i.size;
             listed = step;
           }
         where
-          ys : List ℕ
-          ys = with_two lists count c.chunks c.chunk_count c.suffixes c.suffix_count
-
-          n : ℕ
-          n = count_with (count_with count c.chunk_count) c.suffix_count
-
-          step : (d : ℕ) (f : Forest) → TableOf s d table children f → Listed d (j + 1) ys n f
+          step : (d : ℕ) (f : Forest) → TableOf s d table children f → Listed d (j + 1) (with_two lists c.chunks c.suffixes) f
           step d f t =
               let o = i.listed d f t in
               let x = met d f t in
               let p = next_parts c g x in
               let later : List (List Location) = child_lists x.later in
-              let before : List (List Location) = lists_in s lists count in
-              let a : lists_in s ys n ++ later ≡ before ++ and_list (locations_in s c.chunk_count c.chunks) (and_list (locations_in s c.suffix_count c.suffixes) later) =
-              two_among lists count c.chunks c.chunk_count c.suffixes c.suffix_count s later r in
-              let b : before ++ and_list (locations_in s c.chunk_count c.chunks) (and_list (locations_in s c.suffix_count c.suffixes) later) ≡ before ++ and_list x.lists.chunks (and_list x.lists.suffixes later) =
-              rw (p.chunks, p.suffixes) refl in
+              let before : List (List Location) = lists_in s lists in
+              let a = two_among lists c.chunks c.suffixes s later (room h) in
+              let b : before ++ and_list (held s c.chunks) (and_list (held s c.suffixes) later) ≡ before ++ and_list x.lists.chunks (and_list x.lists.suffixes later) = rw (p.chunks, p.suffixes) refl in
               let k : before ++ and_list x.lists.chunks (and_list x.lists.suffixes later) ≡ child_lists f = ap (λ (y : Forest). before ++ child_lists y) (sym x.is) ∙ o.lists_are in
               record { rest = x.later; ahead = x.ahead; lists_are = a ∙ b ∙ k }
 
-  pub listing_done : (j : ℕ) (lists : List ℕ) (count : ℕ) → Listing j lists count → children ≤ j → ChildLists s table children lists count
-  listing_done j lists count i l = record { valid = i.valid; are = end }
+  pub listing_done : (j : ℕ) (lists : Lists) → Listing j lists → children ≤ j → ChildLists s table children lists
+  listing_done j lists i l = record { valid = i.valid; are = end }
     where
-      end : (d : ℕ) (f : Forest) → TableOf s d table children f → lists_in s lists count ≡ child_lists f
+      end : (d : ℕ) (f : Forest) → TableOf s d table children f → lists_in s lists ≡ child_lists f
       end d f t =
           let x = i.listed d f t in
           let e = slots_end s d table children j x.rest l x.ahead in
-          sym (append-nil (lists_in s lists count)) ∙ (rw e at x.lists_are)
+          sym (append-nil (lists_in s lists)) ∙ (rw e at x.lists_are)

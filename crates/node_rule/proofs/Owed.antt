@@ -2,15 +2,16 @@
 use Prim.Native.Nat.{ℕ, zero, suc, ◌≤◌, ◌<◌}
 use native.Mathlib.Omega.{arith}
 use mathlib.Core.Path.{◌≡◌, refl, sym, ap, ◌∙◌}
-use mathlib.Core.Bool.{Bool, true, false, ◌&&◌, cond}
+use mathlib.Core.Bool.{Bool, true, false, ◌&&◌, ◌||◌, cond}
 use mathlib.Core.List.{List}
 use lib.Dec.{eqb, ltb}
-use borrow.Author.Tests.{ne_eqb, lt-ltb}
-use Rattle.definitions.specs.Location.{Location, locations_in}
-use Rattle.trie.specs.Trie.{Lists, Forest, leaf, more}
+use borrow.Author.Tests.{ne_eqb, lt-ltb, ltb-false}
+use Rattle.definitions.specs.Location.{locations_in}
+use Rattle.trie.specs.Trie.{Forest, leaf, more, Node}
 use Rattle.trie.specs.Test.{is_nil, is_owed}
-use Rattle.node_rule.specs.Parts.{TableOf}
-use Rattle.node_rule.specs.OneNode.{SaysOwed}
+use Rattle.location_lists.specs.Lists.{held}
+use Rattle.node_rule.specs.Parts.{TableOf, PartsOf}
+use Rattle.node_rule.specs.OneNode.{is_owed as owed}
 use Rattle.node_rule.proofs.Tables.{slots_end}
 use Rattle.image_walk.specs.declared.Node.{Node as Parts}
 
@@ -46,53 +47,35 @@ unfolding locations_in
 counted_some s zero at = refl
 counted_some s (suc n) at = let z : 0 < suc n = omega arith in lt-ltb 0 (suc n) z
 
-nil_of : (s : List ℕ) (n at : ℕ) → n ≤ 0 → is_nil (locations_in s n at) ≡ true
-unfolding locations_in
-nil_of s zero at h = refl
-nil_of s (suc n) at h = absurd (omega arith)
-
-some_of : (s : List ℕ) (n at : ℕ) → 0 < n → is_nil (locations_in s n at) ≡ false
-unfolding locations_in
-some_of s zero at h = absurd (omega arith)
-some_of s (suc n) at h = refl
-
 -- no entry of a table leads to no child
 pub table_none : (s : List ℕ) (d table children : ℕ) (f : Forest) → TableOf s d table children f → children ≤ 0 → f ≡ leaf
 table_none s d table children f t l = slots_end s d table children 0 f l t.leads
 
 -- ── what is owed ──
 
--- below the root by cases on the children
-owed_leaf : (depth : ℕ) (h : Lists) (f : Forest) → (depth ≡ 0 → ⊥) → f ≡ leaf → cond (is_nil h.prefixes) (cond (is_nil h.chunks) false true) true ≡ is_owed depth h f
-owed_leaf zero h f z e = absurd (z refl)
-owed_leaf (suc d) h f z e = rw e refl
-
-owed_more : (depth : ℕ) (h : Lists) (f : Forest) → (depth ≡ 0 → ⊥) → (f ≡ leaf → true ≡ is_owed depth h f) → true ≡ is_owed depth h f
-owed_more zero h f z e = absurd (z refl)
-owed_more (suc d) h leaf z e = e refl
-owed_more (suc d) h (more b x below later) z e = refl
-
-module _ (p : Parts) (depth : ℕ) where
-  pub owed_root : depth ≡ 0 → SaysOwed p depth (eqb p.prefix_count 0)
-  owed_root e s d n h = rw e (counted_nil s p.prefix_count p.prefixes ∙ ap is_nil h.prefixes)
-
-  pub owed_child : (depth ≡ 0 → ⊥) → 0 < p.children → SaysOwed p depth true
-  owed_child z l s d n h = owed_more depth n.lists n.children z (λ e. absurd (never e))
+module _ (s : List ℕ) (d : ℕ) (p : Parts) (n : Node) (h : PartsOf s d p n) where
+  -- below the root
+  owed_below : (k : ℕ) (f : Forest) → n.children ≡ f → (ltb 0 p.table.count || (ltb 0 p.prefixes.count || ltb 0 p.chunks.count)) ≡ is_owed (suc k) n.lists f
+  owed_below k leaf e =
+      ap (λ (m : ℕ). ltb 0 m || (ltb 0 p.prefixes.count || ltb 0 p.chunks.count)) (h.childless e)
+      ∙ ap (λ (o : Bool). o || ltb 0 p.chunks.count) (counted_some s p.prefixes.count p.prefixes.at)
+      ∙ ap (λ (o : Bool). cond (is_nil (held s p.prefixes)) false true || o) (counted_some s p.chunks.count p.chunks.at)
+      ∙ either (is_nil (held s p.prefixes)) (is_nil (held s p.chunks))
+      ∙ ap (λ (o : Bool). cond o (cond (is_nil (held s p.chunks)) false true) true) (ap is_nil h.prefixes)
+      ∙ ap (λ (o : Bool). cond (is_nil n.lists.prefixes) (cond o false true) true) (ap is_nil h.chunks)
     where
-      never : n.children ≡ leaf → ⊥
-      never e = let x = h.childless e in omega arith
-
-  pub owed_prefix : (depth ≡ 0 → ⊥) → 0 < p.prefix_count → SaysOwed p depth true
-  owed_prefix z l s d n h = owed_more depth n.lists n.children z (λ e. by_prefix ∙ owed_leaf depth n.lists n.children z e)
+      either : (a b : Bool) → (cond a false true || cond b false true) ≡ cond a (cond b false true) true
+      either true b = refl
+      either false b = refl
+  owed_below k (more b x below later) e = some (ltb 0 p.table.count) refl
     where
-      by_prefix : true ≡ cond (is_nil n.lists.prefixes) (cond (is_nil n.lists.chunks) false true) true
-      by_prefix = rw (sym (ap is_nil h.prefixes) ∙ some_of s p.prefix_count p.prefixes l) refl
+      no_leaf : leaf ≡ more b x below later → ⊥
+      no_leaf q = cc
 
-  pub owed_chunk : (depth ≡ 0 → ⊥) → p.children ≤ 0 → p.prefix_count ≤ 0 → SaysOwed p depth (ltb 0 p.chunk_count)
-  owed_chunk z l m s d n h =
-      let e = table_none s d p.table p.children n.children h.table l in
-      let f : is_nil n.lists.prefixes ≡ true = sym (ap is_nil h.prefixes) ∙ nil_of s p.prefix_count p.prefixes m in
-      let g : ltb 0 p.chunk_count ≡ cond (is_nil n.lists.chunks) false true =
-      counted_some s p.chunk_count p.chunks ∙ ap (λ (x : List Location). cond (is_nil x) false true) h.chunks in
-      let k : cond (is_nil n.lists.chunks) false true ≡ cond (is_nil n.lists.prefixes) (cond (is_nil n.lists.chunks) false true) true = rw f refl in
-      g ∙ k ∙ owed_leaf depth n.lists n.children z e
+      some : (o : Bool) → ltb 0 p.table.count ≡ o → (o || (ltb 0 p.prefixes.count || ltb 0 p.chunks.count)) ≡ true
+      some true z = refl
+      some false z = absurd (no_leaf (sym (table_none s d p.table.at p.table.count n.children h.table (ltb-false 0 p.table.count z)) ∙ e))
+
+  pub owed_is : (depth : ℕ) → owed p depth ≡ is_owed depth n.lists n.children
+  owed_is zero = counted_nil s p.prefixes.count p.prefixes.at ∙ ap is_nil h.prefixes
+  owed_is (suc k) = let z : suc k ≡ 0 → ⊥ = omega arith in rw (ne_eqb (suc k) 0 z) (owed_below k n.children refl)

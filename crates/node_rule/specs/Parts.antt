@@ -1,7 +1,7 @@
 -- A node of a trie by the parts that stand in an image: its lists, and its table whose entries lead to its children. Assumes nothing.
-use Rattle.std.specs.Prelude.{ℕ, ◌+◌, ◌*◌, ◌-◌, ◌≤◌, ◌≡◌, List, length}
-use Rattle.definitions.specs.Location.{locations_in}
-use Rattle.trie.specs.Trie.{Forest, leaf, Node}
+use Rattle.std.specs.Prelude.{ℕ, ◌-◌, ◌≤◌, ◌≡◌, List}
+use Rattle.trie.specs.Trie.{Lists, Forest, leaf, Node}
+use Rattle.location_lists.specs.Lists.{held, Within}
 use Rattle.image_walk.specs.Tables.{slots_from}
 use Rattle.image_walk.specs.Bounds.{TableHere}
 use Rattle.image_walk.specs.Here.{Matches}
@@ -18,17 +18,21 @@ pub record TableOf (s : List ℕ) (d table children : ℕ) (f : Forest) : Type 0
   pub leads : Ahead s d table children 0 f
   pub ends : d ≡ 0 → f ≡ leaf
 
+-- the lists of these parts
+abbrev pub lists_of : List ℕ → Parts → Lists
+lists_of s p = record { prefixes = held s p.prefixes; chunks = held s p.chunks; suffixes = held s p.suffixes }
+
 -- these parts are those of the node n, with at most d levels below it
 pub record PartsOf (s : List ℕ) (d : ℕ) (p : Parts) (n : Node) : Type 0 where
-  pub prefixes : locations_in s p.prefix_count p.prefixes ≡ n.lists.prefixes
-  pub chunks : locations_in s p.chunk_count p.chunks ≡ n.lists.chunks
-  pub suffixes : locations_in s p.suffix_count p.suffixes ≡ n.lists.suffixes
-  pub prefixes_in : p.prefixes + p.prefix_count * 24 ≤ length s
-  pub chunks_in : p.chunks + p.chunk_count * 24 ≤ length s
-  pub suffixes_in : p.suffixes + p.suffix_count * 24 ≤ length s
-  pub table : TableOf s d p.table p.children n.children
+  pub prefixes : held s p.prefixes ≡ n.lists.prefixes
+  pub chunks : held s p.chunks ≡ n.lists.chunks
+  pub suffixes : held s p.suffixes ≡ n.lists.suffixes
+  pub prefixes_in : Within s p.prefixes
+  pub chunks_in : Within s p.chunks
+  pub suffixes_in : Within s p.suffixes
+  pub table : TableOf s d p.table.at p.table.count n.children
   -- a table with room for children has some
-  pub childless : n.children ≡ leaf → p.children ≡ 0
+  pub childless : n.children ≡ leaf → p.table.count ≡ 0
 
 -- some siblings, some node
 pub record HasTable (s : List ℕ) (table children : ℕ) : Type 0 where
