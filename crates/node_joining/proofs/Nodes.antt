@@ -2,7 +2,9 @@
 use Prim.Native.Nat.{ℕ, ◌+◌, ◌-◌, ◌*◌, ◌≤◌, ◌<◌}
 use native.Mathlib.Omega.{arith}
 use mathlib.Core.Path.{◌≡◌, refl, sym, ap, subst, ◌∙◌}
+use Rattle.std.specs.Prelude.{Option, Some, None}
 use mathlib.Core.Bool.{Bool, true, false}
+use mathlib.Core.List.Memᴰ.{append_left}
 use mathlib.Core.List.{List, [], ◌++◌}
 use lib.ListN.{length, drop, get_or}
 use Rattle.definitions.specs.Location.{Location, normal, locations_in}
@@ -13,15 +15,16 @@ use Rattle.trie.specs.Find.{joins_each, ends_found}
 use Rattle.image_walk.specs.declared.Node.{Node as Parts}
 use Rattle.place_buffer.specs.declared.Places.{Places}
 use Rattle.place_buffer.specs.Buffer.{Valid, Taken}
-use Rattle.place_buffer.proofs.Adding.{taken_none, taken_same, taken_more}
+use Rattle.place_buffer.proofs.Adding.{taken_none, taken_same, taken_over, taken_more}
 use Rattle.place_buffer.proofs.Holding.{taken_elsewhere}
 use Rattle.joining.specs.declared.Span.{Span}
 use Rattle.joining.specs.Lists.{listed, spanned}
 use Rattle.joining.proofs.Each.{each_append, each_within, each_places, places_each}
 use Rattle.collecting.specs.Collected as collecting
 use Rattle.node_joining.specs.Found.{rooted, last_of, ended_lists, ending_lists}
+use Rattle.node_joining.specs.declared.Beyond.{Beyond}
 use Rattle.node_joining.specs.declared.Ended.{Ended}
-use Rattle.node_joining.specs.Layout.{lists_of, Listed, ended_at, ended_in, EndedHere, EndsNothing, Ending, Reached, LaidOut}
+use Rattle.node_joining.specs.Layout.{lists_of, Listed, ended_at, ended_in, EndedHere, EndsNothing, ending_in, Ending, Reached, LaidOut}
 use Rattle.node_joining.proofs.Stages.{table_behind, table_last}
 
 -- ── what ends at a node ──
@@ -48,55 +51,63 @@ ended_here {img} front ee l = subst (EndedHere img) (sym ee) (listed_here front 
 
 module _ (img : List ℕ) (k : ℕ) (ms : List Location) {s : List ℕ} {p : Places} where
   -- one list after the other
-  pub joined_ended : (e : Ended) {s₁ s₂ : List ℕ} {a r : Places} → Taken s s₁ p (joins_each k (listed img e.prefixes) ms) a → Taken s₁ s₂ a (joins_each k (listed img e.chunks) ms) r
-      → Taken s s₂ p (joins_each k (ended_in img e) ms) r
-  joined_ended e {s₂ = s₂} {r = r} t u = subst (λ (ls : List Location). Taken s s₂ p ls r) (sym (each_append k (listed img e.prefixes) (listed img e.chunks) ms)) (taken_more t u)
+  pub joined_ended : (e : Ended) {s₁ s₂ : List ℕ} {a : Places} {o : Option Places} → Taken s s₁ p (joins_each k (listed img e.prefixes) ms) (Some a) → Taken s₁ s₂ a (joins_each k (listed img e.chunks) ms) o
+      → Taken s s₂ p (joins_each k (ended_in img e) ms) o
+  joined_ended e {s₂ = s₂} {o = o} t u = subst (λ (ls : List Location). Taken s s₂ p ls o) (sym (each_append k (listed img e.prefixes) (listed img e.chunks) ms)) (taken_more t u)
+
+  -- the first has no room
+  pub ended_over : (e : Ended) {s₁ : List ℕ} → Taken s s₁ p (joins_each k (listed img e.prefixes) ms) None → Taken s s₁ p (joins_each k (ended_in img e) ms) None
+  ended_over e {s₁} t = subst (λ (ls : List Location). Taken s s₁ p ls None) (sym (each_append k (listed img e.prefixes) (listed img e.chunks) ms)) (taken_over t (λ x h. append_left (joins_each k (listed img e.chunks) ms) h))
 
   -- the first is empty
-  pub joined_chunks : (e : Ended) {s₁ : List ℕ} {r : Places} → e.prefixes.count ≡ 0 → Taken s s₁ p (joins_each k (listed img e.chunks) ms) r → Taken s s₁ p (joins_each k (ended_in img e) ms) r
+  pub joined_chunks : (e : Ended) {s₁ : List ℕ} {o : Option Places} → e.prefixes.count ≡ 0 → Taken s s₁ p (joins_each k (listed img e.chunks) ms) o → Taken s s₁ p (joins_each k (ended_in img e) ms) o
   unfolding locations_in
-  joined_chunks e {s₁} {r} z t =
+  joined_chunks e {s₁} {o} z t =
       let none : listed img e.prefixes ≡ [] = ap (λ (n : ℕ). locations_in img n e.prefixes.at) z in
-      subst (λ (ls : List Location). Taken s s₁ p (joins_each k (ls ++ listed img e.chunks) ms) r) (sym none) t
+      subst (λ (ls : List Location). Taken s s₁ p (joins_each k (ls ++ listed img e.chunks) ms) o) (sym none) t
 
   -- nothing ends there
-  pub joined_none : (e : Ended) → EndsNothing e → Valid s p → Taken s s p (joins_each k (ended_in img e) ms) p
+  pub joined_none : (e : Ended) → EndsNothing e → Valid s p → Taken s s p (joins_each k (ended_in img e) ms) (Some p)
   unfolding locations_in
   joined_none e z v =
       let a : listed img e.prefixes ≡ [] = ap (λ (n : ℕ). locations_in img n e.prefixes.at) z.prefixes in
       let b : listed img e.chunks ≡ [] = ap (λ (n : ℕ). locations_in img n e.chunks.at) z.chunks in
       let none : ended_in img e ≡ [] = ap (λ (ls : List Location). ls ++ listed img e.chunks) a ∙ b in
-      subst (λ (ls : List Location). Taken s s p (joins_each k ls ms) p) (sym none) (taken_none v)
+      subst (λ (ls : List Location). Taken s s p (joins_each k ls ms) (Some p)) (sym none) (taken_none v)
 
-  pub joined_at : {s₁ : List ℕ} {r : Places} (front : Bool) (m : Parts) {e : Ended} → e ≡ ended_at front m → Taken s s₁ p (joins_each k (ended_in img e) ms) r → Taken s s₁ p (joins_each k (ended_lists front (lists_of img m)) ms) r
-  joined_at {s₁} {r} front m ee t =
-      subst (λ (ls : List Location). Taken s s₁ p (joins_each k ls ms) r) (ap (ended_in img) ee ∙ ended_same img front m) t
+  pub joined_at : {s₁ : List ℕ} {o : Option Places} (front : Bool) (m : Parts) {e : Ended} → e ≡ ended_at front m → Taken s s₁ p (joins_each k (ended_in img e) ms) o → Taken s s₁ p (joins_each k (ended_lists front (lists_of img m)) ms) o
+  joined_at {s₁} {o} front m ee t =
+      subst (λ (ls : List Location). Taken s s₁ p (joins_each k ls ms) o) (ap (ended_in img) ee ∙ ended_same img front m) t
 
 -- places before the set are joined as they were
-pub joined_later : (k : ℕ) (xs : List Location) (b : Span) {s s₁ s₂ : List ℕ} {p a r : Places} {ls : List Location} → b.from ≤ b.to → b.to ≤ p.base → Taken s s₁ p ls a
-    → Taken s₁ s₂ a (joins_each k xs (spanned s₁ b)) r → Taken s₁ s₂ a (joins_each k xs (spanned s b)) r
-joined_later k xs b {s₁ = s₁} {s₂ = s₂} {a = a} {r = r} h l t u =
-    subst (λ (ms : List Location). Taken s₁ s₂ a (joins_each k xs ms) r) (taken_elsewhere t (b.to - b.from) (b.from * 24) (omega arith)) u
+pub joined_later : (k : ℕ) (xs : List Location) (b : Span) {s s₁ s₂ : List ℕ} {p a : Places} {o o' : Option Places} {ls : List Location} → b.from ≤ b.to → b.to ≤ p.base → Taken s s₁ p ls o'
+    → Taken s₁ s₂ a (joins_each k xs (spanned s₁ b)) o → Taken s₁ s₂ a (joins_each k xs (spanned s b)) o
+joined_later k xs b {s₁ = s₁} {s₂ = s₂} {a = a} {o = o} h l t u =
+    subst (λ (ms : List Location). Taken s₁ s₂ a (joins_each k xs ms) o) (taken_elsewhere t (b.to - b.from) (b.from * 24) (omega arith)) u
 
 -- ── the places behind a node ──
 
-pub joined_with : (k : ℕ) (ls : List Location) {ms ns : List Location} {s s₁ : List ℕ} {p r : Places} → ms ≡ ns → Taken s s₁ p (joins_each k ls ms) r → Taken s s₁ p (joins_each k ls ns) r
-joined_with k ls {s = s} {s₁ = s₁} {p = p} {r = r} e t = subst (λ (xs : List Location). Taken s s₁ p (joins_each k ls xs) r) e t
+pub joined_with : (k : ℕ) (ls : List Location) {ms ns : List Location} {s s₁ : List ℕ} {p : Places} {o : Option Places} → ms ≡ ns → Taken s s₁ p (joins_each k ls ms) o → Taken s s₁ p (joins_each k ls ns) o
+joined_with k ls {s = s} {s₁ = s₁} {p = p} {o = o} e t = subst (λ (xs : List Location). Taken s s₁ p (joins_each k ls xs) o) e t
 
 -- two lists of them
-pub joined_both : (k : ℕ) (ls ms ns : List Location) {s s₁ s₂ : List ℕ} {p a r : Places} → Taken s s₁ p (joins_each k ls ms) a → Taken s₁ s₂ a (joins_each k ls ns) r → Taken s s₂ p (joins_each k ls (ms ++ ns)) r
+pub joined_both : (k : ℕ) (ls ms ns : List Location) {s s₁ s₂ : List ℕ} {p a : Places} {o : Option Places} → Taken s s₁ p (joins_each k ls ms) (Some a) → Taken s₁ s₂ a (joins_each k ls ns) o → Taken s s₂ p (joins_each k ls (ms ++ ns)) o
 joined_both k ls ms ns t u = taken_same (taken_more t u) (places_each k ls ms ns) (each_places k ls ms ns)
 
+-- the first has no room
+pub both_over : (k : ℕ) (ls ms ns : List Location) {s s₁ : List ℕ} {p : Places} → Taken s s₁ p (joins_each k ls ms) None → Taken s s₁ p (joins_each k ls (ms ++ ns)) None
+both_over k ls ms ns t = taken_over t (each_within k ls ls ms (ms ++ ns) (λ x h. h) (λ x h. append_left ns h))
+
 -- those of the last byte
-pub behind_last : (k : ℕ) (ls : List Location) (img q : List ℕ) (j : ℕ) {last : Parts} {s s₁ : List ℕ} {p r : Places} → 1 ≤ j → j + 1 ≡ length q → Ending img (last_of q) last
-    → Taken s s₁ p (joins_each k ls (ending_lists (lists_of img last))) r → Taken s s₁ p (joins_each k ls (first_of (ends_found (rooted img) (drop j q)))) r
-behind_last k ls img q j {last} {s} {s₁} {p} {r} h e x t =
+pub behind_last : (k : ℕ) (ls : List Location) (img q : List ℕ) (j : ℕ) {last : Beyond} {s s₁ : List ℕ} {p : Places} {o : Option Places} → 1 ≤ j → j + 1 ≡ length q → Ending img (last_of q) last
+    → Taken s s₁ p (joins_each k ls (ending_in img last)) o → Taken s s₁ p (joins_each k ls (first_of (ends_found (rooted img) (drop j q)))) o
+behind_last k ls img q j {last} {s} {s₁} {p} {o} h e x t =
     let f : length q - 1 ≡ j = omega arith in
-    let xs = ending_lists (lists_of img last) in
-    let same : xs ≡ ending_lists (lists_at (rooted img) (drop j q)) = ap ending_lists x.lists ∙ ap (λ (i : ℕ). ending_lists (lists_at (rooted img) (drop i q))) f in
+    let xs = ending_in img last in
+    let same : xs ≡ ending_lists (lists_at (rooted img) (drop j q)) = x.lists ∙ ap (λ (i : ℕ). ending_lists (lists_at (rooted img) (drop i q))) f in
     let whole : first_of (ends_found (rooted img) (drop j q)) ≡ normal xs =
     ap first_of (sym (table_behind (rooted img) q j h) ∙ table_last (rooted img) q j h e) ∙ ap normal (sym same) in
-    subst (λ (ms : List Location). Taken s s₁ p (joins_each k ls ms) r) (sym whole)
+    subst (λ (ms : List Location). Taken s s₁ p (joins_each k ls ms) o) (sym whole)
     (taken_same t (each_within k ls ls xs (normal xs) (λ y i. i) (λ y i. mem_normal xs i)) (each_within k ls ls (normal xs) xs (λ y i. i) (λ y i. normal_mem xs i)))
 
 -- those that stand in scratch
@@ -112,9 +123,9 @@ module _ (i j : ℕ) {n : Node} {q ends s : List ℕ} (d : LaidOut n q (i + 1) e
 
 -- ── what goes beyond it ──
 
-module _ {img : List ℕ} {at : ℕ} {s s' : List ℕ} {p r : Places} where
-  pub reached_front : (front : Bool) → front ≡ true → collecting.Collected img 16 at s s' p r → Reached img at front s s' p r
+module _ {img : List ℕ} {at : ℕ} {s s' : List ℕ} {p : Places} {o : Option Places} where
+  pub reached_front : (front : Bool) → front ≡ true → collecting.Collected img 16 at s s' p o → Reached img at front s s' p o
   reached_front front f c = record { taken = λ n h. rw f (c.taken n h) }
 
-  pub reached_inside : (front : Bool) → front ≡ false → collecting.Ended img at s s' p r → Reached img at front s s' p r
+  pub reached_inside : (front : Bool) → front ≡ false → collecting.Ended img at s s' p o → Reached img at front s s' p o
   reached_inside front f c = record { taken = λ n h. rw f (c.taken 16 n h) }
