@@ -4,7 +4,8 @@ use native.Mathlib.Omega.{arith}
 use mathlib.Core.Path.{◌≡◌, refl, sym, ap, subst, ◌∙◌}
 use mathlib.Core.Bool.{Bool, true, false, not, ◌&&◌, cond}
 use mathlib.Core.List.{List}
-use mathlib.Core.Option.{none, some}
+use Rattle.std.specs.Prelude.{None, Some}
+use Rattle.std.specs.Bool.{then_some}
 use borrow.Author.Tests.{le-leb, lt-leb}
 use Rattle.definitions.specs.Location.{Location, location_at, locations_in}
 use Rattle.definitions.specs.Calls.{last_number}
@@ -51,17 +52,14 @@ module _ (at : ℕ → Location) (n m : ℕ) (s : List ℕ) (base count : ℕ) w
 -- ── how many are due behind them ──
 
 module _ (at : ℕ → Location) (n m : ℕ) (s : List ℕ) (base count due : ℕ) where
-  pub due_over : due < count → none ≡ chunks_due at n m (locations_in s count base) due
+  pub due_over : (count ≤ due → ⊥) → None ≡ chunks_due at n m (locations_in s count base) due
   unfolding chunks_due
-  due_over h = rw (length_locations count s base, lt-leb count due h) refl
+  due_over h = rw (length_locations count s base, lt-leb count due (omega arith)) refl
 
-  module _ (h : count ≤ due) (r : Bool) (e : r ≡ all_clear at n m (locations_in s count base)) where
-    due_by : cond r (some (due - count)) none ≡ chunks_due at n m (locations_in s count base) due
-    unfolding chunks_due
-    due_by = rw (length_locations count s base, le-leb count due h, e) refl
-
-    pub due_struck : r ≡ false → none ≡ chunks_due at n m (locations_in s count base) due
-    due_struck z = ap (λ (o : Bool). cond o (some (due - count)) none) (sym z) ∙ due_by
-
-    pub due_left : r ≡ true → some (due - count) ≡ chunks_due at n m (locations_in s count base) due
-    due_left z = ap (λ (o : Bool). cond o (some (due - count)) none) (sym z) ∙ due_by
+  pub due_left : count ≤ due → (r : Bool) → r ≡ all_clear at n m (locations_in s count base) → (k : ℕ) → k ≡ due - count → then_some r k ≡ chunks_due at n m (locations_in s count base) due
+  unfolding chunks_due
+  due_left h r e k z = rw (length_locations count s base, le-leb count due h, ← e, z) (by r)
+    where
+      by : (r : Bool) → then_some r (due - count) ≡ cond r (Some (due - count)) None
+      by true = refl
+      by false = refl

@@ -8,7 +8,7 @@ use mathlib.Core.Logic.{◌⊎◌, inl, inr, ◌↔◌}
 use mathlib.Core.List.Memᴰ.{append_cases}
 use mathlib.Core.List.Memᴰ.{append_right}
 use mathlib.Core.List.{List, [], ◌∷◌, Memᴰ as Mem}
-use mathlib.Core.Option.{Option, none, some}
+use Rattle.std.specs.Prelude.{Option, None, Some, is_some}
 use lib.ListN.{length}
 use Rattle.definitions.specs.Location.{Location, meets}
 use Rattle.definitions.specs.Blocks.{Piece}
@@ -27,7 +27,7 @@ use Rattle.trie.specs.Rule.{Has, OwedSuffix, NodeRule}
 use Rattle.trie.specs.Test.{node_right, fronts_within, forest_right, siblings}
 use Rattle.trie.proofs.Pieces.{here_mem, forest_stands, pieces_has}
 use Rattle.trie.proofs.Test.{rule_test_is}
-use Rattle.image_conflicts.specs.Due.{AllEnding, forest_due, no_conflict, conflict_free}
+use Rattle.image_conflicts.specs.Due.{AllEnding, forest_due, conflict_free}
 use Rattle.image_conflicts.specs.Promises.{filled_pieces, RootSuffixes, ImageFree, ConflictFreeIs}
 use Rattle.image_conflicts.proofs.Inside.{none_inside}
 use Rattle.image_conflicts.proofs.Carried.{Carried, right_ending, right_carried}
@@ -43,11 +43,11 @@ same_lined n f g e s = record {
 -- so many were left
 record Left (o : Option ℕ) : Type 0 where
   left : ℕ
-  is : o ≡ some left
+  is : o ≡ Some left
 
-left_is : (o : Option ℕ) → no_conflict o ≡ true → Left o
-left_is none e = absurd (not_both refl e)
-left_is (some k) e = record { left = k; is = refl }
+left_is : (o : Option ℕ) → is_some o ≡ true → Left o
+left_is None e = absurd (not_both refl e)
+left_is (Some k) e = record { left = k; is = refl }
 
 module _ (n : Node) (r : NodeRule n) where
   -- ── the root's suffixes ──
@@ -128,10 +128,10 @@ module _ (n : Node) (r : NodeRule n) where
 
     test_clear : conflict_free at count n.children ≡ true → ClearImage (filled_pieces n) all
     unfolding conflict_free
-    test_clear e = go (left_is (forest_due at count 1 n.children count) (and_right (in_line at (count - 1)) (no_conflict (forest_due at count 1 n.children count)) e))
+    test_clear e = go (left_is (forest_due at count 1 n.children count) (and_right (in_line at (count - 1)) (is_some (forest_due at count 1 n.children count)) e))
       where
         line : Lined count at
-        line = (in_line_is count at all_alive).0 (and_left (in_line at (count - 1)) (no_conflict (forest_due at count 1 n.children count)) e)
+        line = (in_line_is count at all_alive).0 (and_left (in_line at (count - 1)) (is_some (forest_due at count 1 n.children count)) e)
 
         go : Left (forest_due at count 1 n.children count) → ClearImage (filled_pieces n) all
         go x = record {
@@ -145,7 +145,7 @@ module _ (n : Node) (r : NodeRule n) where
 
     clear_test : ClearImage (filled_pieces n) all → conflict_free at count n.children ≡ true
     unfolding conflict_free
-    clear_test x = and_true ((in_line_is count at all_alive).1 line) (ap no_conflict (counted_due at count [] 1 refl n.children carried count 0 c))
+    clear_test x = and_true ((in_line_is count at all_alive).1 line) (ap is_some (counted_due at count [] 1 refl n.children carried count 0 c))
       where
         line : Lined count at
         line = same_lined count (loc all) at (λ i h. sym (num i h)) x.lined

@@ -1,18 +1,19 @@
 -- From an image in place to its root: its suffixes are locations in line or not, and what its children say decides. Assumes nothing.
 use Prim.Native.Nat.{ℕ, ◌+◌, ◌*◌, ◌-◌, ◌<◌}
 use native.Mathlib.Omega.{arith}
-use mathlib.Core.Path.{◌≡◌, refl, sym, ap, subst, ◌∙◌}
+use mathlib.Core.Path.{◌≡◌, sym, ap, subst, ◌∙◌}
 use mathlib.Core.Bool.{Bool, true, false, ◌&&◌}
 use mathlib.Core.List.{List}
 use lib.ListN.{length, get_or}
+use Rattle.std.specs.Prelude.{Option, is_some}
 use Rattle.definitions.specs.Location.{Location, location_at}
 use Rattle.definitions.specs.Conflicts.{free}
 use Rattle.definitions.proofs.Locations.{length_locations, get_or_locations}
-use Rattle.definitions.proofs.Tests.{not_both}
 use Rattle.conflicts.specs.Lined.{in_line, Lined}
 use Rattle.conflicts.specs.Order.{nowhere, loc}
 use Rattle.conflicts.proofs.Line.{in_line_is}
 use Rattle.lined_locations.specs.declared.Line.{Line}
+use Rattle.lined_locations.specs.declared.LineKind.TheVariants.{Row}
 use Rattle.lined_locations.specs.Line.{place_of, location_of, Within}
 use Rattle.trie.specs.Trie.{Trie, trie_pieces}
 use Rattle.trie.specs.Rule.{NodeRule}
@@ -26,9 +27,8 @@ use Rattle.image_walk.proofs.Paths.{short_path}
 use Rattle.image_walk.proofs.Root.{trie_empty}
 use Rattle.node_rule.specs.Parts.{PartsOf}
 use Rattle.node_rule.proofs.Parts.{parts_of}
-use Rattle.image_conflicts.specs.Due.{forest_due, no_conflict, conflict_free}
-use Rattle.image_conflicts.specs.Cited.{due_of, Ready, ChildrenAsked, ChildrenSays}
-use Rattle.image_conflicts.specs.declared.Due.{Due}
+use Rattle.image_conflicts.specs.Due.{forest_due, conflict_free}
+use Rattle.image_conflicts.specs.Cited.{Ready, ChildrenAsked, ChildrenSays}
 use Rattle.image_conflicts.proofs.Image.{all_ending, all_alive, conflict_free_is}
 
 -- an empty index has no pieces
@@ -37,7 +37,7 @@ empty_free s z = ap (λ (t : Trie). free (trie_pieces t)) (sym (trie_empty s z))
 
 -- the suffixes of a node with these parts
 abbrev pub suffix_line : Parts → Line
-suffix_line p = record { base = p.suffixes; count = p.suffix_count; logged = false }
+suffix_line p = record { base = p.suffixes.at; count = p.suffixes.count; kind = Row }
 
 module _ (s : List ℕ) (h : RootHere s) (e : index_rule (trie_in s) ≡ true) (p : Parts) (g : p ≡ parts_at s 0) where
   rule : NodeRule h.node
@@ -48,27 +48,27 @@ module _ (s : List ℕ) (h : RootHere s) (e : index_rule (trie_in s) ≡ true) (
 
   pub root_within : Within s (suffix_line p)
   unfolding place_of
-  root_within = record { numbers = λ z. absurd (not_both refl z); places = λ i k. omega (arith, root_is.suffixes_in) }
+  root_within = record { numbers = λ z. absurd (cc); places = λ i k. omega (arith, root_is.suffixes_in) }
 
-  many : p.suffix_count ≡ length h.node.lists.suffixes
-  many = sym (length_locations p.suffix_count s p.suffixes) ∙ ap length root_is.suffixes
+  many : p.suffixes.count ≡ length h.node.lists.suffixes
+  many = sym (length_locations p.suffixes.count s p.suffixes.at) ∙ ap length root_is.suffixes
 
   -- the suffixes by number, in place and in the trie
   num : (i : ℕ) → i < length h.node.lists.suffixes → location_of s (suffix_line p) i ≡ loc h.node.lists.suffixes i
   unfolding place_of
   num i k =
-      let a : p.suffixes + 24 * i ≡ p.suffixes + i * 24 = omega arith in
-      ap (location_at s) a ∙ sym (get_or_locations p.suffix_count s p.suffixes i nowhere (omega (arith, many))) ∙ ap (λ (ls : List Location). get_or ls i nowhere) root_is.suffixes
+      let a : p.suffixes.at + 24 * i ≡ p.suffixes.at + i * 24 = omega arith in
+      ap (location_at s) a ∙ sym (get_or_locations p.suffixes.count s p.suffixes.at i nowhere (omega (arith, many))) ∙ ap (λ (ls : List Location). get_or ls i nowhere) root_is.suffixes
 
   -- ── the answers ──
 
-  by_test : conflict_free (location_of s (suffix_line p)) p.suffix_count h.node.children ≡ free (trie_pieces (trie_in s))
+  by_test : conflict_free (location_of s (suffix_line p)) p.suffixes.count h.node.children ≡ free (trie_pieces (trie_in s))
   by_test = ap (λ (k : ℕ). conflict_free (location_of s (suffix_line p)) k h.node.children) many ∙ conflict_free_is h.node rule (location_of s (suffix_line p)) num ∙ ap (λ (t : Trie). free (trie_pieces t)) (sym h.trie)
 
-  module _ (r : Bool) (f : r ≡ in_line (location_of s (suffix_line p)) (p.suffix_count - 1)) where
+  module _ (r : Bool) (f : r ≡ in_line (location_of s (suffix_line p)) (p.suffixes.count - 1)) where
     pub not_in_line : r ≡ false → false ≡ free (trie_pieces (trie_in s))
     unfolding conflict_free
-    not_in_line z = ap (λ (o : Bool). o && no_conflict (forest_due (location_of s (suffix_line p)) p.suffix_count 1 h.node.children p.suffix_count)) (sym z ∙ f) ∙ by_test
+    not_in_line z = ap (λ (o : Bool). o && is_some (forest_due (location_of s (suffix_line p)) p.suffixes.count 1 h.node.children p.suffixes.count)) (sym z ∙ f) ∙ by_test
 
     module _ (z : r ≡ true) where
       pub root_ready : Ready s (suffix_line p)
@@ -82,9 +82,9 @@ module _ (s : List ℕ) (h : RootHere s) (e : index_rule (trie_in s) ≡ true) (
       pub root_asked : ChildrenAsked s p 1 16
       root_asked = record { node = h.node; is = root_is; ending = all_ending h.node rule; levels = omega arith }
 
-      pub root_says : (d : Due) → ChildrenSays s (suffix_line p) p 1 16 p.suffix_count d → no_conflict (due_of d) ≡ free (trie_pieces (trie_in s))
+      pub root_says : (d : Option ℕ) → ChildrenSays s (suffix_line p) p 1 16 p.suffixes.count d → is_some d ≡ free (trie_pieces (trie_in s))
       unfolding conflict_free
       root_says d c =
-          ap no_conflict (c.says h.node root_is)
-          ∙ ap (λ (o : Bool). o && no_conflict (forest_due (location_of s (suffix_line p)) p.suffix_count 1 h.node.children p.suffix_count)) (sym z ∙ f)
+          ap is_some (c.says h.node root_is)
+          ∙ ap (λ (o : Bool). o && is_some (forest_due (location_of s (suffix_line p)) p.suffixes.count 1 h.node.children p.suffixes.count)) (sym z ∙ f)
           ∙ by_test

@@ -1,6 +1,5 @@
 -- What the functions ask for and say, of whatever node stands there. Assumes nothing.
-use Rattle.std.specs.Prelude.{ℕ, ◌+◌, ◌≤◌, ◌≡◌, List}
-use Rattle.std.proofs.Math.Option.{Option, none, some}
+use Rattle.std.specs.Prelude.{ℕ, ◌+◌, ◌≤◌, ◌≡◌, List, Option}
 use Rattle.conflicts.specs.Lined.{Lined}
 use Rattle.lined_locations.specs.declared.Line.{Line}
 use Rattle.lined_locations.specs.Line.{location_of, Within}
@@ -9,13 +8,6 @@ use Rattle.image_walk.specs.declared.Node.{Node as Parts}
 use Rattle.image_walk.specs.Here.{NodeHere}
 use Rattle.node_rule.specs.Parts.{PartsOf}
 use Rattle.image_conflicts.specs.Due.{Ending, AllEnding, forest_due, node_due}
-use Rattle.image_conflicts.specs.declared.Due.{Due}
-use Rattle.image_conflicts.specs.declared.Due.TheVariants.{Chunks, Conflict}
-
--- how many chunks are due, or none where a conflict was met
-abbrev pub due_of : Due → Option ℕ
-due_of (Chunks k) = some k
-due_of Conflict = none
 
 -- the locations lie within the memory and are in line
 pub record Ready (s : List ℕ) (v : Line) : Type 0 where
@@ -30,8 +22,8 @@ pub record NodeAsked (s : List ℕ) (at m left : ℕ) : Type 0 where
   pub below : AllEnding (m + 1) node.children
   pub levels : m + left ≤ 16
 
-pub record NodeSays (s : List ℕ) (v : Line) (at m left due : ℕ) (r : Due) : Type 0 where
-  pub says : (x : Node) → NodeHere s left at x → due_of r ≡ node_due (location_of s v) v.count m x due
+pub record NodeSays (s : List ℕ) (v : Line) (at m left due : ℕ) (r : Option ℕ) : Type 0 where
+  pub says : (x : Node) → NodeHere s left at x → r ≡ node_due (location_of s v) v.count m x due
 
 -- a node has these parts, at most `left` levels below it, and its children at depth m
 pub record ChildrenAsked (s : List ℕ) (p : Parts) (m left : ℕ) : Type 0 where
@@ -40,5 +32,5 @@ pub record ChildrenAsked (s : List ℕ) (p : Parts) (m left : ℕ) : Type 0 wher
   pub ending : AllEnding m node.children
   pub levels : m + left ≤ 17
 
-pub record ChildrenSays (s : List ℕ) (v : Line) (p : Parts) (m left due : ℕ) (r : Due) : Type 0 where
-  pub says : (x : Node) → PartsOf s left p x → due_of r ≡ forest_due (location_of s v) v.count m x.children due
+pub record ChildrenSays (s : List ℕ) (v : Line) (p : Parts) (m left due : ℕ) (r : Option ℕ) : Type 0 where
+  pub says : (x : Node) → PartsOf s left p x → r ≡ forest_due (location_of s v) v.count m x.children due

@@ -2,29 +2,23 @@
 #![tactic(auto)]
 
 ghost use Rattle.std.specs.Prelude.{◌≡◌, true, not, ◌+◌, ◌*◌, ◌≤◌, length};
-ghost use Rattle.definitions.specs.Location.{locations_in};
 ghost use Rattle.definitions.specs.Calls.{last_number};
 ghost use Rattle.definitions.specs.Conflicts.{free};
 ghost use Rattle.location.specs.Plain.{plain};
+ghost use Rattle.location_lists.specs.Lists.{held, Within};
 ghost use Rattle.lined_locations.specs.Line.{location_of};
 ghost use Rattle.trie.specs.Trie.{trie_pieces};
 ghost use Rattle.trie.specs.Test.{index_rule};
 ghost use Rattle.image_format.specs.Held.{trie_in};
 ghost use Rattle.image_format.specs.Reading.{RightImage};
 ghost use Rattle.image_conflicts.specs.Due.{lives_inside, all_clear, Ending, chunks_due};
-ghost use Rattle.image_conflicts.specs.Cited.{due_of, Ready, NodeAsked, NodeSays, ChildrenAsked, ChildrenSays};
+ghost use Rattle.image_conflicts.specs.Cited.{Ready, NodeAsked, NodeSays, ChildrenAsked, ChildrenSays};
 
 use definitions::{LOCATION_SIZE, PIECE_SIZE};
-use image_walk::{Node, Slot};
-use lined_locations::Line;
+use image_walk::Node;
+use lined_locations::{Line, LineKind};
 use location::SpacetimeLocation;
-
-// How many chunks are yet due, or that two pieces conflict.
-#[derive(Clone, Copy)]
-enum Due {
-    Chunks(usize),
-    Conflict,
-}
+use location_lists::List;
 
 // Whether no location behind the first address of a piece of m bytes at x, and before its end, lives together with it.
 fn is_clear(s: &[u8], v: Line, x: SpacetimeLocation, m: usize) -> bool
@@ -36,81 +30,61 @@ fn is_clear(s: &[u8], v: Line, x: SpacetimeLocation, m: usize) -> bool
     !lined_locations::lives_among(s, v, g, x, a + m as u64)
 }
 
-// Whether that is so of each of the count locations from index base on. A piece of one byte has no address behind its first.
-fn all_clear(s: &[u8], v: Line, base: usize, count: usize, m: usize) -> bool
-    requires { Ready s.now v × (base + count * 24 ≤ length s.now) × Ending m (locations_in s.now count base) }
-    ensures { result ≡ all_clear (location_of s.now v) v.count m (locations_in s.now count base) }
+// Whether that is so of each location of a list. A piece of one byte has no address behind its first.
+fn all_clear(s: &[u8], v: Line, list: List, m: usize) -> bool
+    requires { Ready s.now v × Within s.now list × Ending m (held s.now list) }
+    ensures { result ≡ all_clear (location_of s.now v) v.count m (held s.now list) }
 {
     if m < 2 {
         return true;
     }
-    let mut j = 0;
-    while j < count {
-        let x = location::location_at(s, base + j * LOCATION_SIZE);
+    for j in 0..list.count {
+        let x = location::location_at(s, list.at + j * LOCATION_SIZE);
         if !is_clear(s, v, x, m) {
             return false;
         }
-        j += 1;
     }
     true
 }
 
-// How many chunks are due behind those of a node at depth m.
-fn chunks_due(s: &[u8], v: Line, n: Node, m: usize, due: usize) -> Due
-    requires { Ready s.now v × (n.chunks + n.chunk_count * 24 ≤ length s.now) × Ending m (locations_in s.now n.chunk_count n.chunks) }
-    ensures { due_of result ≡ chunks_due (location_of s.now v) v.count m (locations_in s.now n.chunk_count n.chunks) due }
+// How many chunks are due behind those of a node at depth m; none where two pieces conflict.
+fn chunks_due(s: &[u8], v: Line, chunks: List, m: usize, due: usize) -> Option<usize>
+    requires { Ready s.now v × Within s.now chunks × Ending m (held s.now chunks) }
+    ensures { result ≡ chunks_due (location_of s.now v) v.count m (held s.now chunks) due }
 {
-    if due < n.chunk_count {
-        return Due::Conflict;
-    }
-    if !all_clear(s, v, n.chunks, n.chunk_count, m) {
-        return Due::Conflict;
-    }
-    Due::Chunks(due - n.chunk_count)
+    let rest = due.checked_sub(chunks.count)?;
+    all_clear(s, v, chunks, m).then_some(rest)
 }
 
 // How many chunks are due behind the children of the node n, which are at depth m, and all below them.
-#[cycle(children_due_node_due)]
-fn children_due(s: &[u8], v: Line, n: Node, m: usize, left: usize, due: usize) -> Due
+#[cycle(due)]
+fn children_due(s: &[u8], v: Line, n: Node, m: usize, left: usize, due: usize) -> Option<usize>
     requires { Ready s.now v × ChildrenAsked s.now n m left }
     ensures { ChildrenSays s.now v n m left due result }
 {
     if left == 0 {
-        return Due::Chunks(due);
+        return Some(due);
     }
     let mut rest = due;
-    let mut i = 0;
-    while i < n.children {
-        let j = i;
-        i = j + 1;
-        match image_walk::slot_in(s, n.table, n.children, j) {
-            Slot::Empty => {}
-            Slot::Taken { byte: _, at } => {
-                let below = node_due(s, v, at, m, left - 1, rest);
-                let Due::Chunks(k) = below else {
-                    return Due::Conflict;
-                };
-                rest = k;
-            }
+    for j in 0..n.table.count {
+        if let Some(entry) = image_walk::slot_in(s, n.table, j) {
+            rest = node_due(s, v, entry.node, m, left - 1, rest)?;
         }
     }
-    Due::Chunks(rest)
+    Some(rest)
 }
 
 // How many chunks are due behind the node at index at, at depth m, and all below it. Where a node has no suffixes there is
 // no piece below it.
-#[cycle(children_due_node_due)]
-fn node_due(s: &[u8], v: Line, at: usize, m: usize, left: usize, due: usize) -> Due
+#[cycle(due)]
+fn node_due(s: &[u8], v: Line, at: usize, m: usize, left: usize, due: usize) -> Option<usize>
     requires { Ready s.now v × NodeAsked s.now at m left }
     ensures { NodeSays s.now v at m left due result }
 {
     let n = image_walk::node_at(s, at);
-    let own = chunks_due(s, v, n, m, due);
-    let Due::Chunks(rest) = own else {
-        return Due::Conflict;
-    };
-    if n.suffix_count == 0 {
-        return Due::Chunks(rest);
+    let rest = chunks_due(s, v, n.chunks, m, due)?;
+    if n.suffixes.count == 0 {
+        return Some(rest);
     }
     children_due(s, v, n, m + 1, left, rest)
 }
@@ -121,20 +95,15 @@ pub fn conflict_free(s: &[u8]) -> bool
     requires { RightImage s.now × (index_rule (trie_in s.now) ≡ true) }
     ensures { result ≡ free (trie_pieces (trie_in s.now)) }
 {
-    if s[0] == 0 {
+    if image_walk::is_empty(s) {
         return true;
     }
     let root = image_walk::node_at(s, 0);
     let line = Line {
-        base: root.suffixes,
-        count: root.suffix_count,
-        logged: false,
+        base: root.suffixes.at,
+        count: root.suffixes.count,
+        kind: LineKind::Row,
     };
-    if !lined_locations::in_line(s, line) {
-        return false;
-    }
-    match children_due(s, line, root, 1, PIECE_SIZE, line.count) {
-        Due::Chunks(_) => true,
-        Due::Conflict => false,
-    }
+    lined_locations::in_line(s, line)
+        && children_due(s, line, root, 1, PIECE_SIZE, line.count).is_some()
 }

@@ -9,92 +9,106 @@ use mathlib.Core.Option.{Option, none, some}
 use lib.ListN.{length, get_or}
 use lib.Dec.{eqb}
 use borrow.Author.Tests.{eq-eqb, eqb-true, ne_eqb}
+use Rattle.std.specs.Prelude.{Some, None}
 use Rattle.words.specs.Words.{le64}
 use Rattle.definitions.proofs.Views.{Eq, eq}
 use Rattle.definitions.specs.Location.{Location, location_at, locations_in}
 use Rattle.trie.specs.Trie.{Lists, Forest, leaf, more, Node}
 use Rattle.trie.specs.Test.{all_ended, and_list, child_lists, front_lists, is_union}
 use Rattle.definitions.proofs.Tests.{both}
-use Rattle.location_lists.specs.Lists.{Lists as ListsIn, lists_in, count_with}
+use Rattle.location_lists.specs.Lists.{held, Within, AreLists, lists_in}
+use Rattle.location_lists.specs.declared.List.{List as Listing}
+use Rattle.location_lists.specs.declared.Lists.{Lists as Walked}
 use Rattle.image_format.specs.Held.{Entry}
 pub use Rattle.fields.proofs.Singles.{by_test, not_so}
 use Rattle.fields.specs.Singles.{Bare, SingleWithoutLists}
-use Rattle.image_walk.specs.Parts.{parts_at}
+use Rattle.image_walk.specs.Parts.{list_in, parts_at}
 use Rattle.image_walk.specs.Tables.{slot_in}
 use Rattle.image_walk.specs.Here.{Laid}
 use Rattle.image_walk.proofs.Parts.{parts_are, room_last}
 use Rattle.node_rule.specs.Parts.{TableOf, PartsOf, HasTable}
 use Rattle.single_runs.specs.Says.{children_right}
 use Rattle.node_rule.specs.OneNode.{ChildLists, with_two}
-use Rattle.single_runs.specs.Runs.{SingleTable, BareSingle, byte_behind, Down, RunAt, RunTo, SaysNone, is_leaf, LeafSays}
+use Rattle.single_runs.specs.Runs.{SingleTable, BareSingle, byte_behind, Down, StepsTo, RunAt, RunTo, SaysNone, is_leaf, LeafSays}
 use Rattle.node_rule.proofs.Tables.{Next, slot_taken, slots_end}
 use Rattle.node_rule.proofs.Parts.{parts_of}
 use Rattle.node_rule.proofs.Children.{next_laid}
 use Rattle.node_rule.proofs.Owed.{table_none}
 use Rattle.node_rule.proofs.TwoLists.{two_among, two_valid}
 use Rattle.location_lists.proofs.Buffers.{no_lists}
+use Rattle.single_runs.proofs.StepLaws.{steps_keep}
 use Rattle.image_walk.specs.declared.Node.{Node as Parts}
+use Rattle.image_walk.specs.declared.Table.{Table}
+use Rattle.single_runs.specs.declared.Pair.{Pair}
 
 -- ── one node ──
 
 pub record LeafParts (p : Parts) : Type 0 where
-  pub children : p.children ≡ 0
-  pub chunks : p.chunk_count ≡ 0
-  pub suffixes : p.suffix_count ≡ 0
-  pub prefixes : p.prefix_count ≡ 1
+  pub children : p.table.count ≡ 0
+  pub chunks : p.chunks.count ≡ 0
+  pub suffixes : p.suffixes.count ≡ 0
+  pub prefixes : p.prefixes.count ≡ 1
 
 pub leaf_parts : (p : Parts) → is_leaf p ≡ true → LeafParts p
 leaf_parts p e =
-    let x = both (eqb p.children 0) _ e in
-    let y = both (eqb p.chunk_count 0) _ x.1 in
-    let z = both (eqb p.suffix_count 0) _ y.1 in
+    let x = both (eqb p.table.count 0) _ e in
+    let y = both (eqb p.chunks.count 0) _ x.1 in
+    let z = both (eqb p.suffixes.count 0) _ y.1 in
     record { children = eqb-true _ _ x.0; chunks = eqb-true _ _ y.0; suffixes = eqb-true _ _ z.0; prefixes = eqb-true _ _ z.1 }
 
 -- a node has room for its counts
 pub laid_room : (s : List ℕ) (at : ℕ) → Laid s at → at + 33 ≤ length s
-laid_room s at h = let r = room_last s at _ _ _ h refl refl refl in omega arith
+laid_room s at h = let r = room_last s at _ refl _ refl _ refl _ refl _ refl h in omega arith
 
-module _ (s : List ℕ) (at : ℕ) (b : Bare s at) where
-  chunks_there : 0 ≡ le64 s (at + 1 + 8 + 24 * 0)
-  chunks_there = let e : at + 9 ≡ at + 1 + 8 + 24 * 0 = omega arith in sym b.chunks ∙ ap (le64 s) e
+-- a list that was counted
+listed : (s : List ℕ) (i n : ℕ) → n ≡ le64 s i → ◌≡◌ {A = Listing} (record { at = i + 8; count = n }) (list_in s i)
+listed s i n e = λ k. record { at = i + 8; count = e k }
 
-  suffixes_there : le64 s (at + 17) ≡ le64 s (at + 1 + 8 + 24 * 0 + 8 + 24 * 0)
-  suffixes_there = let e : at + 17 ≡ at + 1 + 8 + 24 * 0 + 8 + 24 * 0 = omega arith in ap (le64 s) e
+module _ (s : List ℕ) (at : ℕ) (b : Bare s at) (u : ℕ) (e : u ≡ le64 s (at + 17)) where
+  to_chunks : at + 9 ≡ at + 1 + 8 + 0 * 24
+  to_chunks = omega arith
 
-  pub bare_room : (u : ℕ) → Laid s at → u ≡ le64 s (at + 17) → at + 25 + 24 * u + 8 ≤ length s
-  bare_room u h e = let r = room_last s at 0 0 u h (sym b.prefixes) chunks_there (e ∙ suffixes_there) in omega arith
+  to_suffixes : at + 17 ≡ at + 9 + 8 + 0 * 24
+  to_suffixes = omega arith
 
-  pub bare_parts : (u : ℕ) → u ≡ le64 s (at + 17) → 1 ≡ le64 s (at + 25 + 24 * u) → BareSingle (parts_at s at) (at + 25 + 24 * u + 8) × ((parts_at s at).suffix_count ≡ u)
-  bare_parts u e f =
-      let z : get_or s at 0 ≡ 1 → ⊥ = omega (arith, b.kind) in
-      let x : at + 25 + 24 * u ≡ at + 1 + 8 + 24 * 0 + 8 + 24 * 0 + 8 + 24 * u = omega arith in
-      let p = parts_are s at 0 0 u (at + 1 + 8 + 24 * 0 + 8 + 24 * 0 + 8 + 24 * u + 8) 1 (sym b.prefixes) chunks_there (e ∙ suffixes_there) (simp (ne_eqb _ _ z)) (simp (ne_eqb _ _ z) (f ∙ ap (le64 s) x)) in (
-        record {
-          prefixes = sym (ap (λ (y : Parts). y.prefix_count) p);
-          chunks = sym (ap (λ (y : Parts). y.chunk_count) p);
-          leads = sym (ap (λ (y : Parts). y.table) p) ∙ ap (λ (y : ℕ). y + 8) (sym x);
-          one = sym (ap (λ (y : Parts). y.children) p);
-        },
-        sym (ap (λ (y : Parts). y.suffix_count) p),
-      )
+  pub bare_room : Laid s at → at + 25 + 24 * u + 8 ≤ length s
+  bare_room h =
+      let r = room_last s at _ (listed s (at + 1) 0 (sym b.prefixes)) (at + 9) to_chunks _ (listed s (at + 9) 0 (sym b.chunks)) (at + 17) to_suffixes _ (listed s (at + 17) u e) h in
+      omega arith
 
-  pub bare_place : (u : ℕ) → u ≡ le64 s (at + 17) → 1 ≡ le64 s (at + 25 + 24 * u) → (parts_at s at).suffixes ≡ at + 25
-  bare_place u e f =
-      let z : get_or s at 0 ≡ 1 → ⊥ = omega (arith, b.kind) in
-      let x : at + 25 + 24 * u ≡ at + 1 + 8 + 24 * 0 + 8 + 24 * 0 + 8 + 24 * u = omega arith in
-      let p = parts_are s at 0 0 u (at + 1 + 8 + 24 * 0 + 8 + 24 * 0 + 8 + 24 * u + 8) 1 (sym b.prefixes) chunks_there (e ∙ suffixes_there) (simp (ne_eqb _ _ z)) (simp (ne_eqb _ _ z) (f ∙ ap (le64 s) x)) in
-      let y : at + 1 + 8 + 24 * 0 + 8 + 24 * 0 + 8 ≡ at + 25 = omega arith in
-      sym (ap (λ (y : Parts). y.suffixes) p) ∙ y
+  module _ (f : 1 ≡ le64 s (at + 25 + 24 * u)) where
+    bare_are : ◌≡◌ {A = Parts}
+        (record { prefixes = record { at = at + 1 + 8; count = 0 }; chunks = record { at = at + 9 + 8; count = 0 }; suffixes = record { at = at + 17 + 8; count = u }; table = record { at = at + 25 + 24 * u + 8; count = 1 } })
+        (parts_at s at)
+    bare_are =
+        let z : get_or s at 0 ≡ 1 → ⊥ = omega (arith, b.kind) in
+        let m : at + 25 + 24 * u ≡ at + 17 + 8 + u * 24 = omega arith in
+        let t : ◌≡◌ {A = Table} (record { at = at + 25 + 24 * u + 8; count = 1 }) (record { at = at + 25 + 24 * u + 8; count = le64 s (at + 25 + 24 * u) }) = λ k. record { at = at + 25 + 24 * u + 8; count = f k } in
+        parts_are s at _ (listed s (at + 1) 0 (sym b.prefixes)) (at + 9) to_chunks _ (listed s (at + 9) 0 (sym b.chunks)) (at + 17) to_suffixes _ (listed s (at + 17) u e) (at + 25 + 24 * u) m _ (rw (ne_eqb _ _ z) t)
 
-  pub bare_some : (u r : ℕ) → u ≡ le64 s (at + 17) → SingleTable s (at + 25 + 24 * u) r → BareSingle (parts_at s at) r
-  bare_some u r e l = subst (BareSingle (parts_at s at)) l.table_is (bare_parts u e (sym l.one)).0
+    pub bare_parts : BareSingle (parts_at s at) (at + 25 + 24 * u + 8) × ((parts_at s at).suffixes.count ≡ u)
+    bare_parts = (
+      record {
+        prefixes = sym (ap (λ (y : Parts). y.prefixes.count) bare_are);
+        chunks = sym (ap (λ (y : Parts). y.chunks.count) bare_are);
+        leads = sym (ap (λ (y : Parts). y.table.at) bare_are);
+        one = sym (ap (λ (y : Parts). y.table.count) bare_are);
+      },
+      sym (ap (λ (y : Parts). y.suffixes.count) bare_are),
+    )
 
-  pub bare_none : (u r : ℕ) → u ≡ le64 s (at + 17) → u ≡ 0 → SingleTable s (at + 25) r → BareSingle (parts_at s at) r
-  bare_none u r e z l =
+    pub bare_place : (parts_at s at).suffixes.at ≡ at + 25
+    bare_place = let y : at + 17 + 8 ≡ at + 25 = omega arith in sym (ap (λ (y : Parts). y.suffixes.at) bare_are) ∙ y
+
+  pub bare_some : (r : ℕ) → SingleTable s (at + 25 + 24 * u) r → BareSingle (parts_at s at) r
+  bare_some r l = subst (BareSingle (parts_at s at)) l.table_is (bare_parts (sym l.one)).0
+
+  pub bare_none : u ≡ 0 → (r : ℕ) → SingleTable s (at + 25) r → BareSingle (parts_at s at) r
+  bare_none z r l =
       let x : at + 25 ≡ at + 25 + 24 * u = omega arith in
-      bare_some u r e (subst (λ (y : ℕ). SingleTable s y r) x l)
+      bare_some r (subst (λ (y : ℕ). SingleTable s y r) x l)
 
-pub without_lists : (s : List ℕ) (at : ℕ) → SingleWithoutLists s at → BareSingle (parts_at s at) (at + 33) × ((parts_at s at).suffix_count ≡ 0)
+pub without_lists : (s : List ℕ) (at : ℕ) → SingleWithoutLists s at → BareSingle (parts_at s at) (at + 33) × ((parts_at s at).suffixes.count ≡ 0)
 without_lists s at h =
     let x : at + 25 ≡ at + 25 + 24 * 0 = omega arith in
     let y : at + 25 + 24 * 0 + 8 ≡ at + 33 = omega arith in
@@ -121,69 +135,69 @@ module _ (s : List ℕ) (table : ℕ) (e : Entry) (q : some e ≡ slot_in s tabl
   only_parts d g t = let x = only d g t in parts_of s (d - 1) e.node (record { lists = x.lists; children = x.below }) x.here
 
   pub only_leads : (d : ℕ) (g : Forest) (t : TableOf s d table 1 g) (n : ℕ) → BareSingle (parts_at s e.node) n → TableOf s (d - 1) n 1 (only d g t).below
-  only_leads d g t n b = let p = (only_parts d g t).table in subst (λ (k : ℕ). TableOf s (d - 1) n k (only d g t).below) b.one (subst (λ (k : ℕ). TableOf s (d - 1) k (parts_at s e.node).children (only d g t).below) b.leads p)
+  only_leads d g t n b = let p = (only_parts d g t).table in subst (λ (k : ℕ). TableOf s (d - 1) n k (only d g t).below) b.one (subst (λ (k : ℕ). TableOf s (d - 1) k (parts_at s e.node).table.count (only d g t).below) b.leads p)
 
-pub goes_down : (s : List ℕ) (table other t o : ℕ) (e f : Entry) → some e ≡ slot_in s table 1 0 → some f ≡ slot_in s other 1 0 → e.byte ≡ f.byte →
-    BareSingle (parts_at s e.node) t × ((parts_at s e.node).suffix_count ≡ 0) → BareSingle (parts_at s f.node) o → Down s table other t o
-goes_down s table other t o e f q r z x y d c g h m n =
-    let a = only s table e q d g m in
-    let b = only s other f r c h n in
-    let p = only_parts s table e q d g m in
-    let k = only_parts s other f r c h n in
+pub goes_down : (s : List ℕ) (p q : Pair) (e f : Entry) → some e ≡ slot_in s p.table 1 0 → some f ≡ slot_in s p.other 1 0 → e.byte ≡ f.byte →
+    BareSingle (parts_at s e.node) q.table × ((parts_at s e.node).suffixes.count ≡ 0) → BareSingle (parts_at s f.node) q.other → Down s p q
+goes_down s p q e f u v z x y d c g h m n =
+    let a = only s p.table e u d g m in
+    let b = only s p.other f v c h n in
+    let i = only_parts s p.table e u d g m in
+    let k = only_parts s p.other f v c h n in
     record {
       byte = e.byte;
       lists = a.lists;
       below = a.below;
       front = record { lists = b.lists; children = b.below };
-      is = only_is s table e q d g m;
-      front_is = only_is s other f r c h n ∙ ap (λ (i : ℕ). more i b.lists b.below leaf) (sym z);
-      prefixes = no_locations s _ _ _ x.0.prefixes p.prefixes;
-      chunks = no_locations s _ _ _ x.0.chunks p.chunks;
-      suffixes = no_locations s _ _ _ x.1 p.suffixes;
+      is = only_is s p.table e u d g m;
+      front_is = only_is s p.other f v c h n ∙ ap (λ (j : ℕ). more j b.lists b.below leaf) (sym z);
+      prefixes = no_locations s _ _ _ x.0.prefixes i.prefixes;
+      chunks = no_locations s _ _ _ x.0.chunks i.chunks;
+      suffixes = no_locations s _ _ _ x.1 i.suffixes;
       front_chunks = no_locations s _ _ _ y.chunks k.chunks;
       front_prefixes = no_locations s _ _ _ y.prefixes k.prefixes;
-      leads = only_leads s table e q d g m t x.0;
-      front_leads = only_leads s other f r c h n o y;
-      some = never p.childless x.0.one;
+      leads = only_leads s p.table e u d g m q.table x.0;
+      front_leads = only_leads s p.other f v c h n q.other y;
+      some = never i.childless x.0.one;
     }
   where
     never : {v : ℕ} {w : Forest} → (w ≡ leaf → v ≡ 0) → v ≡ 1 → w ≡ leaf → ⊥
     never i j l = let u = i l in omega arith
 
-pub behind_none : (o : Option Entry) (due : ℕ) → none ≡ o → 256 ≡ byte_behind o due
+pub behind_none : (o : Option Entry) (due : ℕ) → none ≡ o → None ≡ byte_behind o due
 behind_none o due q = ap (λ (p : Option Entry). byte_behind p due) q
 
-pub behind_other : (o : Option Entry) (e : Entry) (due : ℕ) → some e ≡ o → (e.node ≡ due → ⊥) → 256 ≡ byte_behind o due
+pub behind_other : (o : Option Entry) (e : Entry) (due : ℕ) → some e ≡ o → (e.node ≡ due → ⊥) → None ≡ byte_behind o due
 behind_other o e due q n =
-    let z : cond (eqb e.node due) e.byte 256 ≡ 256 = rw (ne_eqb e.node due n) refl in
+    let z : cond (eqb e.node due) (Some e.byte) None ≡ None = rw (ne_eqb e.node due n) refl in
     sym z ∙ ap (λ (p : Option Entry). byte_behind p due) q
 
-pub behind_here : (o : Option Entry) (e : Entry) (due : ℕ) → some e ≡ o → e.node ≡ due → e.byte ≡ byte_behind o due
+pub behind_here : (o : Option Entry) (e : Entry) (due : ℕ) → some e ≡ o → e.node ≡ due → Some e.byte ≡ byte_behind o due
 behind_here o e due q n =
-    let z : cond (eqb e.node due) e.byte 256 ≡ e.byte = rw (eq-eqb e.node due n) refl in
+    let z : cond (eqb e.node due) (Some e.byte) None ≡ Some e.byte = rw (eq-eqb e.node due n) refl in
     sym z ∙ ap (λ (p : Option Entry). byte_behind p due) q
 
 -- a byte of an entry whose node stands there is that of the entry
-behind_is : (o : Option Entry) (due r : ℕ) → r ≡ byte_behind o due → (r ≡ 256 → ⊥) → some (record { byte = r; node = due }) ≡ o
-behind_is none due r e n = absurd (n e)
-behind_is (some x) due r e n = go (eqb x.node due) (eq x.node due) e
+behind_is : (o : Option Entry) (due r : ℕ) → Some r ≡ byte_behind o due → some (record { byte = r; node = due }) ≡ o
+behind_is none due r e = absurd (cc)
+behind_is (some x) due r e = go (eqb x.node due) (eq x.node due) e
   where
-    go : (t : Bool) → Eq t x.node due → r ≡ cond t x.byte 256 → some (record { byte = r; node = due }) ≡ some x
-    go true z f = ap some (λ i. record { byte = f i; node = sym z i })
-    go false z f = absurd (n f)
+    go : (t : Bool) → Eq t x.node due → Some r ≡ cond t (Some x.byte) None → some (record { byte = r; node = due }) ≡ some x
+    go true z f = let b : r ≡ x.byte = cc in ap some (λ i. record { byte = b i; node = sym z i })
+    go false z f = absurd (cc)
 
 -- the same where the children stand right behind their tables
-module _ (s : List ℕ) (table b : ℕ) (e : b ≡ byte_behind (slot_in s table 1 0) (table + 10)) (n : b ≡ 256 → ⊥) where
+module _ (s : List ℕ) (table b : ℕ) (e : Some b ≡ byte_behind (slot_in s table 1 0) (table + 10)) where
   pub behind : some (record { byte = b; node = table + 10 }) ≡ slot_in s table 1 0
-  behind = behind_is (slot_in s table 1 0) (table + 10) b e n
+  behind = behind_is (slot_in s table 1 0) (table + 10) b e
 
   pub laid_behind : HasTable s table 1 → Laid s (table + 10)
   laid_behind = only_laid s table (record { byte = b; node = table + 10 }) behind
 
-pub goes_behind : (s : List ℕ) (table other t o b c : ℕ) → b ≡ byte_behind (slot_in s table 1 0) (table + 10) → (b ≡ 256 → ⊥) → c ≡ byte_behind (slot_in s other 1 0) (other + 10) → c ≡ b →
-    BareSingle (parts_at s (table + 10)) t × ((parts_at s (table + 10)).suffix_count ≡ 0) → BareSingle (parts_at s (other + 10)) o → Down s table other t o
-goes_behind s table other t o b c e n f z =
-    goes_down s table other t o (record { byte = b; node = table + 10 }) (record { byte = c; node = other + 10 }) (behind s table b e n) (behind s other c f (λ y. n (sym z ∙ y))) (sym z)
+pub goes_behind : (s : List ℕ) (p q : Pair) (b c : ℕ) → Some b ≡ byte_behind (slot_in s p.table 1 0) (p.table + 10) → Some c ≡ byte_behind (slot_in s p.other 1 0) (p.other + 10) → c ≡ b →
+    BareSingle (parts_at s (p.table + 10)) q.table × ((parts_at s (p.table + 10)).suffixes.count ≡ 0) → BareSingle (parts_at s (p.other + 10)) q.other → Down s p q
+goes_behind s p q b c e f z =
+    goes_down s p q (record { byte = b; node = p.table + 10 }) (record { byte = c; node = p.other + 10 }) (behind s p.table b e) (behind s p.other c f) (sym z)
 
 -- an entry of a table ends within the image
 pub table_room : (s : List ℕ) (table : ℕ) → HasTable s table 1 → table + 9 ≤ length s
@@ -191,9 +205,9 @@ table_room s table h = let z : ◌≡◌ {A = ℕ} 1 256 → ⊥ = omega arith i
 
 -- ── what the child in a table owes ──
 
-pub none_say : (s : List ℕ) (table : ℕ) (lists : List ℕ) (count : ℕ) (r : Bool) → ChildLists s table 1 lists count → r ≡ is_union 0 (locations_in s 0 0) (lists_in s lists count) → SaysNone s table r
+pub none_say : (s : List ℕ) (table : ℕ) (lists : Walked) (r : Bool) → ChildLists s table 1 lists → r ≡ is_union 0 (locations_in s 0 0) (lists_in s lists) → SaysNone s table r
 unfolding locations_in
-none_say s table lists count r k e d f t = e ∙ ap all_ended (k.are d f t)
+none_say s table lists r k e d f t = e ∙ ap all_ended (k.are d f t)
 
 -- ── a run ──
 
@@ -234,68 +248,63 @@ unfolding locations_in
 one_location s n at ls z e = subst (λ (k : ℕ). locations_in s k at ≡ ls) z e
 
 -- the lists of a front alone
-module _ (s lists : List ℕ) (f : Parts) (d : ℕ) (n : Node) (p : PartsOf s d f n) (r : 4 ≤ length lists) where
-  abbrev alone : List ℕ
-  alone = with_two lists 0 f.chunks f.chunk_count f.prefixes f.prefix_count
+module _ (s : List ℕ) (lists : Walked) (z : lists.count ≡ 0) (f : Parts) (d : ℕ) (n : Node) (p : PartsOf s d f n) (r : 2 ≤ length lists.each) where
+  abbrev alone : Walked
+  alone = with_two lists f.chunks f.prefixes
 
-  abbrev alone_count : ℕ
-  alone_count = count_with (count_with 0 f.chunk_count) f.prefix_count
+  pub alone_valid : AreLists s alone
+  alone_valid = two_valid lists f.chunks f.prefixes s (omega arith) p.chunks_in p.prefixes_in (no_lists s lists z)
 
-  pub alone_valid : ListsIn s alone alone_count
-  alone_valid = two_valid lists 0 f.chunks f.chunk_count f.prefixes f.prefix_count s (omega arith) p.chunks_in p.prefixes_in (no_lists s lists)
-
-  alone_are : lists_in s alone alone_count ≡ front_lists (n ∷ [])
+  alone_are : lists_in s alone ≡ front_lists (n ∷ [])
   alone_are =
-      let e : lists_in s alone alone_count ++ [] ≡ and_list (locations_in s f.chunk_count f.chunks) (and_list (locations_in s f.prefix_count f.prefixes) []) =
-      two_among lists 0 f.chunks f.chunk_count f.prefixes f.prefix_count s [] (omega arith) in
-      let g : and_list (locations_in s f.chunk_count f.chunks) (and_list (locations_in s f.prefix_count f.prefixes) []) ≡ front_lists (n ∷ []) = rw (p.chunks, p.prefixes) refl in
-      sym (append-nil (lists_in s alone alone_count)) ∙ e ∙ g
+      let o : lists_in s lists ≡ [] = rw z refl in
+      let e : lists_in s alone ++ [] ≡ lists_in s lists ++ and_list (held s f.chunks) (and_list (held s f.prefixes) []) = two_among lists f.chunks f.prefixes s [] (omega arith) in
+      let g : and_list (held s f.chunks) (and_list (held s f.prefixes) []) ≡ front_lists (n ∷ []) = rw (p.chunks, p.prefixes) refl in
+      sym (append-nil (lists_in s alone)) ∙ e ∙ ap (λ (x : List (List Location)). x ++ and_list (held s f.chunks) (and_list (held s f.prefixes) [])) o ∙ g
 
-module _ (s : List ℕ) (table other : ℕ) (e i : Entry) (q : some e ≡ slot_in s table 1 0) (r : some i ≡ slot_in s other 1 0) (c f : Parts) (g : c ≡ parts_at s e.node) (k : f ≡ parts_at s i.node) where
-  child_parts : (d : ℕ) (w : Forest) (t : TableOf s d table 1 w) → PartsOf s (d - 1) c (record { lists = (only s table e q d w t).lists; children = (only s table e q d w t).below })
-  child_parts d w t = rw g (only_parts s table e q d w t)
+module _ (s : List ℕ) (at : Pair) (e i : Entry) (q : some e ≡ slot_in s at.table 1 0) (r : some i ≡ slot_in s at.other 1 0) (c f : Parts) (g : c ≡ parts_at s e.node) (k : f ≡ parts_at s i.node) where
+  child_parts : (d : ℕ) (w : Forest) (t : TableOf s d at.table 1 w) → PartsOf s (d - 1) c (record { lists = (only s at.table e q d w t).lists; children = (only s at.table e q d w t).below })
+  child_parts d w t = rw g (only_parts s at.table e q d w t)
 
-  front_parts : (d : ℕ) (w : Forest) (t : TableOf s d other 1 w) → PartsOf s (d - 1) f (record { lists = (only s other i r d w t).lists; children = (only s other i r d w t).below })
-  front_parts d w t = rw k (only_parts s other i r d w t)
+  front_parts : (d : ℕ) (w : Forest) (t : TableOf s d at.other 1 w) → PartsOf s (d - 1) f (record { lists = (only s at.other i r d w t).lists; children = (only s at.other i r d w t).below })
+  front_parts d w t = rw k (only_parts s at.other i r d w t)
 
-  pub leaf_prefixes : HasTable s table 1 → c.prefixes + c.prefix_count * 24 ≤ length s
+  pub leaf_prefixes : HasTable s at.table 1 → Within s c.prefixes
   leaf_prefixes h = (child_parts h.depth h.forest h.is).prefixes_in
 
-  pub leaf_chunks : HasTable s other 1 → (f.chunks + f.chunk_count * 24 ≤ length s) × (f.prefixes + f.prefix_count * 24 ≤ length s)
+  pub leaf_chunks : HasTable s at.other 1 → Within s f.chunks × Within s f.prefixes
   leaf_chunks h = let p = front_parts h.depth h.forest h.is in (p.chunks_in, p.prefixes_in)
 
-  module _ (lists : List ℕ) (room : 4 ≤ length lists) where
-    pub leaf_valid : HasTable s other 1 → ListsIn s (with_two lists 0 f.chunks f.chunk_count f.prefixes f.prefix_count) (count_with (count_with 0 f.chunk_count) f.prefix_count)
-    leaf_valid h = alone_valid s lists f _ _ (front_parts h.depth h.forest h.is) room
+  module _ (lists : Walked) (y : lists.count ≡ 0) (room : 2 ≤ length lists.each) where
+    pub leaf_valid : HasTable s at.other 1 → AreLists s (with_two lists f.chunks f.prefixes)
+    leaf_valid h = alone_valid s lists y f _ _ (front_parts h.depth h.forest h.is) room
 
-    pub leaf_says : e.byte ≡ i.byte → LeafParts c → f.children ≡ 0 → (v : Bool) →
-        v ≡ is_union 1 (locations_in s c.prefix_count c.prefixes) (lists_in s (with_two lists 0 f.chunks f.chunk_count f.prefixes f.prefix_count) (count_with (count_with 0 f.chunk_count) f.prefix_count)) →
-        LeafSays s table other v
+    pub leaf_says : e.byte ≡ i.byte → LeafParts c → f.table.count ≡ 0 → (v : Bool) → v ≡ is_union 1 (held s c.prefixes) (lists_in s (with_two lists f.chunks f.prefixes)) → LeafSays s at v
     leaf_says z l n v u depth d j w front t o =
-        let x = only s table e q d w t in
-        let y = only s other i r j front.children o in
-        let last : Node = record { lists = y.lists; children = y.below } in
+        let x = only s at.table e q d w t in
+        let y' = only s at.other i r j front.children o in
+        let last : Node = record { lists = y'.lists; children = y'.below } in
         let p = child_parts d w t in
         let m = front_parts j front.children o in
-        let a : x.below ≡ leaf = table_none s (d - 1) c.table c.children x.below p.table (omega (arith, l.children)) in
-        let b : y.below ≡ leaf = table_none s (j - 1) f.table f.children y.below m.table (omega arith) in
-        let is : w ≡ more e.byte x.lists leaf leaf = only_is s table e q d w t ∙ ap (λ (k : Forest). more e.byte x.lists k leaf) a in
-        let front_is : front.children ≡ more e.byte y.lists y.below leaf = only_is s other i r j front.children o ∙ ap (λ (k : ℕ). more k y.lists y.below leaf) (sym z) in
+        let a : x.below ≡ leaf = table_none s (d - 1) c.table.at c.table.count x.below p.table (omega (arith, l.children)) in
+        let b : y'.below ≡ leaf = table_none s (j - 1) f.table.at f.table.count y'.below m.table (omega arith) in
+        let is : w ≡ more e.byte x.lists leaf leaf = only_is s at.table e q d w t ∙ ap (λ (k : Forest). more e.byte x.lists k leaf) a in
+        let front_is : front.children ≡ more e.byte y'.lists y'.below leaf = only_is s at.other i r j front.children o ∙ ap (λ (k : ℕ). more k y'.lists y'.below leaf) (sym z) in
         let pre = one_location s _ _ _ l.prefixes p.prefixes in
         let chu = no_locations s _ _ _ l.chunks p.chunks in
         let suf = no_locations s _ _ _ l.suffixes p.suffixes in
-        let s₁ : is_union 1 (locations_in s c.prefix_count c.prefixes) (lists_in s (alone s lists f (j - 1) last m room) (alone_count s lists f (j - 1) last m room)) ≡ is_union 1 x.lists.prefixes (front_lists (last ∷ [])) =
-        ap (λ (k : List Location). is_union 1 k (lists_in s (alone s lists f (j - 1) last m room) (alone_count s lists f (j - 1) last m room))) p.prefixes ∙ ap (is_union 1 x.lists.prefixes) (alone_are s lists f (j - 1) last m room) in
+        let s₁ : is_union 1 (held s c.prefixes) (lists_in s (with_two lists f.chunks f.prefixes)) ≡ is_union 1 x.lists.prefixes (front_lists (last ∷ [])) =
+        ap (λ (k : List Location). is_union 1 k (lists_in s (with_two lists f.chunks f.prefixes))) p.prefixes ∙ ap (is_union 1 x.lists.prefixes) (alone_are s lists y f (j - 1) last m room) in
         record {
           none = none_owed w e.byte x.lists leaf is chu suf;
           says = u ∙ s₁ ∙ one_leaf depth e.byte x.lists front last _ front_is b pre chu suf ∙ ap (children_right depth (front ∷ [])) (sym is);
         }
 
-module _ (s : List ℕ) (table other most : ℕ) where
-  pub run_none : RunTo s table other most 0 table other
+module _ (s : List ℕ) (p : Pair) (most : ℕ) where
+  pub run_none : RunTo s p most 0 p
   run_none = record { few = omega arith; is = is }
     where
-      is : (depth d e : ℕ) (g : Forest) (front : Node) → TableOf s d table 1 g → TableOf s e other 1 front.children → RunAt s depth d e 0 table other g front
+      is : (depth d e : ℕ) (g : Forest) (front : Node) → TableOf s d p.table 1 g → TableOf s e p.other 1 front.children → RunAt s depth d e 0 p.table p.other g front
       is depth d e g front t o =
           let x : d ≡ d - 0 = omega arith in
           let y : e ≡ e - 0 = omega arith in
@@ -303,32 +312,28 @@ module _ (s : List ℕ) (table other most : ℕ) where
           record {
             below = g;
             last = front;
-            leads = subst (λ (k : ℕ). TableOf s k table 1 g) x t;
-            front_leads = subst (λ (k : ℕ). TableOf s k other 1 front.children) y o;
+            leads = subst (λ (k : ℕ). TableOf s k p.table 1 g) x t;
+            front_leads = subst (λ (k : ℕ). TableOf s k p.other 1 front.children) y o;
             right = true;
             first = λ _. refl;
             after = λ n. absurd (n refl);
             same = ap (λ (k : ℕ). children_right k (front ∷ []) g) z;
           }
 
-  module _ (k t o : ℕ) (r : RunTo s table other most k t o) where
-    module _ (p : HasTable s table 1) (q : HasTable s other 1) where
-      here : RunAt s 0 p.depth q.depth k t o p.forest (record { lists = record { prefixes = []; chunks = []; suffixes = [] }; children = q.forest })
-      here = r.is 0 p.depth q.depth p.forest (record { lists = record { prefixes = []; chunks = []; suffixes = [] }; children = q.forest }) p.is q.is
+  module _ (k : ℕ) (q : Pair) (r : RunTo s p most k q) where
+    pub run_tables : HasTable s p.table 1 × HasTable s p.other 1 → HasTable s q.table 1 × HasTable s q.other 1
+    run_tables h =
+        let f : Node = record { lists = record { prefixes = []; chunks = []; suffixes = [] }; children = h.1.forest } in
+        let x = r.is 0 h.0.depth h.1.depth h.0.forest f h.0.is h.1.is in
+        (record { depth = h.0.depth - k; forest = x.below; is = x.leads }, record { depth = h.1.depth - k; forest = x.last.children; is = x.front_leads })
 
-      pub run_table : HasTable s t 1
-      run_table = record { depth = p.depth - k; forest = here.below; is = here.leads }
-
-      pub run_other : HasTable s o 1
-      run_other = record { depth = q.depth - k; forest = here.last.children; is = here.front_leads }
-
-    pub run_more : (t' o' : ℕ) → k < most → Down s t o t' o' → RunTo s table other most (k + 1) t' o'
-    run_more t' o' l w = record { few = omega arith; is = is }
+    pub run_more : (to : Pair) → k < most → Down s q to → RunTo s p most (k + 1) to
+    run_more to l w = record { few = omega arith; is = is }
       where
         more_than : k + 1 ≡ 0 → ⊥
         more_than i = omega arith
 
-        is : (depth d e : ℕ) (g : Forest) (front : Node) → TableOf s d table 1 g → TableOf s e other 1 front.children → RunAt s depth d e (k + 1) t' o' g front
+        is : (depth d e : ℕ) (g : Forest) (front : Node) → TableOf s d p.table 1 g → TableOf s e p.other 1 front.children → RunAt s depth d e (k + 1) to.table to.other g front
         is depth d e g front m n =
             let x = r.is depth d e g front m n in
             let y = w (d - k) (e - k) x.below x.last.children x.leads x.front_leads in
@@ -341,10 +346,14 @@ module _ (s : List ℕ) (table other most : ℕ) where
             record {
               below = y.below;
               last = y.front;
-              leads = subst (λ (i : ℕ). TableOf s i t' 1 y.below) a y.leads;
-              front_leads = subst (λ (i : ℕ). TableOf s i o' 1 y.front.children) b y.front_leads;
+              leads = subst (λ (i : ℕ). TableOf s i to.table 1 y.below) a y.leads;
+              front_leads = subst (λ (i : ℕ). TableOf s i to.other 1 y.front.children) b y.front_leads;
               right = all_ended (child_lists y.below);
               first = λ i. absurd (more_than i);
               after = λ _. refl;
               same = ap (λ (i : ℕ). all_ended (child_lists y.below) && children_right i (y.front ∷ []) y.below) (c ∙ add-one (depth + k)) ∙ v ∙ ap (λ (i : Bool). i && children_right (depth + k) (x.last ∷ []) x.below) (sym u) ∙ x.same;
             }
+
+  -- steps down lead on
+  pub run_steps : (R : Pair → Pair → Type 0) → ((a b : Pair) → R a b → Down s a b) → (k : ℕ) (q : Pair) → k ≤ most → StepsTo R p k q → RunTo s p most k q
+  run_steps R down = steps_keep R (RunTo s p most) most p run_none (λ k a b l r d. run_more k a r b l (down a b d))

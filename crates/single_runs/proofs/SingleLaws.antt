@@ -1,17 +1,17 @@
 -- A run of nodes with one child, one suffix and no front. Assumes nothing.
-use Prim.Native.Nat.{ℕ, suc, ◌+◌, ◌*◌, ◌-◌, ◌<◌}
+use Prim.Native.Nat.{ℕ, suc, ◌+◌, ◌*◌, ◌-◌, ◌<◌, ◌≤◌}
 use native.Mathlib.Omega.{arith}
 use native.Mathlib.Numerals.{add-one}
 use mathlib.Core.Path.{◌≡◌, refl, sym, ap, subst, ◌∙◌}
-use mathlib.Core.Bool.{Bool, true, false, ◌&&◌}
+use mathlib.Core.Bool.{Bool, true}
 use mathlib.Core.List.{List, [], ◌∷◌}
 use mathlib.Core.Option.{some}
-use lib.ListN.{length}
 use borrow.Author.Tests.{le-leb}
+use Rattle.std.specs.Prelude.{Option, None, Some, is_some}
 use Rattle.words.specs.Words.{le64}
 use Rattle.definitions.specs.Location.{Location, location_at}
 use Rattle.definitions.proofs.Order.{location_path}
-use Rattle.trie.specs.Trie.{Lists, Forest, leaf, more, Node}
+use Rattle.trie.specs.Trie.{Lists, Forest, leaf, more}
 use Rattle.trie.specs.Test.{is_union, moved_back}
 use Rattle.trie.proofs.Union.{true_same}
 use Rattle.image_format.specs.Held.{Entry}
@@ -20,12 +20,11 @@ use Rattle.image_walk.specs.Parts.{parts_at}
 use Rattle.image_walk.specs.Tables.{slot_in}
 use Rattle.image_walk.specs.Here.{Laid}
 use Rattle.node_rule.specs.Parts.{TableOf, HasTable}
-use Rattle.fronts.specs.Fronts.{FrontsHere}
 use Rattle.single_runs.specs.Says.{children_right}
-use Rattle.single_runs.specs.Runs.{BareSingle, Further, RunSays}
-use Rattle.single_runs.specs.Singles.{SingleWithSuffix, SingleTo, SingleIn, SinglesAt, SinglesTo, SinglesSay}
-use Rattle.fronts.proofs.Fronts.{kept_none}
-use Rattle.single_runs.proofs.RunLaws.{and_true, bare_parts, bare_place, bare_room, no_locations, not_so, one_location, only, only_is, only_leads, only_parts}
+use Rattle.single_runs.specs.Runs.{BareSingle, byte_behind, StepsTo}
+use Rattle.single_runs.specs.Singles.{SingleWithSuffix, SingleTo, SingleIn, SingleBelow, SinglesAt, SinglesTo}
+use Rattle.single_runs.proofs.StepLaws.{steps_keep}
+use Rattle.single_runs.proofs.RunLaws.{and_true, bare_parts, bare_place, bare_room, no_locations, one_location, only, only_is, only_leads, only_parts}
 
 -- ── one node ──
 
@@ -34,10 +33,15 @@ single_parts s at b h e f =
     let x : at + 49 ≡ at + 25 + 24 * 1 = omega arith in
     let y : at + 25 + 24 * 1 + 8 ≡ at + 57 = omega arith in
     let p = bare_parts s at b 1 e (f ∙ ap (le64 s) x) in
-    let r = bare_room s at b 1 h e in
+    let r = bare_room s at b 1 e h in
     record { bare = subst (BareSingle (parts_at s at)) y p.0; one = p.1; place = bare_place s at b 1 e (f ∙ ap (le64 s) x); room = omega arith }
 
 -- ── a table that leads to one ──
+
+-- there is a byte where the answer is some
+pub behind_some : (s : List ℕ) (table : ℕ) (r : Option ℕ) (t : Bool) → r ≡ byte_behind (slot_in s table 1 0) (table + 10) → t ≡ is_some r → t ≡ true → (b : ℕ) × (Some b ≡ byte_behind (slot_in s table 1 0) (table + 10))
+behind_some s table None t e u z = absurd (cc)
+behind_some s table (Some b) t e u z = (b, e)
 
 module _ (s : List ℕ) (table : ℕ) (e : Entry) (q : some e ≡ slot_in s table 1 0) where
   single_at : (at : ℕ) → e.node ≡ at → SingleWithSuffix s at → (d : ℕ) (g : Forest) → TableOf s d table 1 g → (place to : ℕ) → at + 25 ≡ place → at + 57 ≡ to → (byte : ℕ) × (lists : Lists) × (below : Forest) ×
@@ -46,7 +50,7 @@ module _ (s : List ℕ) (table : ℕ) (e : Entry) (q : some e ≡ slot_in s tabl
       let w : SingleWithSuffix s e.node = subst (SingleWithSuffix s) (sym z) x in
       let a = only s table e q d g t in
       let p = only_parts s table e q d g t in
-      let u : (parts_at s e.node).suffixes ≡ place = w.place ∙ ap (λ (y : ℕ). y + 25) z ∙ i in
+      let u : (parts_at s e.node).suffixes.at ≡ place = w.place ∙ ap (λ (y : ℕ). y + 25) z ∙ i in
       let v : e.node + 57 ≡ to = ap (λ (y : ℕ). y + 57) z ∙ j in (
         e.byte,
         a.lists,
@@ -99,59 +103,28 @@ module _ (s : List ℕ) (table most : ℕ) where
     pub singles_table : HasTable s table 1 → HasTable s t 1
     singles_table h = let x = r.is 0 h.depth h.forest h.is in record { depth = h.depth - k; forest = x.below; is = x.leads }
 
-    pub singles_more : k < most → SingleIn s t → SingleIn s (t + 67) → location_at s (t + 35) ≡ location_at s (t + 102) → SinglesTo s table most (k + 1) (t + 67)
-    singles_more l x y e = record { few = omega arith; is = is }
+    pub singles_more : (to : ℕ) → k < most → SingleIn s t → SingleBelow s t to → SinglesTo s table most (k + 1) to
+    singles_more to l x e = record { few = omega arith; is = is }
       where
-        is : (depth d : ℕ) (g : Forest) → TableOf s d table 1 g → SinglesAt s depth d 1 (k + 1) (t + 67) g
+        is : (depth d : ℕ) (g : Forest) → TableOf s d table 1 g → SinglesAt s depth d 1 (k + 1) to g
         is depth d g m =
             let o = r.is depth d g m in
             let a = x.is (d - k) o.below o.leads in
-            let b = y.is (d - k - 1) a.below a.leads in
+            let h = subst (λ (n : ℕ). TableOf s (d - k - 1) n 1 a.below) e.place a.leads in
+            let b = e.there.is (d - k - 1) a.below h in
             let i : d - k - 1 ≡ d - (k + 1) = omega arith in
             let j : depth + (k + 1) ≡ depth + k + 1 = omega arith in
-            let u : location_at s (t + 67 + 35) ≡ location_at s (t + 35) = let w : t + 67 + 35 ≡ t + 102 = omega arith in ap (location_at s) w ∙ sym e in
-            let v : location_at s (t + 35) ∷ [] ≡ b.lists.suffixes = ap (λ (n : Location). n ∷ []) (sym u) ∙ b.suffixes in
+            let v : location_at s (t + 35) ∷ [] ≡ b.lists.suffixes = ap (λ (n : Location). n ∷ []) e.same ∙ b.suffixes in
             let w : children_right (suc (depth + k)) [] a.below ≡ children_right (depth + k) [] o.below =
             ap (children_right (suc (depth + k)) []) b.is ∙ one_level (depth + k) a.byte a.lists b.byte b.lists b.below (location_at s (t + 35)) a.prefixes a.chunks a.suffixes b.chunks v ∙
             ap (λ (n : Forest). children_right (depth + k) [] (more a.byte a.lists n leaf)) (sym b.is) ∙ ap (children_right (depth + k) []) (sym a.is) in
             record {
               below = a.below;
-              leads = subst (λ (n : ℕ). TableOf s n (t + 67) 1 a.below) i a.leads;
+              leads = subst (λ (n : ℕ). TableOf s n to 1 a.below) i h;
               same = ap (λ (n : ℕ). children_right n [] a.below) (j ∙ add-one (depth + k)) ∙ w ∙ o.same;
             }
 
--- ── below a node without fronts ──
-
-module _ (s : List ℕ) (table children left : ℕ) where
-  pub says_none : (k t : ℕ) (right ended : Bool) → (k ≡ 0) × (t ≡ table) × (right ≡ true) × (ended ≡ false) → SinglesSay s table children left k t right ended
-  says_none k t right ended e = rw (e.0, e.1, e.2, e.3) (record { few = omega arith; right_is = refl; ended_is = refl; is = is })
-    where
-      is : (depth d : ℕ) (g : Forest) → TableOf s d table children g → SinglesAt s depth d children 0 table g
-      is depth d g m =
-          let x : d ≡ d - 0 = omega arith in
-          let z : depth + 0 ≡ depth = omega arith in
-          record { below = g; leads = subst (λ (n : ℕ). TableOf s n table children g) x m; same = ap (λ (n : ℕ). children_right n [] g) z }
-
-  pub says_run : (k t : ℕ) → children ≡ 1 → SinglesTo s table left k t → SinglesSay s table children left k t true false
-  says_run k t c r = subst (λ (n : ℕ). SinglesSay s table n left k t true false) (sym c) (record { few = r.few; right_is = refl; ended_is = refl; is = r.is })
-
--- with an empty stack
-pub singles_below : (s : List ℕ) (table children depth : ℕ) (old : List ℕ) (count left k t : ℕ) (right ended : Bool) → count ≡ 0 → SinglesSay s table children left k t right ended → RunSays s table children depth old count left old k t right ended
-singles_below s table children depth old count left k t right ended z r =
-    record { few = r.few; kept = kept_none ((depth + 1) * 768) old; is = λ _. is; end = λ e. not_so (sym r.ended_is ∙ e) }
-  where
-    no_fronts : (fs : List Node) → length fs ≡ count → fs ≡ []
-    no_fronts [] e = refl
-    no_fronts (f ∷ fs) e = absurd (omega arith)
-
-    is : (g : Forest) (fs : List Node) → TableOf s left table children g → FrontsHere s (left - 1) old (depth * 768) count fs → Further s depth children count left old k t right g fs
-    is g fs h w =
-        let x = r.is depth left g h in
-        let e = no_fronts fs w.many in
-        record {
-          below = x.below;
-          nodes = [];
-          leads = x.leads;
-          fronts_here = record { many = sym z; few = w.few; each = tt };
-          same = ap (λ (b : Bool). b && children_right (depth + k) [] x.below) r.right_is ∙ x.same ∙ ap (λ (n : List Node). children_right depth n g) (sym e);
-        }
+  -- steps down lead on
+  pub singles_steps : (R : ℕ → ℕ → Type 0) → ((a b : ℕ) → R a b → SingleBelow s a b) → SingleIn s table → (k t : ℕ) → k ≤ most → StepsTo R table k t → SinglesTo s table most k t × SingleIn s t
+  singles_steps R down first =
+      steps_keep R (λ k t. SinglesTo s table most k t × SingleIn s t) most table (singles_none, first) (λ k a b l h d. let w = down a b d in (singles_more k a h.0 b l h.1 w, w.there))

@@ -1,5 +1,5 @@
 -- Runs of nodes that have one child, one suffix and no front. Assumes nothing.
-use Rattle.std.specs.Prelude.{ℕ, ◌+◌, ◌-◌, ◌≤◌, ◌≡◌, Bool, true, false, List, [], ◌∷◌, length}
+use Rattle.std.specs.Prelude.{ℕ, ◌+◌, ◌-◌, ◌≤◌, ◌≡◌, List, [], ◌∷◌, length}
 use Rattle.definitions.specs.Location.{location_at}
 use Rattle.trie.specs.Trie.{Lists, Forest, leaf, more}
 use Rattle.image_walk.specs.Parts.{parts_at}
@@ -10,8 +10,8 @@ use Rattle.single_runs.specs.Says.{children_right}
 -- the node at an index has one child, one suffix, and neither prefix nor chunk
 pub record SingleWithSuffix (s : List ℕ) (at : ℕ) : Type 0 where
   pub bare : BareSingle (parts_at s at) (at + 57)
-  pub one : (parts_at s at).suffix_count ≡ 1
-  pub place : (parts_at s at).suffixes ≡ at + 25
+  pub one : (parts_at s at).suffixes.count ≡ 1
+  pub place : (parts_at s at).suffixes.at ≡ at + 25
   pub room : at + 57 ≤ length s
 
 -- g is one such sibling, at index table + 10; its table stands at table + 67
@@ -30,6 +30,12 @@ pub record SingleIn (s : List ℕ) (table : ℕ) : Type 0 where
   pub room : table + 67 ≤ length s
   pub is : (d : ℕ) (g : Forest) → TableOf s d table 1 g → SingleTo s d table g
 
+-- such siblings with the same suffix, one below the other, by their tables
+pub record SingleBelow (s : List ℕ) (table next : ℕ) : Type 0 where
+  pub place : table + 67 ≡ next
+  pub there : SingleIn s next
+  pub same : location_at s (table + 35) ≡ location_at s (next + 35)
+
 -- k levels below g, which has no front
 pub record SinglesAt (s : List ℕ) (depth d children k t : ℕ) (g : Forest) : Type 0 where
   pub below : Forest
@@ -39,10 +45,3 @@ pub record SinglesAt (s : List ℕ) (depth d children k t : ℕ) (g : Forest) : 
 pub record SinglesTo (s : List ℕ) (table most k t : ℕ) : Type 0 where
   pub few : k ≤ most
   pub is : (depth d : ℕ) (g : Forest) → TableOf s d table 1 g → SinglesAt s depth d 1 k t g
-
--- the run from a table with so many entries on; nothing is said against it, and it does not end at leaves
-pub record SinglesSay (s : List ℕ) (table children left k t : ℕ) (right ended : Bool) : Type 0 where
-  pub few : k ≤ left
-  pub right_is : right ≡ true
-  pub ended_is : ended ≡ false
-  pub is : (depth d : ℕ) (g : Forest) → TableOf s d table children g → SinglesAt s depth d children k t g

@@ -1,21 +1,16 @@
 -- `image_conflicts::chunks_due` meets its contract: no more than are due, and all clear. Assumes nothing.
+use mathlib.Core.Path.{◌∙◌}
 use Rattle.lined_locations.specs.Line.{location_of}
-use Rattle.image_conflicts.proofs.Chunks.{due_over, due_struck, due_left}
+use Rattle.image_conflicts.proofs.Chunks.{due_over, due_left}
 use Rattle.image_conflicts.proofs.chunks_due.Goals as goal
 
-pub returns-then-due-n : goal.returns-then-due-n
-returns-then-due-n c =
+pub returns-in_err-rest : goal.returns-in_err-rest
+returns-in_err-rest c =
     let a = c.args in
-    due_over (location_of a.s.now a.v) a.v.count a.m a.s.now a.n.chunks a.n.chunk_count a.due c.if-due-n.true
-
-pub returns-then-not-all_clear : goal.returns-then-not-all_clear
-returns-then-not-all_clear c =
-    let a = c.args in
-    let r = c.all_clear in
-    due_struck (location_of a.s.now a.v) a.v.count a.m a.s.now a.n.chunks a.n.chunk_count a.due c.if-due-n.false r.result r.ensures c.if-not-all_clear.true
+    c.from_residual.ensures ∙ due_over (location_of a.s.now a.v) a.v.count a.m a.s.now a.chunks.at a.chunks.count a.due c.in_err-rest.ensures
 
 pub returns : goal.returns
 returns c =
     let a = c.args in
     let r = c.all_clear in
-    due_left (location_of a.s.now a.v) a.v.count a.m a.s.now a.n.chunks a.n.chunk_count a.due c.if-due-n.false r.result r.ensures c.if-not-all_clear.false
+    c.then_some.ensures ∙ due_left (location_of a.s.now a.v) a.v.count a.m a.s.now a.chunks.at a.chunks.count a.due c.in_ok-rest.ensures.0 r.result r.ensures _ c.in_ok-rest.ensures.1

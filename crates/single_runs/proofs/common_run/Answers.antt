@@ -1,20 +1,14 @@
 -- `single_runs::common_run` meets its contract. Assumes nothing.
 use native.Mathlib.Omega.{arith}
-use borrow.Author.Tests.{not-false}
-use Rattle.single_runs.proofs.RunLaws.{run_more, run_none, run_other, run_table}
+use borrow.Author.Rules.{rules}
+use Rattle.single_runs.proofs.RunLaws.{run_steps, run_tables}
 use Rattle.single_runs.proofs.common_run.Goals as goal
 
-pub loop-levels-init : goal.loop-levels-init
-loop-levels-init c = run_none _ _ _ _
-
-pub both_down-p-requires : goal.both_down-p-requires
-both_down-p-requires c = let o = c.loop-levels in let p = c.requires in (run_table _ _ _ _ _ _ _ o.invariant p.0 p.1, run_other _ _ _ _ _ _ _ o.invariant p.0 p.1)
-
-pub returns-then-not-p : goal.returns-then-not-p
-returns-then-not-p c = c.loop-levels.invariant
-
-pub loop-levels-preserved : goal.loop-levels-preserved
-loop-levels-preserved c = run_more _ _ _ _ _ _ _ c.loop-levels.invariant _ _ (omega arith) (c.both_down-p.ensures (not-false _ c.if-not-p.false))
+pub run_by-requires : goal.run_by-requires
+run_by-requires c = λ k x l e.
+    let a = c.args in
+    let t = run_tables _ _ _ k x (run_steps a.s.now a.from a.most _ (λ y z d. search rules) k x (omega arith) e) c.requires in
+    search rules
 
 pub returns : goal.returns
-returns c = c.loop-levels.invariant
+returns c = let a = c.args in run_steps a.s.now a.from a.most _ (λ y z d. search rules) _ _ c.run_by.ensures.few c.run_by.ensures.steps
