@@ -104,11 +104,8 @@ pub fn lives_among(s: &[u8], v: Line, from: usize, x: SpacetimeLocation, end: u6
             return false;
         }
         let q = first_from(s, v, g, b, x.destroyed_at.0);
-        if g < q {
-            let last = location(s, v, q - 1);
-            if x.created_at.0 < last.destroyed_at.0 {
-                return true;
-            }
+        if g < q && x.created_at.0 < location(s, v, q - 1).destroyed_at.0 {
+            return true;
         }
         g = first_from(s, v, q, b + 1, 0);
     }
