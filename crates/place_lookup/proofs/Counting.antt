@@ -2,7 +2,7 @@
 use Prim.Native.Nat.{ℕ, suc, ◌+◌, ◌-◌, ◌*◌, ◌≤◌, ◌<◌}
 use native.Mathlib.Omega.{arith}
 use mathlib.Core.Path.{◌≡◌, refl, sym, ap, subst, ◌∙◌}
-use mathlib.Core.Bool.{Bool, true, false}
+use mathlib.Core.Bool.{Bool, true, false, cond}
 use mathlib.Core.Logic.{◌⊎◌, inl, inr}
 use mathlib.Core.List.Memᴰ.{append_cases}
 use mathlib.Core.List.Memᴰ.{append_left}
@@ -13,10 +13,7 @@ use mathlib.Core.List.Memᴰ.{head as here}
 use mathlib.Core.List.Memᴰ.{tail as later}
 use mathlib.Core.List.{List, [], ◌∷◌, ◌++◌, Memᴰ as Mem}
 use lib.ListN.{length}
-use lib.Dec.{eqb}
-use borrow.Author.Tests.{eq-eqb, ne_eqb}
 use Rattle.definitions.specs.Location.{Location, Sorted, normal, location_at, locations_in, Less}
-use Rattle.definitions.proofs.Views.{lt_or_le}
 use Rattle.place_lookup.specs.Lookup.{Ascending, Within, There}
 use Rattle.place_lookup.proofs.Sets.{less_irrefl, normal_same, normal_ascending, append_within, normal_new}
 use Rattle.definitions.proofs.Locations.{length_locations, locations_snoc, locations_append}
@@ -66,10 +63,9 @@ module _ (img : List ℕ) (a n b : ℕ) where
         sorted_front (locations_in img j b) (locations_in img (m - j) (b + j * 24))
         (subst Ascending (ap (λ (k : ℕ). locations_in img k b) e ∙ locations_append j (m - j) img b) s)
 
-    pub both_next : {l : Location} {r count : ℕ} (j : ℕ) → j < m → Ascending (locations_in img m b) → count ≡ length (normal (locations_in img j b ++ locations_in img n a)) → l ≡ location_at img (b + j * 24)
-        → r ≤ 1 → There (eqb r 0) l (locations_in img n a) → count + r ≡ length (normal (locations_in img (j + 1) b ++ locations_in img n a))
-    both_next {l} {r} {count} j h s ec el le t =
-        ec_is (eqb r 0) t (tested (lt_or_le 0 r))
+    pub both_next : {l : Location} {count more : ℕ} (t : Bool) (j : ℕ) → j < m → Ascending (locations_in img m b) → count ≡ length (normal (locations_in img j b ++ locations_in img n a)) → l ≡ location_at img (b + j * 24)
+        → There t l (locations_in img n a) → more ≡ cond t count (count + 1) → more ≡ length (normal (locations_in img (j + 1) b ++ locations_in img n a))
+    both_next {l} {count} {more} t j h s ec el th em = em ∙ go t th
       where
         xs : List Location
         xs = locations_in img j b
@@ -77,22 +73,16 @@ module _ (img : List ℕ) (a n b : ℕ) where
         ms : List Location
         ms = locations_in img n a
 
-        more : locations_in img (j + 1) b ≡ xs ++ (l ∷ [])
-        more = locations_snoc j img b ∙ ap (λ (x : Location). locations_in img j b ++ (x ∷ [])) (sym el)
+        next : locations_in img (j + 1) b ≡ xs ++ (l ∷ [])
+        next = locations_snoc j img b ∙ ap (λ (x : Location). locations_in img j b ++ (x ∷ [])) (sym el)
 
         fresh : (Mem l ms → ⊥) → Mem l xs ⊎ Mem l ms → ⊥
-        fresh f (inl k) = last_new xs l (subst Ascending more (front (j + 1) (omega arith) s)) k
+        fresh f (inl k) = last_new xs l (subst Ascending next (front (j + 1) (omega arith) s)) k
         fresh f (inr k) = f k
 
-        tested : (0 < r) ⊎ (r ≤ 0) → ((eqb r 0 ≡ true) × (r ≡ 0)) ⊎ ((eqb r 0 ≡ false) × (r ≡ 1))
-        tested (inl k) = inr (ne_eqb r 0 (λ e. omega arith), omega arith)
-        tested (inr k) = let z : r ≡ 0 = omega arith in inl (eq-eqb r 0 z, z)
-
-        ec_is : (o : Bool) → There o l ms → ((o ≡ true) × (r ≡ 0)) ⊎ ((o ≡ false) × (r ≡ 1)) → count + r ≡ length (normal (locations_in img (j + 1) b ++ locations_in img n a))
-        ec_is true t (inl z) = rw more (omega (arith, more_known xs ms l t))
-        ec_is true t (inr z) = absurd (let y : ◌≡◌ {A = Bool} true false = z.0 in let w : ◌≡◌ {A = ℕ} 0 1 = cc in omega arith)
-        ec_is false t (inl z) = absurd (let y : ◌≡◌ {A = Bool} false true = z.0 in let w : ◌≡◌ {A = ℕ} 0 1 = cc in omega arith)
-        ec_is false t (inr z) = rw more (omega (arith, more_new xs ms l (λ k. fresh t (append_cases xs k))))
+        go : (t : Bool) → There t l ms → cond t count (count + 1) ≡ length (normal (locations_in img (j + 1) b ++ locations_in img n a))
+        go true k = rw next (omega (arith, more_known xs ms l k))
+        go false k = rw next (omega (arith, more_new xs ms l (λ i. fresh k (append_cases xs i))))
 
     pub both_done : {count : ℕ} (j : ℕ) → j ≤ m → m ≤ j → count ≡ length (normal (locations_in img j b ++ locations_in img n a)) → count ≡ length (normal (locations_in img n a ++ locations_in img m b))
     both_done j h k e =

@@ -1,5 +1,5 @@
 -- Places that ascend, one more behind them: the last two decide. Assumes nothing.
-use Prim.Native.Nat.{ℕ, ◌+◌, ◌-◌, ◌*◌, ◌≤◌, ◌<◌}
+use Prim.Native.Nat.{ℕ, zero, suc, ◌+◌, ◌-◌, ◌*◌, ◌≤◌, ◌<◌}
 use native.Mathlib.Omega.{arith}
 use mathlib.Core.Path.{◌≡◌, refl, sym, ap, subst, ◌∙◌}
 use mathlib.Core.Bool.{true, false}
@@ -55,7 +55,7 @@ module _ (s : List ℕ) (at i : ℕ) {l m : Location} (h : 1 ≤ i) (el : l ≡ 
       let first : Ascending (locations_in s (i + 1) at) = sorted_front (locations_in s (i + 1) at) (locations_in s (n - (i + 1)) (at + (i + 1) * 24)) (subst Ascending (ap (λ (j : ℕ). locations_in s j at) e ∙ locations_append (i + 1) (n - (i + 1)) s at) up) in
       clash (sym (less_is_lt l m (sorted_last (locations_in s (i - 1) at) l m (subst Ascending parts first))) ∙ t)
 
-pub ascends_none : (s : List ℕ) (n at : ℕ) → n ≡ 0 → Ascending (locations_in s n at)
+ascends_none : (s : List ℕ) (n at : ℕ) → n ≡ 0 → Ascending (locations_in s n at)
 unfolding locations_in
 ascends_none s n at e = rw e tt
 
@@ -64,7 +64,8 @@ unfolding locations_in
 ascends_one s at = (λ m h. absurd (not-nil h), tt)
 
 -- all are gone through
-pub ascends_all : (s : List ℕ) (n at i : ℕ) → i ≤ n → n ≤ i → Ascending (locations_in s i at) → Ascending (locations_in s n at)
-ascends_all s n at i h k up =
-    let e : i ≡ n = omega arith in
+pub ascends_all : (s : List ℕ) (n at i : ℕ) → (1 ≤ n → i ≤ n) → n ≤ i → Ascending (locations_in s i at) → Ascending (locations_in s n at)
+ascends_all s zero at i h k up = ascends_none s 0 at refl
+ascends_all s (suc n) at i h k up =
+    let e : i ≡ suc n = omega (arith, h (omega arith)) in
     subst (λ (j : ℕ). Ascending (locations_in s j at)) e up

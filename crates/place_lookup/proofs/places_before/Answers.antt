@@ -1,24 +1,10 @@
--- `place_lookup::places_before` meets its contract. The loop's invariant: the count is at least `low`, and at most `left` above it. Assumes nothing.
-use native.Mathlib.Omega.{arith}
-use mathlib.Core.Path.{refl}
+-- `place_lookup::places_before` meets its contract: the search by halves finds where the places no longer come before it. Assumes nothing.
+use Rattle.std.proofs.Common.{rules}
 use Rattle.location.specs.Plain.{plain}
-use Rattle.place_lookup.proofs.Before.{before_listed, halve}
+use Rattle.place_lookup.proofs.Before.{before, before_parts, before_point}
 use Rattle.place_lookup.proofs.places_before.Goals as goal
 
-pub loop-left-init : goal.loop-left-init
-loop-left-init c =
-    let args = c.args in
-    (omega arith, omega (arith, before_listed args.scratch.now args.n args.at (plain args.l)), omega arith)
-
-pub overflow_add-low-in-loop-left : goal.overflow_add-low-in-loop-left
-overflow_add-low-in-loop-left c =
-    let turn = c.loop-left in
-    let args = c.args in
-    let h = halve args.scratch.now args.n args.at (plain args.l) c.requires.1 turn.low turn.left _ turn.invariant.0 turn.invariant.1 turn.invariant.2 (omega arith) refl c.so_many_before-low.ensures in
-    omega (arith, h)
-
-pub loop-left-preserved : goal.loop-left-preserved
-loop-left-preserved c =
-    let turn = c.loop-left in
-    let args = c.args in
-    halve args.scratch.now args.n args.at (plain args.l) c.requires.1 turn.low turn.left _ turn.invariant.0 turn.invariant.1 turn.invariant.2 (omega arith) refl c.so_many_before-low.ensures
+pub returns : goal.returns
+returns c =
+    let a = c.args in
+    before_point a.scratch.now a.n a.at (plain a.l) c.requires.1 _ c.partition_point.ensures.within.1 (c.partition_point.ensures.point (before a.scratch.now a.n a.at (plain a.l)) (λ i lo up b e. search rules) (before_parts a.scratch.now a.n a.at (plain a.l) c.requires.1))
