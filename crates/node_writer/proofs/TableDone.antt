@@ -23,8 +23,9 @@ use Rattle.image_format.proofs.KindThree.{table_length}
 use Rattle.kinds.proofs.KindRule.{kind_one, kind_two, kind_three}
 use Rattle.tails.specs.Weights.{group_weights}
 use Rattle.tail_groups.specs.Found.{no_group}
-use Rattle.tail_groups.specs.Ranks.{rank_of, with_rank, firsts}
-use Rattle.tail_groups.proofs.Arrival.{length_by_arrival, arrival_rank, with_rank_inside, rank_with_rank, with_rank_place}
+use Rattle.tail_groups.specs.Ranks.{rank_of, firsts}
+use Rattle.tail_groups.proofs.Arrival.{length_by_arrival, arrival_rank, arrived, arrived_inside, arrived_rank, arrived_place}
+use Rattle.tail_groups.specs.declared.Grouping.{Grouping}
 use Rattle.list_writer.specs.declared.End.{End}
 use Rattle.slot_writer.specs.declared.Table.{Table}
 use Rattle.single_writer.specs.Kids.{kid, kids, sizes, no_child}
@@ -72,8 +73,8 @@ record Ended (s : List ℕ) (at n : ℕ) (ks : List Child) (end : ℕ) : Type 0 
   bytes : Holds s at (table_bytes (kind_of n) (at - 64) ks)
   ends : end ≡ at + table_size (kind_of n) ks
 
-module _ {s₀ : List ℕ} {work lo hi d n : ℕ} {t : Table} {e : End} {buf₀ : List ℕ} {left : ℕ} (o : TableOpen s₀ work lo hi d n t e buf₀ left)
-    {s : List ℕ} {end : End} {buf : List ℕ} {j met : ℕ} (w : OnTurns s₀ s work lo hi d n t (first_end t e) end buf₀ buf left j met) (over : t.turns ≤ j) where
+module _ {s₀ : List ℕ} {work lo hi d n : ℕ} {t : Table} {e : End} {gr : Grouping} {left : ℕ} (o : TableOpen s₀ work lo hi d n t e gr left)
+    {s : List ℕ} {end : End} {j met : ℕ} (w : OnTurns s₀ s work lo hi d n t (first_end t e) end left j met) (over : t.turns ≤ j) where
   all_met : met ≡ n
   all_met = go (eqb (kind_of n) 1) (eq (kind_of n) 1)
     where
@@ -164,15 +165,15 @@ module _ {s₀ : List ℕ} {work lo hi d n : ℕ} {t : Table} {e : End} {buf₀ 
           → Holds s (t.base + i * 9) (entry_bytes (get_or (children_in s₀ work lo hi d left) i no_child) (t.start - 64 + size_below (get_or (children_in s₀ work lo hi d left) i no_child).byte (children_in s₀ work lo hi d left)))
       entry h h₃ kept order climbs i l =
           let gs = groups_in s₀ work lo hi d in
-          let g : ℕ = with_rank (firsts (groups_in s₀ work lo hi d)) i in
-          let gi : g < n = omega (arith, with_rank_inside gs o.asked.different i (omega (arith, count)), count) in
+          let g : ℕ = arrived (groups_in s₀ work lo hi d) i in
+          let gi : g < n = omega (arith, arrived_inside gs o.asked.different i (omega (arith, count)), count) in
           let gl : g < length (groups_in s₀ work lo hi d) = omega (arith, count) in
           let place : place_of (kind_of n) (groups_in s₀ work lo hi d) g ≡ i =
           ap (λ (l : List Group). rank_of (get_or l g no_group).first (firsts (groups_in s₀ work lo hi d))) (order_other (kind_of n) (groups_in s₀ work lo hi d) h₃)
-          ∙ rank_with_rank (groups_in s₀ work lo hi d) o.asked.different i (omega (arith, count)) in
+          ∙ arrived_rank (groups_in s₀ work lo hi d) o.asked.different i (omega (arith, count)) in
           let kid-there : get_or (kids_in s₀ work lo hi d n left) g no_child ≡ get_or (children_in s₀ work lo hi d left) i no_child =
           ap (λ (l : List Child). get_or l g no_child) order ∙ get_or_kids (child_node left d) gs g gl
-          ∙ ap (kid (child_node left d)) (sym (with_rank_place (groups_in s₀ work lo hi d) o.asked.different i (omega (arith, count))))
+          ∙ ap (kid (child_node left d)) (sym (arrived_place (groups_in s₀ work lo hi d) o.asked.different i (omega (arith, count))))
           ∙ sym (get_or_kids (child_node left d) (by_arrival (groups_in s₀ work lo hi d)) i (omega (arith, length_by_arrival (groups_in s₀ work lo hi d), count))) ∙ ap (λ (l : List Child). get_or l i no_child) (sym kept) in
           let off : children_size (take g (kids_in s₀ work lo hi d n left)) ≡ size_below (get_or (children_in s₀ work lo hi d left) i no_child).byte (children_in s₀ work lo hi d left) =
           ap (λ (l : List Child). children_size (take g l)) order
@@ -240,7 +241,7 @@ module _ {s₀ : List ℕ} {work lo hi d n : ℕ} {t : Table} {e : End} {buf₀ 
       go true h = omega (arith, spent, ended_at, asked_costs o.asked, nodes_kept, (o.dense h).1, (o.dense h).2, w.upto, kind_large n h)
       go false h = omega (arith, spent, ended_at, asked_costs o.asked, nodes_kept, (o.sparse h).1, (o.sparse h).2, w.upto)
 
-  table_ended : TableWritten s₀ s work lo hi d n e buf₀ buf left end
+  table_ended : TableWritten s₀ s work lo hi d n e left end
   table_ended = record {
     bytes = ended.bytes;
     at = ended.ends;
@@ -252,13 +253,12 @@ module _ {s₀ : List ℕ} {work lo hi d n : ℕ} {t : Table} {e : End} {buf₀ 
     long = w.long;
     before = λ k h. w.before k (omega (arith, (where_is o).base));
     behind = w.behind;
-    kept = λ k h. w.buffer k (omega arith);
   }
 
 -- the same of the memory before the count was written
-pub table_written : {s s₀ : List ℕ} {work lo hi d n : ℕ} {t : Table} {e : End} {buf₀ : List ℕ} {left : ℕ} (q : TableAsked s work lo hi d n e buf₀ left) (op : Opened s s₀ e.at n t)
-    {s₂ : List ℕ} {end : End} {buf : List ℕ} {j met : ℕ} → OnTurns s₀ s₂ work lo hi d n t (first_end t e) end buf₀ buf left j met → t.turns ≤ j → TableWritten s s₂ work lo hi d n e buf₀ buf left end
-table_written {s} {s₀} {work} {lo} {hi} {d} {n} {t} {e} {buf₀} {left} q op {s₂} {end} {buf} w over =
+pub table_written : {s s₀ : List ℕ} {work lo hi d n : ℕ} {t : Table} {e : End} {gr : Grouping} {left : ℕ} (q : TableAsked s work lo hi d n e gr left) (op : Opened s s₀ e.at n t)
+    {s₂ : List ℕ} {end : End} {j met : ℕ} → OnTurns s₀ s₂ work lo hi d n t (first_end t e) end left j met → t.turns ≤ j → TableWritten s s₂ work lo hi d n e left end
+table_written {s} {s₀} {work} {lo} {hi} {d} {n} {t} {e} {gr} {left} q op {s₂} {end} w over =
     let x = opened s₀ t q op in
     let y = table_ended x.2 w over in
     let g : groups_in s₀ work lo hi d ≡ groups_in s work lo hi d = later_groups s₀ q x.0 (λ k h. x.1 k (inr h)) in
@@ -273,5 +273,4 @@ table_written {s} {s₀} {work} {lo} {hi} {d} {n} {t} {e} {buf₀} {left} q op {
       long = y.long ∙ x.0;
       before = λ k h. y.before k h ∙ x.1 k (inl h);
       behind = λ k h. y.behind k h ∙ x.1 k (inr h);
-      kept = y.kept;
     }

@@ -28,10 +28,12 @@ use Rattle.tail_groups.proofs.Distinct.{apart_part}
 use Rattle.list_writer.specs.declared.End.{End}
 use Rattle.slot_writer.specs.declared.Table.{Table}
 use Rattle.slot_writer.specs.declared.Turn.{Turn}
-use Rattle.slot_writer.specs.declared.Span.{Span}
+use Rattle.tail_groups.specs.declared.Span.{Span}
+use Rattle.tail_groups.specs.declared.Grouping.{Grouping}
+use Rattle.std.specs.Prelude.{Some, None}
 use Rattle.single_writer.specs.Kids.{kid, kids, sizes, no_child}
 use Rattle.slot_writer.specs.Turns.{groups_in, group_in, group_bytes, GroupEntry, Turned}
-use Rattle.single_writer.specs.Nodes.{child_node, node_of, Stands, NodeAsked, NodeWritten}
+use Rattle.single_writer.specs.Nodes.{child_node, node_of, Stands, SpanWritten, NodeAsked}
 use Rattle.single_writer.proofs.Sized.{Sized}
 use Rattle.single_writer.proofs.Orders.{Climbs, get_or_kids, kid_byte, length_kids}
 use Rattle.single_writer.proofs.Places.{kid_nodes, kid_entries, kid_size, kid_bytes, kids_sized, rising_climbs, order_other, place_of, place_inside, place_apart, cost, costs, costs_more}
@@ -73,14 +75,14 @@ flag_long s s₁ p at v bs e = ap length e ∙ length-set (sets s p bs) at v ∙
 
 -- ── the start ──
 
-module _ {s₀ : List ℕ} {work lo hi d n : ℕ} {t : Table} {e : End} {buf₀ : List ℕ} {left : ℕ} (o : TableOpen s₀ work lo hi d n t e buf₀ left) where
+module _ {s₀ : List ℕ} {work lo hi d n : ℕ} {t : Table} {e : End} {gr : Grouping} {left : ℕ} (o : TableOpen s₀ work lo hi d n t e gr left) where
   all_climb : kind_of n ≡ 1 → Climbs 0 (kids_in s₀ work lo hi d n left)
   all_climb h =
       let ne : ¬ (kind_of n ≡ 3) = λ k. absurd (omega arith) in
       subst (λ (gs : List Group). Climbs 0 (kids (child_node left d) gs)) (sym (order_other (kind_of n) (groups_in s₀ work lo hi d) ne))
       (rising_climbs (child_node left d) (groups_in s₀ work lo hi d) 0 o.asked.rising (λ g m. (omega arith, o.asked.small g m)))
 
-  pub turns_start : OnTurns s₀ s₀ work lo hi d n t (first_end t e) (first_end t e) buf₀ buf₀ left 0 0
+  pub turns_start : OnTurns s₀ s₀ work lo hi d n t (first_end t e) (first_end t e) left 0 0
   unfolding nodes_in entries_in
   turns_start =
       let x = where_is o in
@@ -88,10 +90,8 @@ module _ {s₀ : List ℕ} {work lo hi d n : ℕ} {t : Table} {e : End} {buf₀ 
         upto = omega arith;
         met_upto = omega arith;
         long = refl;
-        buffer_long = refl;
         before = λ k h. refl;
         behind = λ k h. refl;
-        buffer = λ k h. refl;
         at = omega arith;
         nodes = omega arith;
         entries = omega arith;
@@ -108,7 +108,7 @@ module _ {s₀ : List ℕ} {work lo hi d n : ℕ} {t : Table} {e : End} {buf₀ 
   sized : Sized (kids_in s₀ work lo hi d n left)
   sized = kids_sized (child_node left d) (in_order s₀ work lo hi d n)
 
-  module _ {s : List ℕ} {end : End} {buf : List ℕ} {j met : ℕ} (w : OnTurns s₀ s work lo hi d n t (first_end t e) end buf₀ buf left j met) (l : j < t.turns)
+  module _ {s : List ℕ} {end : End} {j met : ℕ} (w : OnTurns s₀ s work lo hi d n t (first_end t e) end left j met) (l : j < t.turns)
       {s₁ : List ℕ} {r : Turn} (tr : Turned s s₁ work lo hi d t n j met end r) where
     start_from : 64 ≤ t.start
     start_from =
@@ -131,22 +131,22 @@ module _ {s₀ : List ℕ} {work lo hi d n : ℕ} {t : Table} {e : End} {buf₀ 
         go k (inl a) z room i = flag_same s s₁ (t.base + j * 8) end.at v (bytes64 (end.at - 64)) q k (λ e. absurd (omega (arith, w.at))) (inl (omega arith))
         go k (inr a) z room i = flag_same s s₁ (t.base + j * 8) end.at v (bytes64 (end.at - 64)) q k (λ e. absurd (omega arith)) (inr (omega (arith, w.at)))
 
-    entry_frame : r.group < n → ¬ (kind_of n ≡ 1) → GroupEntry s s₁ work lo hi d t.base r.group end.at → Frame
-    entry_frame i h q =
-        let p = rank_of (group_in s work lo hi d r.group).first (firsts (groups_in s work lo hi d)) in
-        let bs = group_bytes (group_in s work lo hi d r.group) (end.at - 64) in
-        let z : length (group_bytes (group_in s work lo hi d r.group) (end.at - 64)) ≡ 9 = omega (arith, length_bytes64 (end.at - 64)) in
-        let inside : rank_of (group_in s work lo hi d r.group).first (firsts (groups_in s work lo hi d)) < n =
-        omega (arith, rank_inside (groups_in s work lo hi d) (now_asked o w).different r.group (omega (arith, (now_grouped o w).count)), (now_grouped o w).count) in
+    entry_frame : (g : ℕ) → g < n → ¬ (kind_of n ≡ 1) → GroupEntry s s₁ work lo hi d t.base g end.at → Frame
+    entry_frame g i h q =
+        let p = rank_of (group_in s work lo hi d g).first (firsts (groups_in s work lo hi d)) in
+        let bs = group_bytes (group_in s work lo hi d g) (end.at - 64) in
+        let z : length (group_bytes (group_in s work lo hi d g) (end.at - 64)) ≡ 9 = omega (arith, length_bytes64 (end.at - 64)) in
+        let inside : rank_of (group_in s work lo hi d g).first (firsts (groups_in s work lo hi d)) < n =
+        omega (arith, rank_inside (groups_in s work lo hi d) (now_asked o w).different g (omega (arith, (now_grouped o w).count)), (now_grouped o w).count) in
         record { long = flag_long s s₁ (t.base + p * 9) end.at 1 bs q.is; same = λ k x. go k x z inside (flag_room o w l) }
       where
-        go : (k : ℕ) → (k < t.base) ⊎ (work ≤ k) → length (group_bytes (group_in s work lo hi d r.group) (end.at - 64)) ≡ 9
-            → rank_of (group_in s work lo hi d r.group).first (firsts (groups_in s work lo hi d)) < n → end.at + 1 ≤ work → get_or s₁ k 0 ≡ get_or s k 0
+        go : (k : ℕ) → (k < t.base) ⊎ (work ≤ k) → length (group_bytes (group_in s work lo hi d g) (end.at - 64)) ≡ 9
+            → rank_of (group_in s work lo hi d g).first (firsts (groups_in s work lo hi d)) < n → end.at + 1 ≤ work → get_or s₁ k 0 ≡ get_or s k 0
         go k (inl a) z i room =
-            flag_same s s₁ (t.base + rank_of (group_in s work lo hi d r.group).first (firsts (groups_in s work lo hi d)) * 9) end.at 1 (group_bytes (group_in s work lo hi d r.group) (end.at - 64)) q.is k
+            flag_same s s₁ (t.base + rank_of (group_in s work lo hi d g).first (firsts (groups_in s work lo hi d)) * 9) end.at 1 (group_bytes (group_in s work lo hi d g) (end.at - 64)) q.is k
             (λ e. absurd (omega (arith, w.at, (o.sparse h).0, (o.sparse h).1))) (inl (omega arith))
         go k (inr a) z i room =
-            flag_same s s₁ (t.base + rank_of (group_in s work lo hi d r.group).first (firsts (groups_in s work lo hi d)) * 9) end.at 1 (group_bytes (group_in s work lo hi d r.group) (end.at - 64)) q.is k
+            flag_same s s₁ (t.base + rank_of (group_in s work lo hi d g).first (firsts (groups_in s work lo hi d)) * 9) end.at 1 (group_bytes (group_in s work lo hi d g) (end.at - 64)) q.is k
             (λ e. absurd (omega arith)) (inr (omega (arith, w.at, (o.sparse h).0, (o.sparse h).1)))
 
     -- ── a flag 0 ──
@@ -158,7 +158,7 @@ module _ {s₀ : List ℕ} {work lo hi d n : ℕ} {t : Table} {e : End} {buf₀ 
     flag_at : kind_of n ≡ 1 → end.at ≡ t.start + slots_size j 0 (kids_in s₀ work lo hi d n left)
     flag_at h = omega (arith, w.at, (w.dense h).size)
 
-    pub none_turn : n ≤ r.group → OnTurns s₀ s₁ work lo hi d n t (first_end t e) r.end buf₀ buf left (j + 1) met
+    pub none_turn : r.group ≡ None → OnTurns s₀ s₁ work lo hi d n t (first_end t e) r.end left (j + 1) met
     none_turn h =
         let p = tr.picked.none h in
         let k : kind_of n ≡ 1 = sym o.kind ∙ p.0 in
@@ -171,10 +171,8 @@ module _ {s₀ : List ℕ} {work lo hi d n : ℕ} {t : Table} {e : End} {buf₀ 
           upto = omega arith;
           met_upto = w.met_upto;
           long = fr.long ∙ w.long;
-          buffer_long = w.buffer_long;
           before = λ i a. fr.same i (inl a) ∙ w.before i a;
           behind = λ i a. fr.same i (inr a) ∙ w.behind i a;
-          buffer = w.buffer;
           at = omega (arith, tr.end.0, w.at);
           nodes = tr.end.1 ∙ w.nodes;
           entries = tr.end.2 ∙ w.entries;
@@ -195,34 +193,34 @@ module _ {s₀ : List ℕ} {work lo hi d n : ℕ} {t : Table} {e : End} {buf₀ 
 
     -- ── a child ──
 
-    module _ (i : r.group < n) where
+    module _ {g : ℕ} (got : r.group ≡ Some g) (i : g < n) where
       -- where its tails begin and end, and the group
       abbrev A : ℕ
-      A = get_or buf (d * 513 + r.group) 0
+      A = get_or gr.starts g 0
 
       abbrev B : ℕ
-      B = get_or buf (d * 513 + r.group + 1) 0
+      B = get_or gr.starts (g + 1) 0
 
       abbrev G : Group
       G = get_or (in_order s₀ work lo hi d n) met no_group
 
       met_in : met < n
-      met_in = (next_group o w l i tr.picked).0
+      met_in = (next_group o w l got tr.picked).0
 
-      group_is : group_in s work lo hi d r.group ≡ G
-      group_is = ap (λ (gs : List Group). get_or gs r.group no_group) (now_groups o w) ∙ (next_group o w l i tr.picked).1
+      group_is : group_in s work lo hi d g ≡ G
+      group_is = ap (λ (gs : List Group). get_or gs g no_group) (now_groups o w) ∙ (next_group o w l got tr.picked).1
 
       child_frame : Frame
       child_frame = go (eqb (kind_of n) 1) (eq (kind_of n) 1)
         where
           go : (b : Bool) → Eq b (kind_of n) 1 → Frame
-          go true h = slot_frame 1 h (tr.dense i (o.kind ∙ h))
-          go false h = entry_frame i h (tr.sparse i (λ x. h (sym o.kind ∙ x)))
+          go true h = slot_frame 1 h (tr.dense g got (o.kind ∙ h))
+          go false h = entry_frame g i h (tr.sparse g got (λ x. h (sym o.kind ∙ x)))
 
       child_tails : tails_in s₁ work A B ≡ G.tails
       child_tails =
           tails_ext s s₁ work A B (λ k a b. child_frame.same k (inr (omega arith)))
-          ∙ ((now_grouped o w).each r.group i).tails ∙ ap (λ (g : Group). g.tails) group_is
+          ∙ ((now_grouped o w).each g i).tails ∙ ap (λ (g : Group). g.tails) group_is
 
       child_is : node_of s₁ work A B (d + 1) (left - 1) ≡ child_node left d G.tails
       child_is = ap (λ (x : ℕ). group_node (left - 1) x (tails_in s₁ work A B)) (add-one d) ∙ ap (group_node (left - 1) (suc d)) child_tails
@@ -233,15 +231,15 @@ module _ {s₀ : List ℕ} {work lo hi d n : ℕ} {t : Table} {e : End} {buf₀ 
       nodes_are : 1 + forest_nodes (node_of s₁ work A B (d + 1) (left - 1)).children ≡ (kid (child_node left d) G).nodes
       nodes_are = ap (λ (x : Node). 1 + forest_nodes x.children) child_is ∙ sym (kid_nodes (child_node left d) G)
 
-      below_asked : NodeAsked s₁ work A B (d + 1) r.end buf (left - 1)
+      below_asked : NodeAsked s₁ work A B (d + 1) r.end (left - 1)
       below_asked =
-          let x = (now_grouped o w).each r.group i in
+          let x = (now_grouped o w).each g i in
           let a = now_asked o w in
           record {
             span = record {
               held = held_ext s s₁ work A B (λ k y z. child_frame.same k (inr (omega arith))) (held_part A B a.held x.from x.upto);
               memory = omega (arith, x.upto, a.memory, child_frame.long);
-              run = rw (add-one d, child_tails) (subst (λ (g : Group). Run (suc d) g.tails) group_is (a.runs (group_in s work lo hi d r.group) (get_or_in (groups_in s work lo hi d) r.group (omega (arith, (now_grouped o w).count)))));
+              run = rw (add-one d, child_tails) (subst (λ (g : Group). Run (suc d) g.tails) group_is (a.runs (group_in s work lo hi d g) (get_or_in (groups_in s work lo hi d) g (omega (arith, (now_grouped o w).count)))));
               depth = omega (arith, o.asked.depth, levels o w l);
               from = omega (arith, tr.end.0, w.at, start_from);
               counted_nodes = omega (arith, tr.end.0, tr.end.1, w.counted_nodes);
@@ -250,7 +248,6 @@ module _ {s₀ : List ℕ} {work lo hi d n : ℕ} {t : Table} {e : End} {buf₀ 
             };
             order = omega (arith, x.some);
             apart = subst Apart (sym (tails_ext s s₁ work A B (λ k y z. child_frame.same k (inr (omega arith))))) (apart_part s work lo hi A B a.apart x.from (omega (arith, x.some)) x.upto);
-            buffer = omega (arith, w.buffer_long, o.asked.buffer);
           }
 
       -- ── the child is written ──
@@ -259,16 +256,16 @@ module _ {s₀ : List ℕ} {work lo hi d n : ℕ} {t : Table} {e : End} {buf₀ 
         down : left - 1 ≡ 16 - (d + 1)
         down = omega arith
 
-        pub child_asked : (16 - p.depth < left) × NodeAsked s₁ p.work p.lo p.hi p.depth r.end buf (16 - p.depth)
+        pub child_asked : (16 - p.depth < left) × NodeAsked s₁ p.work p.lo p.hi p.depth r.end (16 - p.depth)
         child_asked =
-            subst (λ (x : Span). (16 - x.depth < left) × NodeAsked s₁ x.work x.lo x.hi x.depth r.end buf (16 - x.depth)) (sym is)
-            (omega (arith, levels o w l), subst (NodeAsked s₁ work A B (d + 1) r.end buf) down below_asked)
+            subst (λ (x : Span). (16 - x.depth < left) × NodeAsked s₁ x.work x.lo x.hi x.depth r.end (16 - x.depth)) (sym is)
+            (omega (arith, levels o w l), subst (NodeAsked s₁ work A B (d + 1) r.end) down below_asked)
 
-        pub child_written : {s₂ buf₂ : List ℕ} {r₂ : End} → NodeWritten s₁ s₂ p.work p.lo p.hi p.depth r.end buf buf₂ (16 - p.depth) r₂ → NodeWritten s₁ s₂ work A B (d + 1) r.end buf buf₂ (left - 1) r₂
-        child_written {s₂} {buf₂} {r₂} v =
-            subst (λ (x : ℕ). NodeWritten s₁ s₂ work A B (d + 1) r.end buf buf₂ x r₂) (sym down) (subst (λ (x : Span). NodeWritten s₁ s₂ x.work x.lo x.hi x.depth r.end buf buf₂ (16 - x.depth) r₂) is v)
+        pub child_written : {s₂ : List ℕ} {r₂ : End} → SpanWritten s₁ s₂ p.work p.lo p.hi p.depth r.end (16 - p.depth) r₂ → SpanWritten s₁ s₂ work A B (d + 1) r.end (left - 1) r₂
+        child_written {s₂} {r₂} v =
+            subst (λ (x : ℕ). SpanWritten s₁ s₂ work A B (d + 1) r.end x r₂) (sym down) (subst (λ (x : Span). SpanWritten s₁ s₂ x.work x.lo x.hi x.depth r.end (16 - x.depth) r₂) is v)
 
-      module _ {s₂ buf₂ : List ℕ} {r₂ : End} (v : NodeWritten s₁ s₂ work A B (d + 1) r.end buf buf₂ (left - 1) r₂) (long₂ : length buf₂ ≡ length buf) where
+      module _ {s₂ : List ℕ} {r₂ : End} (v : SpanWritten s₁ s₂ work A B (d + 1) r.end (left - 1) r₂) where
         ks : List Child
         ks = kids_in s₀ work lo hi d n left
 
@@ -287,7 +284,7 @@ module _ {s₀ : List ℕ} {work lo hi d n : ℕ} {t : Table} {e : End} {buf₀ 
         more = ap (λ (x : ℕ). take x ks) (add-one met) ∙ take-suc ks met no_child (omega (arith, kids_length, met_in)) ∙ ap (λ (k : Child). take met ks ++ (k ∷ [])) kid_here
 
         nw : Stands s₁ s₂ (child_node left d G.tails) (weights (suc d) G.tails) work r.end r₂
-        nw = subst (λ (y : Node). Stands s₁ s₂ y (weights (suc d) G.tails) work r.end r₂) child_is (subst (λ (y : ℕ). Stands s₁ s₂ (node_of s₁ work A B (d + 1) (left - 1)) y work r.end r₂) weights_are v.span)
+        nw = subst (λ (y : Node). Stands s₁ s₂ y (weights (suc d) G.tails) work r.end r₂) child_is (subst (λ (y : ℕ). Stands s₁ s₂ (node_of s₁ work A B (d + 1) (left - 1)) y work r.end r₂) weights_are v)
 
         nodes_here : r₂.nodes ≡ end.nodes + K.nodes
         unfolding K
@@ -327,14 +324,14 @@ module _ {s₀ : List ℕ} {work lo hi d n : ℕ} {t : Table} {e : End} {buf₀ 
             let at' : end.at ≡ t.start + j + sizes (take j (kids_in s₀ work lo hi d n left)) = w.at ∙ ap (λ (x : ℕ). t.start + j + sizes (take x (kids_in s₀ work lo hi d n left))) m in
             let p : end.at ≡ t.start + children_size (take j (kids_in s₀ work lo hi d n left)) = omega arith in
             let off : end.at - 64 ≡ t.start - 64 + children_size (take j (kids_in s₀ work lo hi d n left)) = omega (arith, start_from) in
-            let gj : group_in s work lo hi d r.group ≡ get_or (in_order s₀ work lo hi d n) j no_group = group_is ∙ ap (λ (x : ℕ). get_or (in_order s₀ work lo hi d n) x no_group) m in
-            let kb : (group_in s work lo hi d r.group).byte ≡ (get_or (kids_in s₀ work lo hi d n left) j no_child).byte =
+            let gj : group_in s work lo hi d g ≡ get_or (in_order s₀ work lo hi d n) j no_group = group_is ∙ ap (λ (x : ℕ). get_or (in_order s₀ work lo hi d n) x no_group) m in
+            let kb : (group_in s work lo hi d g).byte ≡ (get_or (kids_in s₀ work lo hi d n left) j no_child).byte =
             ap (λ (g : Group). g.byte) group_is ∙ sym (kid_byte (child_node left d) G) ∙ ap (λ (k : Child). k.byte) (sym kid_here) ∙ ap (λ (x : ℕ). (get_or (kids_in s₀ work lo hi d n left) x no_child).byte) m in
-            let pl : rank_of (group_in s work lo hi d r.group).first (firsts (groups_in s work lo hi d)) ≡ place_of (kind_of n) (groups_in s₀ work lo hi d) j =
+            let pl : rank_of (group_in s work lo hi d g).first (firsts (groups_in s work lo hi d)) ≡ place_of (kind_of n) (groups_in s₀ work lo hi d) j =
             ap (λ (g : Group). rank_of g.first (firsts (groups_in s work lo hi d))) gj ∙ ap (λ (gs : List Group). rank_of (get_or (in_order s₀ work lo hi d n) j no_group).first (firsts gs)) (now_groups o w) in
             let flag : s₁ ≡ set (sets s (t.base + place_of (kind_of n) (groups_in s₀ work lo hi d) j * 9) (entry_bytes (get_or (kids_in s₀ work lo hi d n left) j no_child) (t.start - 64 + children_size (take j (kids_in s₀ work lo hi d n left))))) (t.start + children_size (take j (kids_in s₀ work lo hi d n left))) 1 =
-            (tr.sparse i (λ x. h (sym o.kind ∙ x))).is
-            ∙ ap (λ (x : ℕ). set (sets s (t.base + x * 9) (group_bytes (group_in s work lo hi d r.group) (end.at - 64))) end.at 1) pl
+            (tr.sparse g got (λ x. h (sym o.kind ∙ x))).is
+            ∙ ap (λ (x : ℕ). set (sets s (t.base + x * 9) (group_bytes (group_in s work lo hi d g) (end.at - 64))) end.at 1) pl
             ∙ ap (λ (x : ℕ). set (sets s (t.base + place_of (kind_of n) (groups_in s₀ work lo hi d) j * 9) (x ∷ bytes64 (end.at - 64))) end.at 1) kb
             ∙ ap (λ (x : ℕ). set (sets s (t.base + place_of (kind_of n) (groups_in s₀ work lo hi d) j * 9) (entry_bytes (get_or (kids_in s₀ work lo hi d n left) j no_child) x)) end.at 1) off
             ∙ ap (λ (x : ℕ). set (sets s (t.base + place_of (kind_of n) (groups_in s₀ work lo hi d) j * 9) (entry_bytes (get_or (kids_in s₀ work lo hi d n left) j no_child) (t.start - 64 + children_size (take j (kids_in s₀ work lo hi d n left))))) x 1) p in
@@ -352,8 +349,8 @@ module _ {s₀ : List ℕ} {work lo hi d n : ℕ} {t : Table} {e : End} {buf₀ 
         unfolding ks K
         dense_next h =
             let q : s₁ ≡ set (sets s (t.base + j * 8) (bytes64 (t.start - 64 + slots_size j 0 (kids_in s₀ work lo hi d n left)))) end.at 1 =
-            tr.dense i (o.kind ∙ h) ∙ ap (λ (x : ℕ). set (sets s (t.base + j * 8) (bytes64 x)) end.at 1) (flag_offset h) in
-            let x = tr.picked.one i (o.kind ∙ h) in
+            tr.dense g got (o.kind ∙ h) ∙ ap (λ (x : ℕ). set (sets s (t.base + j * 8) (bytes64 x)) end.at 1) (flag_offset h) in
+            let x = tr.picked.one g got (o.kind ∙ h) in
             let kb : (get_or (kids_in s₀ work lo hi d n left) met no_child).byte ≡ j =
             ap (λ (k : Child). k.byte) kid_here ∙ kid_byte (child_node left d) G ∙ ap (λ (g : Group). g.byte) (sym group_is) ∙ ap (λ (y : ℕ). (group_in s work lo hi d y).byte) x.0 ∙ x.1 in
             dense_child t.base t.start (t.start - 64) (kids_in s₀ work lo hi d n left) sized (omega (arith, (o.dense h).0, (o.dense h).1)) s₁ s₂ end.at 1 (w.dense h)
@@ -361,7 +358,7 @@ module _ {s₀ : List ℕ} {work lo hi d n : ℕ} {t : Table} {e : End} {buf₀ 
             (omega (arith, kids_length, met_in)) kb
             (node_stands (t.start + slots_size j 0 (kids_in s₀ work lo hi d n left) + 1) (t.start - 64 + slots_size j 0 (kids_in s₀ work lo hi d n left) + 1) (omega (arith, tr.end.0, flag_at h)) (omega (arith, tr.end.0, flag_at h, start_from)))
 
-        pub child_turn : OnTurns s₀ s₂ work lo hi d n t (first_end t e) r₂ buf₀ buf₂ left (j + 1) (met + 1)
+        pub child_turn : OnTurns s₀ s₂ work lo hi d n t (first_end t e) r₂ left (j + 1) (met + 1)
         unfolding ks
         child_turn =
             let sz : sizes (take (met + 1) (kids_in s₀ work lo hi d n left)) ≡ sizes (take met (kids_in s₀ work lo hi d n left)) + K.size = ap sizes more ∙ sizes_snoc (take met (kids_in s₀ work lo hi d n left)) K in
@@ -372,10 +369,8 @@ module _ {s₀ : List ℕ} {work lo hi d n : ℕ} {t : Table} {e : End} {buf₀ 
               upto = omega arith;
               met_upto = omega (arith, met_in);
               long = nw.long ∙ fr.long ∙ w.long;
-              buffer_long = long₂ ∙ w.buffer_long;
               before = λ k a. nw.before k (omega (arith, tr.end.0, w.at, (where_is o).start)) ∙ fr.same k (inl a) ∙ w.before k a;
               behind = λ k a. nw.behind k a ∙ fr.same k (inr a) ∙ w.behind k a;
-              buffer = λ k a. v.kept k (omega arith) ∙ w.buffer k a;
               at = omega (arith, at_here, w.at, sz);
               nodes = omega (arith, nodes_here, w.nodes, ns);
               entries = omega (arith, entries_here, w.entries, es);

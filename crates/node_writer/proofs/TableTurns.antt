@@ -16,7 +16,7 @@ use Rattle.definitions.proofs.Views.{Eq, eq, lt_or_le}
 use Rattle.trie.specs.Build.{Rising}
 use Rattle.tails.specs.Tails.{Tail}
 use Rattle.tails.specs.Groups.{Group, groups, bytes_of, Different}
-use Rattle.kinds.specs.Kinds.{kind_of}
+use Rattle.kinds.specs.Kinds.{kind_number, kind_of}
 use Rattle.image_format.specs.Image.{Child, nodes_in, entries_in}
 use Rattle.kinds.proofs.KindRule.{kind_one, kind_two, kind_three}
 use Rattle.tails.specs.Runs.{Run}
@@ -25,8 +25,10 @@ use Rattle.tail_words.specs.Tail.{tail_in, tails_in}
 use Rattle.tail_groups.specs.Found.{no_group, Grouped}
 use Rattle.tail_groups.specs.Ranks.{Apart, with_rank, firsts}
 use Rattle.tail_groups.proofs.Memory.{tails_ext, tails_mem, held_ext}
-use Rattle.tail_groups.proofs.Buffer.{grouped_buffer, grouped_memory}
-use Rattle.tail_groups.proofs.Arrival.{get_or_in, with_rank_place}
+use Rattle.tail_groups.proofs.Buffer.{grouped_memory}
+use Rattle.tail_groups.proofs.Arrival.{get_or_in, arrived, with_rank_found, arrived_place}
+use Rattle.tail_groups.specs.declared.Grouping.{Grouping}
+use Rattle.std.specs.Prelude.{Option, Some}
 use Rattle.list_writer.specs.declared.End.{End}
 use Rattle.slot_writer.specs.declared.Table.{Table}
 use Rattle.single_writer.specs.Kids.{kids, sizes}
@@ -39,7 +41,7 @@ use Rattle.node_writer.proofs.DenseTable.{Dense}
 -- ── a table that is begun ──
 
 -- what is asked stays where memory from the work area on stays
-module _ {s : List ℕ} (s₁ : List ℕ) {work lo hi d n : ℕ} {e : End} {buf : List ℕ} {left : ℕ} (q : TableAsked s work lo hi d n e buf left)
+module _ {s : List ℕ} (s₁ : List ℕ) {work lo hi d n : ℕ} {e : End} {gr : Grouping} {left : ℕ} (q : TableAsked s work lo hi d n e gr left)
     (long : length s₁ ≡ length s) (same : (k : ℕ) → work ≤ k → get_or s₁ k 0 ≡ get_or s k 0) where
   pub later_tails : tails_in s₁ work lo hi ≡ tails_in s work lo hi
   later_tails = tails_ext s s₁ work lo hi (λ k a b. same k (omega arith))
@@ -47,13 +49,12 @@ module _ {s : List ℕ} (s₁ : List ℕ) {work lo hi d n : ℕ} {e : End} {buf 
   pub later_groups : groups_in s₁ work lo hi d ≡ groups_in s work lo hi d
   later_groups = ap (groups d) later_tails
 
-  pub asked_later : TableAsked s₁ work lo hi d n e buf left
+  pub asked_later : TableAsked s₁ work lo hi d n e gr left
   asked_later = record {
     order = q.order;
     grouped = grouped_memory s₁ q.grouped (λ k a b. same k (omega arith));
     held = held_ext s s₁ work lo hi (λ k a b. same k (omega arith)) q.held;
     memory = omega (arith, q.memory);
-    buffer = q.buffer;
     different = subst Different (sym later_groups) q.different;
     rising = subst (λ (gs : List Group). Rising (bytes_of gs)) (sym later_groups) q.rising;
     small = subst (λ (gs : List Group). (g : Group) → Mem g gs → g.byte < 256) (sym later_groups) q.small;
@@ -67,9 +68,9 @@ module _ {s : List ℕ} (s₁ : List ℕ) {work lo hi d n : ℕ} {e : End} {buf 
   }
 
 -- a table of n groups, its count written
-pub record TableOpen (s : List ℕ) (work lo hi d n : ℕ) (t : Table) (e : End) (buf : List ℕ) (left : ℕ) : Type 0 where
-  pub asked : TableAsked s work lo hi d n e buf left
-  pub kind : t.kind ≡ kind_of n
+pub record TableOpen (s : List ℕ) (work lo hi d n : ℕ) (t : Table) (e : End) (gr : Grouping) (left : ℕ) : Type 0 where
+  pub asked : TableAsked s work lo hi d n e gr left
+  pub kind : kind_number t.kind ≡ kind_of n
   pub dense : kind_of n ≡ 1 → (t.base ≡ e.at) × (t.start ≡ e.at + 2048) × (t.turns ≡ 256)
   pub sparse : ¬ (kind_of n ≡ 1) → (t.base ≡ e.at + 8) × (t.start ≡ e.at + 8 + n * 9) × (t.turns ≡ n) × Holds s e.at (bytes64 n)
 
@@ -80,7 +81,7 @@ in_order s work lo hi d n = written_order (kind_of n) (groups_in s work lo hi d)
 abbrev pub kids_in : List ℕ → ℕ → ℕ → ℕ → ℕ → ℕ → ℕ → List Child
 kids_in s work lo hi d n left = kids (child_node left d) (in_order s work lo hi d n)
 
-module _ {s : List ℕ} {work lo hi d n : ℕ} {e : End} {buf : List ℕ} {left : ℕ} (q : TableAsked s work lo hi d n e buf left) where
+module _ {s : List ℕ} {work lo hi d n : ℕ} {e : End} {gr : Grouping} {left : ℕ} (q : TableAsked s work lo hi d n e gr left) where
   -- how many groups there are
   pub asked_count : length (in_order s work lo hi d n) ≡ n
   asked_count = order_length (kind_of n) (groups_in s work lo hi d) ∙ sym q.grouped.count
@@ -98,10 +99,10 @@ module _ {s : List ℕ} {work lo hi d n : ℕ} {e : End} {buf : List ℕ} {left 
   pub asked_deep : 0 < n → d < 16
   asked_deep h =
       let x = q.grouped.each 0 h in
-      let m = tails_mem s work (get_or buf (d * 513 + 0) 0) (get_or buf (d * 513 + 0 + 1) 0) (get_or buf (d * 513 + 0) 0) (omega arith) x.some in
-      let m' : Mem (tail_in s work (get_or buf (d * 513 + 0) 0)) (group_in s work lo hi d 0).tails = subst (λ (ts : List Tail). Mem (tail_in s work (get_or buf (d * 513 + 0) 0)) ts) x.tails m in
-      let l = (q.runs (group_in s work lo hi d 0) (get_or_in (groups_in s work lo hi d) 0 (omega (arith, q.grouped.count)))).long (tail_in s work (get_or buf (d * 513 + 0) 0)) m' in
-      let v = (q.held.each (get_or buf (d * 513 + 0) 0) x.from (omega (arith, x.some, x.upto))).tail.short in
+      let m = tails_mem s work (get_or gr.starts 0 0) (get_or gr.starts 1 0) (get_or gr.starts 0 0) (omega arith) x.some in
+      let m' : Mem (tail_in s work (get_or gr.starts 0 0)) (group_in s work lo hi d 0).tails = subst (λ (ts : List Tail). Mem (tail_in s work (get_or gr.starts 0 0)) ts) x.tails m in
+      let l = (q.runs (group_in s work lo hi d 0) (get_or_in (groups_in s work lo hi d) 0 (omega (arith, q.grouped.count)))).long (tail_in s work (get_or gr.starts 0 0)) m' in
+      let v = (q.held.each (get_or gr.starts 0 0) x.from (omega (arith, x.some, x.upto))).tail.short in
       omega arith
 
 pub kind_large : (n : ℕ) → kind_of n ≡ 1 → 97 ≤ n
@@ -120,9 +121,9 @@ kind_middle n h a b = go (lt_or_le 8 n) (lt_or_le 96 n)
     go (inl x) (inr y) = kind_two n x y
     go (inl x) (inl y) = absurd (a (kind_one n y h))
 
-pub opened : {s : List ℕ} (s₁ : List ℕ) {work lo hi d n : ℕ} {e : End} {buf : List ℕ} {left : ℕ} (t : Table) → TableAsked s work lo hi d n e buf left → Opened s s₁ e.at n t
-    → (length s₁ ≡ length s) × ((k : ℕ) → (k < e.at) ⊎ (work ≤ k) → get_or s₁ k 0 ≡ get_or s k 0) × TableOpen s₁ work lo hi d n t e buf left
-opened {s} s₁ {work} {lo} {hi} {d} {n} {e} {buf} {left} t q o = (
+pub opened : {s : List ℕ} (s₁ : List ℕ) {work lo hi d n : ℕ} {e : End} {gr : Grouping} {left : ℕ} (t : Table) → TableAsked s work lo hi d n e gr left → Opened s s₁ e.at n t
+    → (length s₁ ≡ length s) × ((k : ℕ) → (k < e.at) ⊎ (work ≤ k) → get_or s₁ k 0 ≡ get_or s k 0) × TableOpen s₁ work lo hi d n t e gr left
+opened {s} s₁ {work} {lo} {hi} {d} {n} {e} {gr} {left} t q o = (
   long,
   same,
   record {
@@ -151,14 +152,12 @@ opened {s} s₁ {work} {lo} {hi} {d} {n} {e} {buf} {left} t q o = (
 -- ── between two turns ──
 
 -- j turns are done, and met children written; the image ends at end
-pub record OnTurns (s₀ s : List ℕ) (work lo hi d n : ℕ) (t : Table) (end₀ end : End) (buf₀ buf : List ℕ) (left j met : ℕ) : Type 0 where
+pub record OnTurns (s₀ s : List ℕ) (work lo hi d n : ℕ) (t : Table) (end₀ end : End) (left j met : ℕ) : Type 0 where
   pub upto : j ≤ t.turns
   pub met_upto : met ≤ n
   pub long : length s ≡ length s₀
-  pub buffer_long : length buf ≡ length buf₀
   pub before : (k : ℕ) → k < t.base → get_or s k 0 ≡ get_or s₀ k 0
   pub behind : (k : ℕ) → work ≤ k → get_or s k 0 ≡ get_or s₀ k 0
-  pub buffer : (k : ℕ) → k < d * 513 + 513 → get_or buf k 0 ≡ get_or buf₀ k 0
   pub at : end.at ≡ t.start + j + sizes (take met (kids_in s₀ work lo hi d n left))
   pub nodes : end.nodes ≡ end₀.nodes + nodes_in (take met (kids_in s₀ work lo hi d n left))
   pub entries : end.entries ≡ end₀.entries + entries_in (take met (kids_in s₀ work lo hi d n left))
@@ -172,7 +171,7 @@ pub record OnTurns (s₀ s : List ℕ) (work lo hi d n : ℕ) (t : Table) (end�
 abbrev pub first_end : Table → End → End
 first_end t e = record { at = t.start; nodes = e.nodes; entries = e.entries }
 
-module _ {s₀ : List ℕ} {work lo hi d n : ℕ} {t : Table} {e : End} {buf₀ : List ℕ} {left : ℕ} (o : TableOpen s₀ work lo hi d n t e buf₀ left) where
+module _ {s₀ : List ℕ} {work lo hi d n : ℕ} {t : Table} {e : End} {gr : Grouping} {left : ℕ} (o : TableOpen s₀ work lo hi d n t e gr left) where
   -- where the table and its children lie, by the kind
   pub record Where : Type 0 where
     pub base : e.at ≤ t.base
@@ -185,7 +184,7 @@ module _ {s₀ : List ℕ} {work lo hi d n : ℕ} {t : Table} {e : End} {buf₀ 
       go true h = record { base = omega (arith, (o.dense h).0); start = omega (arith, (o.dense h).0, (o.dense h).1) }
       go false h = record { base = omega (arith, (o.sparse h).0); start = omega (arith, (o.sparse h).0, (o.sparse h).1) }
 
-  module _ {s : List ℕ} {end : End} {buf : List ℕ} {j met : ℕ} (w : OnTurns s₀ s work lo hi d n t (first_end t e) end buf₀ buf left j met) where
+  module _ {s : List ℕ} {end : End} {j met : ℕ} (w : OnTurns s₀ s work lo hi d n t (first_end t e) end left j met) where
     -- there is room for the flag of the turn
     pub flag_room : j < t.turns → end.at + 1 ≤ work
     flag_room l = go (eqb (kind_of n) 1) (eq (kind_of n) 1)
@@ -225,22 +224,21 @@ module _ {s₀ : List ℕ} {work lo hi d n : ℕ} {t : Table} {e : End} {buf₀ 
         go true h = omega (arith, kind_large n h)
         go false h = omega (arith, (o.sparse h).2)
 
-    pub now_asked : TableAsked s work lo hi d n e buf₀ left
+    pub now_asked : TableAsked s work lo hi d n e gr left
     now_asked = asked_later s o.asked w.long w.behind
 
     pub now_groups : groups_in s work lo hi d ≡ groups_in s₀ work lo hi d
     now_groups = later_groups s o.asked w.long w.behind
 
-    pub now_grouped : Grouped s work lo hi d buf n
-    now_grouped = grouped_buffer buf now_asked.grouped (λ k a b. w.buffer k b)
+    pub now_grouped : Grouped s work lo hi d gr n
+    now_grouped = now_asked.grouped
 
-    turn_asked : j < t.turns → TurnAsked s work lo hi d t n buf j met
+    turn_asked : j < t.turns → TurnAsked s work lo hi d t n gr j met
     turn_asked l = record {
       known = record {
         grouped = now_grouped;
         held = now_asked.held;
         memory = now_asked.memory;
-        buffer = omega (arith, w.buffer_long, o.asked.buffer);
         depth = asked_deep o.asked (some l);
         different = now_asked.different;
       };
@@ -251,32 +249,35 @@ module _ {s₀ : List ℕ} {work lo hi d n : ℕ} {t : Table} {e : End} {buf₀ 
     }
 
     -- what a turn asks
-    pub turn_called : j < t.turns → TurnAsked s work lo hi d t n buf j met × (t.start + j ≤ end.at) × (end.at + 1 ≤ length s) × (64 ≤ end.at)
+    pub turn_called : j < t.turns → TurnAsked s work lo hi d t n gr j met × (t.start + j ≤ end.at) × (end.at + 1 ≤ length s) × (64 ≤ end.at)
     turn_called l = (turn_asked l, omega (arith, w.at), omega (arith, flag_room l, now_asked.memory), omega (arith, w.at, where_is.base, where_is.start, o.asked.from))
 
     pub levels : j < t.turns → d < 16
     levels l = asked_deep o.asked (some l)
 
     -- the group of the turn is the next in order
-    pub next_group : {g : ℕ} → j < t.turns → g < n → Picked s work lo hi d t n j met g → (met < n) × (get_or (groups_in s₀ work lo hi d) g no_group ≡ get_or (in_order s₀ work lo hi d n) met no_group)
-    next_group {g} l i p = go (eqb (kind_of n) 1) (eq (kind_of n) 1) (eqb (kind_of n) 3) (eq (kind_of n) 3)
+    pub next_group : {r : Option ℕ} {g : ℕ} → j < t.turns → r ≡ Some g → Picked s work lo hi d t n j met r
+        → (met < n) × (get_or (groups_in s₀ work lo hi d) g no_group ≡ get_or (in_order s₀ work lo hi d n) met no_group)
+    next_group {r} {g} l i p = go (eqb (kind_of n) 1) (eq (kind_of n) 1) (eqb (kind_of n) 3) (eq (kind_of n) 3)
       where
         go : (b : Bool) → Eq b (kind_of n) 1 → (c : Bool) → Eq c (kind_of n) 3 → (met < n) × (get_or (groups_in s₀ work lo hi d) g no_group ≡ get_or (in_order s₀ work lo hi d n) met no_group)
         go true h true k = absurd (omega arith)
         go true h false k =
-            let x = p.one i (o.kind ∙ h) in
-            (omega (arith, x.0), ap (λ (m : ℕ). get_or (groups_in s₀ work lo hi d) m no_group) x.0 ∙ ap (λ (l : List Group). get_or l met no_group) (sym (order_other (kind_of n) (groups_in s₀ work lo hi d) k)))
+            let y = p.one g i (o.kind ∙ h) in
+            (omega (arith, y.0, p.inside g i), ap (λ (m : ℕ). get_or (groups_in s₀ work lo hi d) m no_group) y.0 ∙ ap (λ (l : List Group). get_or l met no_group) (sym (order_other (kind_of n) (groups_in s₀ work lo hi d) k)))
         go false h true k =
-            let x = p.three (o.kind ∙ k) in
             let m = (w.sparse h).0 in
-            let jn : j < n = omega (arith, (o.sparse h).2) in
-            let r : g ≡ with_rank (firsts (groups_in s₀ work lo hi d)) j = x.0 ∙ ap (λ (l : List Group). with_rank (firsts l) j) now_groups in (
-              omega (arith, m),
-              ap (λ (m : ℕ). get_or (groups_in s₀ work lo hi d) m no_group) r ∙ sym (with_rank_place (groups_in s₀ work lo hi d) o.asked.different j (omega (arith, o.asked.grouped.count)))
-                  ∙ ap (λ (l : List Group). get_or l j no_group) (sym (order_three (kind_of n) (groups_in s₀ work lo hi d) k)) ∙ ap (λ (x : ℕ). get_or (in_order s₀ work lo hi d n) x no_group) (sym m),
+            let jn : j < length (groups_in s₀ work lo hi d) = omega (arith, (o.sparse h).2, o.asked.grouped.count) in
+            let found : r ≡ Some (arrived (groups_in s₀ work lo hi d) j) =
+            p.three (o.kind ∙ k) ∙ ap (λ (l : List Group). with_rank (firsts l) j) now_groups ∙ with_rank_found (groups_in s₀ work lo hi d) o.asked.different j jn in
+            let f : g ≡ arrived (groups_in s₀ work lo hi d) j = cc in (
+              omega (arith, m, o.asked.grouped.count),
+              ap (λ (m : ℕ). get_or (groups_in s₀ work lo hi d) m no_group) f ∙ sym (arrived_place (groups_in s₀ work lo hi d) o.asked.different j jn)
+                  ∙ ap (λ (l : List Group). get_or l j no_group) (sym (order_three (kind_of n) (groups_in s₀ work lo hi d) k)) ∙ ap (λ (y : ℕ). get_or (in_order s₀ work lo hi d n) y no_group) (sym m),
             )
         go false h false k =
             let two : kind_of n ≡ 2 = kind_middle n o.asked.grouped.few h k in
-            let x = p.two (o.kind ∙ two) in
+            let y = p.two (o.kind ∙ two) in
             let m = (w.sparse h).0 in
-            (omega (arith, m, (o.sparse h).2), ap (λ (m : ℕ). get_or (groups_in s₀ work lo hi d) m no_group) (x.0 ∙ sym m) ∙ ap (λ (l : List Group). get_or l met no_group) (sym (order_other (kind_of n) (groups_in s₀ work lo hi d) k)))
+            let f : g ≡ j = cc in
+            (omega (arith, m, (o.sparse h).2), ap (λ (m : ℕ). get_or (groups_in s₀ work lo hi d) m no_group) (f ∙ sym m) ∙ ap (λ (l : List Group). get_or l met no_group) (sym (order_other (kind_of n) (groups_in s₀ work lo hi d) k)))

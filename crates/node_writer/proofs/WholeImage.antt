@@ -15,7 +15,7 @@ use Rattle.image_format.specs.Image.{image, children_of, node_bytes}
 use Rattle.tail_words.specs.Tail.{tails_in}
 use Rattle.tail_groups.proofs.Memory.{tails_none, tails_step}
 use Rattle.list_writer.specs.declared.End.{End}
-use Rattle.single_writer.specs.Nodes.{node_of, NodeAsked, NodeWritten}
+use Rattle.single_writer.specs.Nodes.{node_of, SpanWritten, NodeAsked}
 use Rattle.node_writer.specs.Images.{tails_trie, ImageAsked, ImageWritten}
 use Rattle.single_writer.proofs.Sized.{node_long, all_sized}
 
@@ -63,8 +63,8 @@ module _ {s : List ℕ} {work n : ℕ} (q : ImageAsked s work n) where
         let e = ap nodes root_is in
         omega arith
 
-    pub image_asked : (buf : List ℕ) → 8721 ≤ length buf → NodeAsked s work 0 n 0 image_start buf 16
-    image_asked buf b = record {
+    pub image_asked : NodeAsked s work 0 n 0 image_start 16
+    image_asked = record {
       span = record {
         held = q.held;
         memory = q.memory;
@@ -77,13 +77,11 @@ module _ {s : List ℕ} {work n : ℕ} (q : ImageAsked s work n) where
       };
       order = omega arith;
       apart = q.apart;
-      buffer = b;
     }
 
-    pub image_written : {s' buf buf' : List ℕ} {r : End} → NodeWritten s s' work 0 n 0 image_start buf buf' 16 r → ImageWritten s s' work n r
+    pub image_written : {s' : List ℕ} {r : End} → SpanWritten s s' work 0 n 0 image_start 16 r → ImageWritten s s' work n r
     unfolding image
-    image_written {s'} v =
-        let w = v.span in
+    image_written {s'} w =
         let long = node_long 0 (node_of s work 0 n 0 16).lists (children_of (node_of s work 0 n 0 16).children) (all_sized (node_of s work 0 n 0 16).children) in
         let here : Holds s' 64 (node_bytes 0 (node_of s work 0 n 0 16).lists (children_of (node_of s work 0 n 0 16).children)) = w.bytes in
         record {

@@ -8,10 +8,7 @@ abbrev pub decreases-put_node : goal.decreases-put_node
 decreases-put_node l = 2 * (16 - l.s.depth) + 1
 
 abbrev pub decreases-put_table : goal.decreases-put_table
-decreases-put_table l = 2 * (16 - l.b.depth)
+decreases-put_table l = 2 * (16 - l.s.depth)
 
 abbrev pub invariant-put_table-loop-j : goal.invariant-put_table-loop-j
-invariant-put_table-loop-j l = OnTurns l.initial.mem l.mem l.b.work l.b.lo l.b.hi l.b.depth l.b.count l.t l.initial.end l.end l.initial.groups l.groups (16 - l.b.depth) l.j l.met
-
-abbrev pub decreases-put_table-loop-j : goal.decreases-put_table-loop-j
-decreases-put_table-loop-j l = l.turns - l.j
+invariant-put_table-loop-j l = OnTurns l.initial.mem l.mem l.s.work l.s.lo l.s.hi l.s.depth l.groups.count l.t l.initial.end l.end (16 - l.s.depth) l.j l.met

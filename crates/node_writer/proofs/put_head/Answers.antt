@@ -4,19 +4,16 @@ use Rattle.node_writer.proofs.put_head.Goals as goal
 
 pub run_end-below-requires : goal.run_end-below-requires
 run_end-below-requires c =
-    let q = c.requires.0 in
+    let q = c.requires in
     let e = c.run_end-parts.ensures in
     (parts_upto q e, q.memory, q.depth, parts_held q e)
 
-pub find_groups-n-requires : goal.find_groups-n-requires
-find_groups-n-requires c =
-    let q = c.requires.0 in
+pub find_groups-requires : goal.find_groups-requires
+find_groups-requires c =
+    let q = c.requires in
     let e = c.run_end-parts.ensures in
     let f = c.run_end-below.ensures in
-    (mid_upto q e f, q.memory, mid_held q e f, q.depth, c.requires.1, mid_longer q e f, mid_few q e f)
-
-pub put_front-end-requires : goal.put_front-end-requires
-put_front-end-requires c = record { asked = c.requires.0; first = c.run_end-parts.ensures; second = c.run_end-below.ensures; few = c.find_groups-n.ensures.grouped.few }
+    (mid_upto q e f, q.memory, mid_held q e f, mid_longer q e f, mid_few q e f)
 
 pub returns : goal.returns
-returns c = head_written c.requires.0 c.run_end-parts.ensures c.run_end-below.ensures c.put_front-end.ensures c.find_groups-n.ensures
+returns c = head_written c.requires c.run_end-parts.ensures c.run_end-below.ensures c.put_front-end.ensures c.find_groups.ensures

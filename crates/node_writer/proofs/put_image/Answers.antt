@@ -1,7 +1,6 @@
 -- `node_writer::put_image` meets its contract. Assumes nothing.
 use native.Mathlib.Omega.{arith}
-use Rattle.node_writer.proofs.WholeImage.{image_room, image_empty, image_asked, image_written}
-use borrow.Author.Rules.{rules}
+use Rattle.node_writer.proofs.WholeImage.{image_room, image_empty, image_written}
 use Rattle.node_writer.proofs.put_image.Goals as goal
 
 pub clear-requires : goal.clear-requires
@@ -9,9 +8,6 @@ clear-requires c = (omega arith, omega (arith, image_room c.requires))
 
 pub returns-then-tails-eq0 : goal.returns-then-tails-eq0
 returns-then-tails-eq0 c = image_empty c.requires _ c.if-tails-eq0.true c.clear.ensures
-
-pub put_node-requires : goal.put_node-requires
-put_node-requires c = image_asked c.requires c.if-tails-eq0.false _ (search rules)
 
 pub returns : goal.returns
 returns c = image_written c.requires c.if-tails-eq0.false c.put_node.ensures
