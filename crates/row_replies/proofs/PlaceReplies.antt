@@ -8,7 +8,10 @@ use Rattle.definitions.specs.Location.{Location, location_at, locations_in}
 use Rattle.definitions.specs.Program.{text, decimal, Reply, place, end, place_each, found}
 use Rattle.definitions.proofs.Decimal.{dec_decimal, length_dec}
 use Rattle.definitions.proofs.Locations.{length_locations, locations_snoc}
-use Rattle.replies.specs.Written.{Written, reply_bytes}
+use Rattle.replies.specs.Written.{reply_bytes}
+use Rattle.replies.specs.Outputs.{Writes}
+use Rattle.replies.specs.declared.Output.{Output}
+use Rattle.replies.proofs.Writing.{writes_none}
 use Rattle.replies.specs.Replies.{replies_bytes}
 
 pub decimal_short : (x : ℕ) → length (decimal x) ≤ 20
@@ -42,9 +45,9 @@ place_snoc (k ∷ ls) l = ap (λ (ps : List Reply). place k ∷ ps) (place_snoc 
 abbrev pub places_bytes : List ℕ → ℕ → List ℕ
 places_bytes s n = replies_bytes (place_each (locations_in s n 0))
 
-pub no_places : (s out : List ℕ) (at : ℕ) → Written out at (places_bytes s 0) out at
+pub no_places : (s : List ℕ) (out : Output) → Writes out (places_bytes s 0) out
 unfolding locations_in
-no_places s out at = record { out = refl; next = omega arith }
+no_places s out = writes_none out
 
 pub place_more : (s : List ℕ) (n : ℕ) → places_bytes s n ++ reply_bytes (place (location_at s (n * 24))) ≡ places_bytes s (n + 1)
 place_more s n =
