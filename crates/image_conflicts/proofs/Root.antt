@@ -1,10 +1,13 @@
 -- From an image in place to its root: its suffixes are locations in line or not, and what its children say decides. Assumes nothing.
-use Prim.Native.Nat.{ℕ, ◌+◌, ◌*◌, ◌-◌, ◌<◌}
+use Prim.Native.Nat.{ℕ, ◌+◌, ◌*◌, ◌-◌, ◌^◌, ◌<◌}
 use native.Mathlib.Omega.{arith}
 use mathlib.Core.Path.{◌≡◌, sym, ap, subst, ◌∙◌}
 use mathlib.Core.Bool.{Bool, true, false, ◌&&◌}
 use mathlib.Core.List.{List}
 use lib.ListN.{length, get_or}
+use lib.Dec.{eqb}
+use Rattle.std.proofs.Common.{Fits, w8}
+use Rattle.std.proofs.lemmas.Bool.{eqb-false}
 use Rattle.std.specs.Prelude.{Option, is_some}
 use Rattle.definitions.specs.Location.{Location, location_at}
 use Rattle.definitions.specs.Conflicts.{free}
@@ -24,12 +27,17 @@ use Rattle.image_walk.specs.declared.Node.{Node as Parts}
 use Rattle.image_walk.specs.Parts.{parts_at}
 use Rattle.image_walk.specs.Here.{RootHere}
 use Rattle.image_walk.proofs.Paths.{short_path}
-use Rattle.image_walk.proofs.Root.{trie_empty}
+use Rattle.image_format.specs.Reading.{RightImage}
+use Rattle.image_walk.proofs.Root.{root_of, trie_empty}
 use Rattle.node_rule.specs.Parts.{PartsOf}
 use Rattle.node_rule.proofs.Parts.{parts_of}
 use Rattle.image_conflicts.specs.Due.{forest_due, conflict_free}
 use Rattle.image_conflicts.specs.Cited.{Ready, ChildrenAsked, ChildrenSays}
 use Rattle.image_conflicts.proofs.Image.{all_ending, all_alive, conflict_free_is}
+
+-- an image whose first byte is not 0 has a root
+pub root_found : (s : List ℕ) → ((i : ℕ) → Fits w8 (get_or s i 0)) → length s < 2 ^ 64 → RightImage s → (b : Bool) → b ≡ eqb (get_or s 0 0) 0 → b ≡ false → RootHere s
+root_found s f l r b e z = root_of s (λ i. omega (arith, f i)) l r (eqb-false _ _ (sym e ∙ z))
 
 -- an empty index has no pieces
 pub empty_free : (s : List ℕ) → get_or s 0 0 ≡ 0 → true ≡ free (trie_pieces (trie_in s))

@@ -2,9 +2,8 @@
 use native.Mathlib.Omega.{arith}
 use mathlib.Core.Path.{sym, ◌∙◌}
 use borrow.Author.Tests.{eqb-true}
-use Rattle.std.proofs.lemmas.Bool.{eqb-false}
-use Rattle.image_walk.proofs.Root.{layout_some, root_laid, root_of}
-use Rattle.image_conflicts.proofs.Root.{empty_free, root_within, not_in_line, root_ready, root_asked, root_says}
+use Rattle.image_walk.proofs.Root.{layout_some, root_laid}
+use Rattle.image_conflicts.proofs.Root.{empty_free, root_found, root_within, not_in_line, root_ready, root_asked, root_says}
 use Rattle.image_conflicts.proofs.conflict_free.Goals as goal
 
 pub is_empty-requires : goal.is_empty-requires
@@ -16,20 +15,20 @@ returns-then-is_empty c = empty_free c.args.s.now (eqb-true _ _ (sym c.is_empty.
 pub node_at-root-requires : goal.node_at-root-requires
 node_at-root-requires c =
     let a = c.args in
-    let h = root_of a.s.now (λ i. omega (arith, c.type_inv.s i)) (omega arith) c.requires.0 (eqb-false _ _ (sym c.is_empty.ensures ∙ c.if-is_empty.false)) in
+    let h = root_found a.s.now c.type_inv.s (omega arith) c.requires.0 _ c.is_empty.ensures c.if-is_empty.false in
     root_laid a.s.now h
 
 pub in_line-requires : goal.in_line-requires
 in_line-requires c =
     let a = c.args in
-    let h = root_of a.s.now (λ i. omega (arith, c.type_inv.s i)) (omega arith) c.requires.0 (eqb-false _ _ (sym c.is_empty.ensures ∙ c.if-is_empty.false)) in
+    let h = root_found a.s.now c.type_inv.s (omega arith) c.requires.0 _ c.is_empty.ensures c.if-is_empty.false in
     let n = c.node_at-root in
     root_within a.s.now h c.requires.1 n.result n.ensures
 
 pub children_due-requires : goal.children_due-requires
 children_due-requires c =
     let a = c.args in
-    let h = root_of a.s.now (λ i. omega (arith, c.type_inv.s i)) (omega arith) c.requires.0 (eqb-false _ _ (sym c.is_empty.ensures ∙ c.if-is_empty.false)) in
+    let h = root_found a.s.now c.type_inv.s (omega arith) c.requires.0 _ c.is_empty.ensures c.if-is_empty.false in
     let n = c.node_at-root in
     let l = c.in_line in
     let z = c.if-in_line.true in
@@ -38,7 +37,7 @@ children_due-requires c =
 pub returns-then-in_line : goal.returns-then-in_line
 returns-then-in_line c =
     let a = c.args in
-    let h = root_of a.s.now (λ i. omega (arith, c.type_inv.s i)) (omega arith) c.requires.0 (eqb-false _ _ (sym c.is_empty.ensures ∙ c.if-is_empty.false)) in
+    let h = root_found a.s.now c.type_inv.s (omega arith) c.requires.0 _ c.is_empty.ensures c.if-is_empty.false in
     let n = c.node_at-root in
     let l = c.in_line in
     let d = c.children_due in
@@ -47,7 +46,7 @@ returns-then-in_line c =
 pub returns-else-in_line : goal.returns-else-in_line
 returns-else-in_line c =
     let a = c.args in
-    let h = root_of a.s.now (λ i. omega (arith, c.type_inv.s i)) (omega arith) c.requires.0 (eqb-false _ _ (sym c.is_empty.ensures ∙ c.if-is_empty.false)) in
+    let h = root_found a.s.now c.type_inv.s (omega arith) c.requires.0 _ c.is_empty.ensures c.if-is_empty.false in
     let n = c.node_at-root in
     let l = c.in_line in
     c.if-in_line.false ∙ not_in_line a.s.now h c.requires.1 n.result n.ensures l.result l.ensures c.if-in_line.false
