@@ -1,28 +1,28 @@
 -- One end of the query more in scratch: its places stand behind those of the shorter ends, or have no room. Assumes nothing.
 use Prim.Native.Nat.{ℕ, ◌+◌, ◌-◌, ◌*◌, ◌/◌, ◌≤◌, ◌<◌}
 use native.Mathlib.Omega.{arith}
-use mathlib.Core.Path.{◌≡◌, refl, sym, ap, subst, ◌∙◌}
-use mathlib.Core.Bool.{Bool, true, false}
+use mathlib.Core.Path.{◌≡◌, sym, ap, subst, ◌∙◌}
+use Rattle.std.specs.Prelude.{Option, Some, None, MatchOption, OnSome, ⊤}
 use mathlib.Core.Logic.{◌⊎◌, inl, inr}
 use mathlib.Core.List.{List, [], append-nil}
 use lib.ListN.{length, drop, get_or, set, length-set, length-append}
 use lib.Seq.{get_or-set_same, get_or-set_other}
 use lib.Dec.{eqb}
-use Rattle.records.proofs.Order.{clash}
 use Rattle.definitions.specs.Location.{Location, normal}
 use Rattle.definitions.proofs.Views.{lt_or_le}
 use Rattle.definitions.specs.Places.{first_of, sizes}
-use Rattle.trie.specs.Trie.{Lists, Node}
+use Rattle.trie.specs.Trie.{Node}
 use Rattle.place_buffer.specs.declared.Places.{Places}
-use Rattle.place_buffer.specs.Buffer.{Tidied, Taken}
+use Rattle.place_buffer.specs.Buffer.{Tidied, room, Over, Taken}
 use Rattle.place_buffer.specs.Holding.{Holding, Settled}
 use Rattle.definitions.proofs.Order.{length_normal}
 use Rattle.definitions.proofs.Locations.{length_locations}
 use Rattle.place_buffer.proofs.Holding.{holding_start, holding_taken, holding_over, holding_tidy, taken_elsewhere, tidied_elsewhere}
-use Rattle.node_joining.specs.Found.{rooted, last_of, ending_lists, along_from, table_from}
-use Rattle.node_joining.specs.Layout.{lists_of, Ending, starting, Part, LaidOut, EndFound, last_size, AllFound, Tabled, TableFound}
+use Rattle.node_joining.specs.Found.{rooted, last_of, along_from, table_from}
+use Rattle.node_joining.specs.Layout.{ending_in, Ending, starting, Part, LaidOut, EndFound, last_size, AllLaid, AllFound, Tabled, TableFound}
 use Rattle.node_joining.proofs.Stages.{table_step, table_end, table_last, table_less}
-use Rattle.image_walk.specs.declared.Node.{Node as Parts}
+use Rattle.node_joining.specs.declared.Beyond.{Beyond}
+use Rattle.joining.specs.Lists.{listed}
 
 lt_or_same : (i j : ℕ) → i ≤ j → (i < j) ⊎ (j ≡ i)
 lt_or_same i j h = go (lt_or_le i j)
@@ -31,29 +31,25 @@ lt_or_same i j h = go (lt_or_le i j)
     go (inl l) = inl l
     go (inr l) = inr (omega arith)
 
-module _ (i : ℕ) {n : Node} {q ends s s₁ : List ℕ} {r : Places} (h : i < length q) (d : LaidOut n q (i + 1) ends s)
-    (t : Taken s s₁ (starting (get_or ends (i + 1) 0)) (along_from (eqb i 0) n (drop i q)) r) where
-  holding : Holding s₁ r (along_from (eqb i 0) n (drop i q))
-  holding =
-      subst (Holding s₁ r) (append-nil (along_from (eqb i 0) n (drop i q)))
-      (holding_taken {ls = along_from (eqb i 0) n (drop i q)} {xs = []} (holding_start s (get_or ends (i + 1) 0) d.fits) t)
-
+module _ (i : ℕ) {n : Node} {q ends s : List ℕ} (h : i < length q) (d : LaidOut n q (i + 1) ends s) where
   counted : length (first_of (table_from n q i)) ≡ length (normal (along_from (eqb i 0) n (drop i q)))
   counted = ap (λ (ts : List (List Location)). length (first_of ts)) (table_step n q i h)
 
-  pub end_over : {ends' s' : List ℕ} → r.full ≡ true → EndFound n q i ends s ends' s' true
-  end_over e = record {
-    over = λ f. omega (arith, holding_over holding e, counted, t.same_base, ap (λ (x : ℕ). x / 24) t.same_length);
-    laid = λ f. clash f;
-    next = λ f. clash f;
-  }
+  none_yet : Holding s (starting (get_or ends (i + 1) 0)) []
+  none_yet = holding_start s (get_or ends (i + 1) 0) d.fits
 
-  module _ {s₂ : List ℕ} {next : ℕ} (e : r.full ≡ false) (u : Tidied s₁ s₂ r.base r.count next) where
+  pub end_over : {s₁ : List ℕ} → Taken s s₁ (starting (get_or ends (i + 1) 0)) (along_from (eqb i 0) n (drop i q)) None → EndFound n q i ends s s₁ None
+  end_over t =
+      let over : Over s (get_or ends (i + 1) 0) (along_from (eqb i 0) n (drop i q)) =
+      subst (Over s (get_or ends (i + 1) 0)) (append-nil (along_from (eqb i 0) n (drop i q))) (holding_over none_yet t) in
+      record { found = omega (arith, over, counted) }
+
+  module _ {s₁ : List ℕ} {r : Places} (t : Taken s s₁ (starting (get_or ends (i + 1) 0)) (along_from (eqb i 0) n (drop i q)) (Some r)) {s₂ : List ℕ} {next : ℕ} (u : Tidied s₁ s₂ r.base r.count next) where
     base : r.base ≡ get_or ends (i + 1) 0
-    base = t.same_base
+    base = t.set.same_base
 
     settled : Settled s₂ r.base (along_from (eqb i 0) n (drop i q)) next
-    settled = holding_tidy holding e u
+    settled = holding_tidy (subst (Holding s₁ r) (append-nil (along_from (eqb i 0) n (drop i q))) (holding_taken none_yet t)) u
 
     at_i : get_or (set ends i next) i 0 ≡ next
     at_i = get_or-set_same ends i next 0 (omega (arith, d.long))
@@ -89,15 +85,16 @@ module _ (i : ℕ) {n : Node} {q ends s s₁ : List ℕ} {r : Places} (h : i < l
               ∙ taken_elsewhere t (get_or ends j 0 - get_or ends (j + 1) 0) (get_or ends (j + 1) 0 * 24) (omega (arith, base)) ∙ p.places);
         }
 
-    pub end_laid : EndFound n q i ends s (set ends i next) s₂ false
+    pub end_laid : EndFound n q i ends s s₂ (Some next)
     end_laid = record {
-      over = λ f. clash (sym f);
-      laid = λ f. record {
-        long = omega (arith, d.long, length-set ends i next);
-        fits = omega (arith, at_i, settled.within);
-        part = λ j l k g. subst (λ (x : ℕ). Part n q (set ends i next) s₂ x j) (sym at_i) (go j (lt_or_same i j l) k g);
+      found = record {
+        laid = record {
+          long = omega (arith, d.long, length-set ends i next);
+          fits = omega (arith, at_i, settled.within);
+          part = λ j l k g. subst (λ (x : ℕ). Part n q (set ends i next) s₂ x j) (sym at_i) (go j (lt_or_same i j l) k g);
+        };
+        size = omega (arith, settled.count, counted, base);
       };
-      next = λ f. at_i ∙ omega (arith, settled.count, counted, base);
     }
       where
         go : (j : ℕ) → (i < j) ⊎ (j ≡ i) → j < length q → (0 < j → j + 1 < length q) → Part n q (set ends i next) s₂ next j
@@ -122,20 +119,20 @@ pub kept_last : (n : Node) (q ends : List ℕ) (count : ℕ) → 1 < length q �
 kept_last n q ends count h l = omega (arith, get_or-set_same ends (length q - 1) count 0 (omega arith))
 
 -- what `last` holds
-module _ {img : List ℕ} (q : List ℕ) {m : Parts} (h : 1 < length q) (x : Ending img (last_of q) m) where
-  ending_size : length (normal (ending_lists (lists_of img m))) ≡ last_size (rooted img) q
+module _ {img : List ℕ} (q : List ℕ) {m : Beyond} (h : 1 < length q) (x : Ending img (last_of q) m) where
+  ending_size : length (normal (ending_in img m)) ≡ last_size (rooted img) q
   ending_size =
-      ap (λ (k : Lists). length (normal (ending_lists k))) x.lists ∙ omega (arith, ap sizes (table_last (rooted img) q (length q - 1) (omega arith) (omega arith)))
+      ap (λ (ls : List Location). length (normal ls)) x.lists ∙ omega (arith, ap sizes (table_last (rooted img) q (length q - 1) (omega arith) (omega arith)))
 
-  pub ending_counted : {count : ℕ} → count ≡ length (normal (ending_lists (lists_of img m))) → count ≡ last_size (rooted img) q
+  pub ending_counted : {count : ℕ} → count ≡ length (normal (ending_in img m)) → count ≡ last_size (rooted img) q
   ending_counted e = e ∙ ending_size
 
-  pub ending_most : last_size (rooted img) q ≤ m.suffix_count + m.chunk_count
+  pub ending_most : last_size (rooted img) q ≤ m.suffixes.count + m.chunks.count
   ending_most =
-      omega (arith, ending_size, length_normal (ending_lists (lists_of img m)), length-append (lists_of img m).suffixes (lists_of img m).chunks, length_locations m.suffix_count img m.suffixes, length_locations m.chunk_count img m.chunks)
+      omega (arith, ending_size, length_normal (ending_in img m), length-append (listed img m.suffixes) (listed img m.chunks), length_locations m.suffixes.count img m.suffixes.at, length_locations m.chunks.count img m.chunks.at)
 
 -- what is added behind them leaves them as they were
-pub laid_taken : (i : ℕ) {n : Node} {q ends s s₁ : List ℕ} {r : Places} {ls : List Location} → LaidOut n q (i + 1) ends s → Taken s s₁ (starting (get_or ends (i + 1) 0)) ls r → LaidOut n q (i + 1) ends s₁
+pub laid_taken : (i : ℕ) {n : Node} {q ends s s₁ : List ℕ} {o : Option Places} {ls : List Location} → LaidOut n q (i + 1) ends s → Taken s s₁ (starting (get_or ends (i + 1) 0)) ls o → LaidOut n q (i + 1) ends s₁
 laid_taken i {n} {q} {ends} {s} {s₁} d t = record {
   long = d.long;
   fits = omega (arith, d.fits, t.same_length);
@@ -156,56 +153,59 @@ sizes_step n q i h =
     let e = table_step n q i h in
     ap sizes e ∙ ap (λ (ts : List (List Location)). length (first_of ts) + sizes (table_from n q (i + 1))) (sym e)
 
-module _ {n : Node} {q s₁ ends ends₁ s₂ : List ℕ} {o : Bool} (count i j : ℕ) (h : i < length q) (same : j ≡ i + 1) (f : EndFound n q i ends s₁ ends₁ s₂ o) (k : get_or ends j 0 + last_size n q ≡ count + sizes (table_from n q j)) where
-  abbrev here : get_or ends (i + 1) 0 + last_size n q ≡ count + sizes (table_from n q (i + 1))
+module _ (n : Node) (q ends : List ℕ) (count i j : ℕ) (h : i < length q) (same : j ≡ i + 1) (k : get_or ends j 0 + last_size n q ≡ count + sizes (table_from n q j)) where
+  here : get_or ends (i + 1) 0 + last_size n q ≡ count + sizes (table_from n q (i + 1))
   here = subst (λ (x : ℕ). get_or ends x 0 + last_size n q ≡ count + sizes (table_from n q x)) same k
 
   -- an end without room leaves none for the whole
-  pub all_over : {s ends' s' : List ℕ} → o ≡ true → length s₁ ≡ length s → AllFound n q count s ends' s' true
-  all_over e l = record {
-    over = λ g. omega (arith, here, f.over e, table_less n q i, sizes_step n q i h, ap (λ (x : ℕ). x / 24) l);
-    laid = λ g. clash g;
-    size = λ g. clash g;
-  }
+  pub all_over : {s s₁ s₂ ends' s' : List ℕ} → EndFound n q i ends s₁ s₂ None → length s₁ ≡ length s → AllFound n q count s ends' s' None
+  all_over f l = record { found = omega (arith, here, f.found, table_less n q i, sizes_step n q i h, ap (λ (x : ℕ). x / 24) l) }
 
-  pub all_kept : o ≡ false → get_or ends₁ i 0 + last_size n q ≡ count + sizes (table_from n q i)
-  all_kept e = omega (arith, here, f.next e, sizes_step n q i h)
-
-pub all_laid : {n : Node} {q s s₁ ends ends₁ s₂ : List ℕ} {o : Bool} (count j : ℕ) → 0 < length q → j ≡ 1 → EndFound n q 0 ends s₁ ends₁ s₂ o → get_or ends j 0 + last_size n q ≡ count + sizes (table_from n q j) → length s₁ ≡ length s
-    → AllFound n q count s ends₁ s₂ o
-all_laid {n} {q} {s} count j h same f k l = record {
-  over = λ e. (all_over count 0 j h same f k {s = s} {ends' = []} {s' = []} e l).over refl;
-  laid = f.laid;
-  size = λ e. all_kept count 0 j h same f k e;
-}
+  pub all_kept : {s₁ s₂ : List ℕ} {next : ℕ} → i < length ends → EndFound n q i ends s₁ s₂ (Some next) → get_or (set ends i next) i 0 + last_size n q ≡ count + sizes (table_from n q i)
+  all_kept {next = next} l f = omega (arith, here, f.found.size, sizes_step n q i h, get_or-set_same ends i next 0 l)
 
 -- ── all of them ──
 
 -- with so many places kept for the last byte as it has
-pub found_exactly : {n : Node} {q s ends s' : List ℕ} {o : Bool} {count : ℕ} → count ≡ last_size n q → AllFound n q count s ends s' o → length s' ≡ length s → TableFound n q s ends s' o
-found_exactly {n} {q} e f l = record {
-  over = λ g. omega (arith, f.over g);
-  tabled = λ g. record { laid = f.laid g; fits = omega (arith, f.size g, (f.laid g).fits) };
-}
+pub found_exactly : {n : Node} {q s ends s' : List ℕ} {o : Option ⊤} {count : ℕ} → count ≡ last_size n q → AllFound n q count s ends s' o → length s' ≡ length s → TableFound n q s ends s' o
+found_exactly {n} {q} {s} {ends} {s'} {o} {count} e f l = record { found = go o f.found }
+  where
+    go : (o : Option ⊤) → MatchOption o (room s + last_size n q < count + sizes (table_from n q 0)) (λ _. AllLaid n q count ends s') → MatchOption o (room s < sizes (table_from n q 0)) (λ _. Tabled n q ends s')
+    go None g = omega (arith, e, g)
+    go (Some x) g = record { laid = g.laid; fits = omega (arith, e, g.size, g.laid.fits, ap (λ (x : ℕ). x / 24) l) }
 
 -- with at least so many
-pub found_loosely : {n : Node} {q s ends s' : List ℕ} {o : Bool} {count : ℕ} → last_size n q ≤ count → AllFound n q count s ends s' o → o ≡ false → Tabled n q ends s'
-found_loosely e f g = record { laid = f.laid g; fits = omega (arith, f.size g, (f.laid g).fits) }
+pub found_loosely : {n : Node} {q s ends s' : List ℕ} {o : Option ⊤} {count : ℕ} → last_size n q ≤ count → AllFound n q count s ends s' o → OnSome o (Tabled n q ends s')
+found_loosely {n} {q} {s} {ends} {s'} {o} {count} e f = go o f.found
+  where
+    go : (o : Option ⊤) → MatchOption o (room s + last_size n q < count + sizes (table_from n q 0)) (λ _. AllLaid n q count ends s') → OnSome o (Tabled n q ends s')
+    go None g = tt
+    go (Some x) g = record { laid = g.laid; fits = omega (arith, e, g.size, g.laid.fits) }
+
+pub found_not : {n : Node} {q s ends s' : List ℕ} {count : ℕ} → count ≡ last_size n q → length s / 24 < count → TableFound n q s ends s' None
+found_not {n} {q} e r = record { found = omega (arith, e, r, table_less n q (length q - 1)) }
+
+pub found_after : {n : Node} {q s s₁ ends s' : List ℕ} {o : Option ⊤} → TableFound n q s₁ ends s' o → length s₁ ≡ length s → TableFound n q s ends s' o
+found_after {n} {q} {s} {s₁} {ends} {s'} {o} f l = record { found = go o f.found }
+  where
+    go : (o : Option ⊤) → MatchOption o (room s₁ < sizes (table_from n q 0)) (λ _. Tabled n q ends s') → MatchOption o (room s < sizes (table_from n q 0)) (λ _. Tabled n q ends s')
+    go None g = omega (arith, g, ap (λ (x : ℕ). x / 24) l)
+    go (Some x) g = g
 
 -- of one byte
-pub found_one : {n : Node} {q s ends ends₁ s' : List ℕ} {o : Bool} → length q ≡ 1 → get_or ends 1 0 ≡ 0 → EndFound n q 0 ends s ends₁ s' o → TableFound n q s ends₁ s' o
-found_one {n} {q} h z f =
-    let e : sizes (table_from n q 1) ≡ 0 = ap sizes (ap (table_from n q) (sym h) ∙ table_end n q (omega arith)) in
-    record {
-      over = λ g. omega (arith, f.over g, sizes_step n q 0 (omega arith));
-      tabled = λ g. record { laid = f.laid g; fits = omega (arith, f.next g, (f.laid g).fits, sizes_step n q 0 (omega arith)) };
-    }
+module _ (n : Node) (q : List ℕ) (h : length q ≡ 1) where
+  none_behind : sizes (table_from n q 1) ≡ 0
+  none_behind = ap sizes (ap (table_from n q) (sym h) ∙ table_end n q (omega arith))
 
-pub found_not : {n : Node} {q s ends s' : List ℕ} {count : ℕ} → count ≡ last_size n q → length s / 24 < count → TableFound n q s ends s' true
-found_not {n} {q} e r = record { over = λ g. omega (arith, table_less n q (length q - 1)); tabled = λ g. clash g }
+  pub one_over : {ends s s' ends' : List ℕ} → get_or ends 1 0 ≡ 0 → EndFound n q 0 ends s s' None → TableFound n q s ends' s' None
+  one_over z f = record { found = omega (arith, f.found, z, none_behind, sizes_step n q 0 (omega arith)) }
 
-pub found_after : {n : Node} {q s s₁ ends s' : List ℕ} {o : Bool} → TableFound n q s₁ ends s' o → length s₁ ≡ length s → TableFound n q s ends s' o
-found_after f l = record { over = λ g. omega (arith, f.over g, ap (λ (x : ℕ). x / 24) l); tabled = f.tabled }
-
-pub found_tabled : {n : Node} {q s ends s' : List ℕ} → Tabled n q ends s' → TableFound n q s ends s' false
-found_tabled f = record { over = λ g. clash (sym g); tabled = λ g. f }
+  pub one_laid : {ends s s' : List ℕ} {next : ℕ} → get_or ends 1 0 ≡ 0 → EndFound n q 0 ends s s' (Some next) → TableFound n q s (set ends 0 next) s' (Some tt)
+  one_laid {ends} {next = next} z f =
+      let there : 0 < length ends = omega (arith, f.found.laid.long, length-set ends 0 next) in
+      record {
+        found = record {
+          laid = f.found.laid;
+          fits = omega (arith, f.found.size, f.found.laid.fits, z, none_behind, sizes_step n q 0 (omega arith), get_or-set_same ends 0 next 0 there);
+        };
+      }

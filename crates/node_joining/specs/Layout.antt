@@ -96,8 +96,8 @@ pub record EndLaid (n : Node) (q : List ℕ) (i : ℕ) (ends s' : List ℕ) (nex
   pub size : next ≡ get_or ends (i + 1) 0 + length (first_of (table_from n q i))
 
 -- so it is, or has no room
-abbrev pub EndFound : (n : Node) (q : List ℕ) (i : ℕ) (ends s s' : List ℕ) (o : Option ℕ) → Type 0
-EndFound n q i ends s s' o = MatchOption o (room s < get_or ends (i + 1) 0 + length (first_of (table_from n q i))) (EndLaid n q i ends s')
+pub record EndFound (n : Node) (q : List ℕ) (i : ℕ) (ends s s' : List ℕ) (o : Option ℕ) : Type 0 where
+  pub found : MatchOption o (room s < get_or ends (i + 1) 0 + length (first_of (table_from n q i))) (EndLaid n q i ends s')
 
 -- how many places the last byte has
 abbrev pub last_size : Node → List ℕ → ℕ
@@ -109,8 +109,8 @@ pub record AllLaid (n : Node) (q : List ℕ) (count : ℕ) (ends s' : List ℕ) 
   pub size : get_or ends 0 0 + last_size n q ≡ count + sizes (table_from n q 0)
 
 -- so they are, or have no room then
-abbrev pub AllFound : (n : Node) (q : List ℕ) (count : ℕ) (s ends' s' : List ℕ) (o : Option ⊤) → Type 0
-AllFound n q count s ends' s' o = MatchOption o (room s + last_size n q < count + sizes (table_from n q 0)) (λ _. AllLaid n q count ends' s')
+pub record AllFound (n : Node) (q : List ℕ) (count : ℕ) (s ends' s' : List ℕ) (o : Option ⊤) : Type 0 where
+  pub found : MatchOption o (room s + last_size n q < count + sizes (table_from n q 0)) (λ _. AllLaid n q count ends' s')
 
 -- all T(i) are found and have room
 pub record Tabled (n : Node) (q ends s : List ℕ) : Type 0 where
@@ -118,5 +118,5 @@ pub record Tabled (n : Node) (q ends s : List ℕ) : Type 0 where
   pub fits : sizes (table_from n q 0) ≤ room s
 
 -- all T(i) are found, or have more places than there is room
-abbrev pub TableFound : (n : Node) (q s ends' s' : List ℕ) (o : Option ⊤) → Type 0
-TableFound n q s ends' s' o = MatchOption o (room s < sizes (table_from n q 0)) (λ _. Tabled n q ends' s')
+pub record TableFound (n : Node) (q s ends' s' : List ℕ) (o : Option ⊤) : Type 0 where
+  pub found : MatchOption o (room s < sizes (table_from n q 0)) (λ _. Tabled n q ends' s')

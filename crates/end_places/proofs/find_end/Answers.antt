@@ -2,8 +2,8 @@
 use Rattle.end_places.proofs.Laying.{end_over, end_laid}
 use Rattle.end_places.proofs.find_end.Goals as goal
 
-pub returns-then-p : goal.returns-then-p
-returns-then-p c = end_over c.args.i c.requires.1 c.requires.3 c.find_places-p.ensures c.if-p.true
+pub returns-in_err-p : goal.returns-in_err-p
+returns-in_err-p c = rw c.from_residual.ensures (end_over c.args.i c.requires.1 c.requires.3 c.in_err-p.ensures)
 
 pub returns : goal.returns
-returns c = end_laid c.args.i c.requires.1 c.requires.3 c.find_places-p.ensures c.if-p.false c.tidy-next.ensures
+returns c = end_laid c.args.i c.requires.1 c.requires.3 c.in_ok-p.ensures c.tidy.ensures

@@ -1,13 +1,10 @@
 -- `end_places::find_places` meets its contract: path by path, what ends there is joined with the places behind it; the last path is the query. Assumes nothing.
-use Prim.Native.Nat.{◌+◌, ◌-◌, ◌≤◌, ◌<◌}
-use lib.ListN.{length, take, drop}
+use Prim.Native.Nat.{◌+◌, ◌-◌}
+use lib.ListN.{take, drop}
 use lib.Dec.{eqb}
 use Rattle.node_joining.specs.Found.{rooted}
 use Rattle.end_places.proofs.Progress.{Walked, Progress}
 use Rattle.end_places.proofs.find_places.Given as goal
 
 abbrev pub invariant-loop-j : goal.invariant-loop-j
-invariant-loop-j l = (l.i ≤ l.j) × (l.j < length l.q) × Walked l.img (take (l.j - l.i) (drop l.i l.q)) l.n × Progress (eqb l.i 0) (rooted l.img) (drop l.i l.q) (l.j + 1 - l.i) l.initial.scratch l.scratch l.initial.r l.r
-
-abbrev pub decreases-loop-j : goal.decreases-loop-j
-decreases-loop-j l = length l.q - l.j
+invariant-loop-j l = Walked l.img (take (l.j - l.i) (drop l.i l.q)) l.n × Progress (eqb l.i 0) (rooted l.img) (drop l.i l.q) (l.j + 1 - l.i) l.initial.scratch l.scratch l.initial.r l.r
