@@ -1,5 +1,5 @@
 -- The memory in which the image of a log stands, closed. Assumes nothing.
-use Prim.Native.Nat.{ℕ, ◌+◌, ◌-◌, ◌*◌, ◌≤◌}
+use Prim.Native.Nat.{ℕ, ◌+◌, ◌-◌, ◌≤◌}
 use native.Mathlib.Omega.{arith}
 use mathlib.Core.Path.{◌≡◌, ap, subst, ◌∙◌}
 use mathlib.Core.Logic.{inr}
@@ -13,7 +13,7 @@ use Rattle.trie.specs.Build.{trie_of}
 use Rattle.image_format.specs.Image.{image}
 use Rattle.tally.specs.Tallied.{finished}
 use Rattle.tally.specs.declared.Tally.{Tally}
-use Rattle.memory_header.specs.Layout.{Header}
+use Rattle.memory_header.specs.Layout.{Header, work_at}
 use Rattle.memory_header.specs.Answers.{header_of}
 use Rattle.header_tally.specs.Tallies.{with_tally}
 use Rattle.index_memory.specs.Log.{log_in}
@@ -24,10 +24,10 @@ use Rattle.node_writer.specs.Images.{ImageWritten}
 use Rattle.finished_memory.specs.Finished.{finished_header, finished_memory, closed, Closable}
 use Rattle.finished_memory.proofs.Standing.{closed_is}
 use Rattle.finishing.specs.Steps.{TailsSorted}
-use Rattle.finishing.proofs.Image.{held_memory, small_nodes, small_entries, few_tails, trie_is}
+use Rattle.finishing.proofs.Image.{held_memory, few_tails, trie_is}
 
-module _ (m : List ℕ) (c : Capacity) (pieces : ℕ) (b : Bytes m) (o : OpenIs m c (log_in m pieces 64))
-    (s : List ℕ) (n : ℕ) (w : TailsSorted m s pieces (64 + 64 * c.nodes + 48 * c.entries) n) (s' : List ℕ) (r : End) (v : ImageWritten s s' (64 + 64 * c.nodes + 48 * c.entries) n r) where
+module _ (m : List ℕ) (c : Capacity) (pieces : ℕ) (b : Bytes m) (o : OpenIs m c (log_in m pieces 64)) (work : ℕ) (at : work ≡ work_at c)
+    (s : List ℕ) (n : ℕ) (w : TailsSorted m s pieces work n) (s' : List ℕ) (r : End) (v : ImageWritten s s' work n r) where
   abbrev t : Trie
   t = trie_of (log_in m pieces 64)
 
@@ -36,18 +36,18 @@ module _ (m : List ℕ) (c : Capacity) (pieces : ℕ) (b : Bytes m) (o : OpenIs 
   h = record { capacity = c; phase = 1; nodes = r.nodes; entries = r.entries; payload = r.at - 64 }
 
   stands : Holds s' 64 (image t)
-  stands = subst (λ (u : Trie). Holds s' 64 (image u)) (trie_is m c pieces b o s n w) v.bytes
+  stands = subst (λ (u : Trie). Holds s' 64 (image u)) (trie_is m c pieces b o work at s n w) v.bytes
 
   ends : r.at ≡ 64 + length (image t)
-  ends = v.at ∙ ap (λ (u : Trie). 64 + length (image u)) (trie_is m c pieces b o s n w)
+  ends = v.at ∙ ap (λ (u : Trie). 64 + length (image u)) (trie_is m c pieces b o work at s n w)
 
   long : length s' ≡ length m
   long = v.long ∙ w.long
 
   is_header : h ≡ finished_header c t
   is_header =
-      let e : r.nodes ≡ nodes t = v.nodes ∙ ap nodes (trie_is m c pieces b o s n w) in
-      let f : r.entries ≡ entries t = v.entries ∙ ap entries (trie_is m c pieces b o s n w) in
+      let e : r.nodes ≡ nodes t = v.nodes ∙ ap nodes (trie_is m c pieces b o work at s n w) in
+      let f : r.entries ≡ entries t = v.entries ∙ ap entries (trie_is m c pieces b o work at s n w) in
       let g : r.at - 64 ≡ length (image t) = omega (arith, ends) in
       λ i. record { capacity = c; phase = 1; nodes = e i; entries = f i; payload = g i }
 
@@ -61,8 +61,6 @@ module _ (m : List ℕ) (c : Capacity) (pieces : ℕ) (b : Bytes m) (o : OpenIs 
       let n : g.capacity.nodes ≡ c.nodes = ap (λ (x : Capacity). x.nodes) same in
       let e : g.capacity.entries ≡ c.entries = ap (λ (x : Capacity). x.entries) same in
       record {
-        nodes = omega (arith, small_nodes m c pieces b o);
-        entries = omega (arith, small_entries m c pieces b o);
         payload = omega arith;
         held = omega (arith, long, held_memory m c pieces b o);
       }

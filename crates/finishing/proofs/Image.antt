@@ -16,7 +16,7 @@ use Rattle.definitions.specs.Calls.{Capacity, needed}
 use Rattle.trie.specs.Trie.{nodes}
 use Rattle.trie.specs.Build.{Entry, parts, entered, entered_all, trie_of}
 use Rattle.trie.proofs.BuildCounts.{trie_of_nodes}
-use Rattle.memory_header.specs.Layout.{header_at}
+use Rattle.memory_header.specs.Layout.{header_at, work_at}
 use Rattle.index_memory.specs.Log.{log_in}
 use Rattle.index_memory.proofs.LogBytes.{length_log_in, is_log_sound}
 use Rattle.memory_header.proofs.HeaderFacts.{open_payload}
@@ -92,10 +92,6 @@ module _ (m : List ℕ) (c : Capacity) (pieces : ℕ) (b : Bytes m) (o : OpenIs 
   abbrev all : List Tail
   all = numbered 0 (entered_all ps)
 
-  -- where the work area begins
-  abbrev work : ℕ
-  work = 64 + 64 * c.nodes + 48 * c.entries
-
   count : (header_at m).payload ≡ pieces
   count = o.payload ∙ length_log_in m pieces 64
 
@@ -108,21 +104,8 @@ module _ (m : List ℕ) (c : Capacity) (pieces : ℕ) (b : Bytes m) (o : OpenIs 
   pub held_memory : needed c ≤ length m
   held_memory = subst (λ (x : Capacity). needed x ≤ length m) o.capacity o.header.held
 
-  pub small_nodes : c.nodes ≤ 1048576
-  small_nodes = subst (λ (x : Capacity). x.nodes ≤ 1048576) o.capacity o.header.few_nodes
-
-  pub small_entries : c.entries ≤ 1048576
-  small_entries = subst (λ (x : Capacity). x.entries ≤ 1048576) o.capacity o.header.few_entries
-
   pub few_tails : tail_count m pieces ≤ c.entries
   few_tails = omega (arith, o.few_entries, weights_charged 0 ps, light 0 all, length_numbered 0 (entered_all ps))
-
-  pub tails_asked : TailsAsked m pieces work
-  tails_asked = record {
-    sound = log_is_sound m pieces 64 (is_log_sound m pieces 64 in_log o.sound);
-    before = omega (arith, open_payload m (header_at m) o.header o.phase, count, entry_room);
-    room = omega (arith, few_tails, held_memory);
-  }
 
   sound_pieces : SoundPieces ps
   sound_pieces p k = record { short = (o.sound p k).small; bytes = byte_of p.bytes (open_bytes m c ps b o p k) }
@@ -130,28 +113,37 @@ module _ (m : List ℕ) (c : Capacity) (pieces : ℕ) (b : Bytes m) (o : OpenIs 
   sound_all : (t : Tail) → Mem t all → SoundPath t.entry.path
   sound_all t k = sound_entered ps sound_pieces t.entry (numbered_mem 0 (entered_all ps) k)
 
-  module _ (s : List ℕ) (n : ℕ) (w : TailsSorted m s pieces work n) where
-    abbrev ts : List Tail
-    ts = tails_in s work 0 n
-
-    same : SameTails ts all
-    same =
-        let k = sorted_tails all in
-        let e : ts ≡ k.0 =
-        held_back s work n w.held ∙ ap tails_of (w.tails ∙ sym k.1) ∙ back k.0 (λ t h. sound_all t (k.2.to t h)) in
-        subst (λ (x : List Tail). SameTails x all) (sym e) k.2
-
-    pub trie_is : tails_trie ts ≡ trie_of ps
-    trie_is = sorted_trie ps ts sound_pieces w.tails same
-
-    weights_are : weights 0 ts ≡ entries_tallied ps
-    weights_are = sorted_weights 0 ts all w.tails ∙ weights_charged 0 ps
-
-    pub image_asked : ImageAsked s work n
-    image_asked = record {
-      held = w.held;
-      memory = omega (arith, w.long, w.count, few_tails, held_memory);
-      run = run_all ts (subst Ordered (sym w.tails) (sorted_ordered (tail_records all))) (λ t h. sound_all t (same.to t h));
-      apart = apart_sorted ts all w.tails (numbered_apart 0 (entered_all ps));
-      room = omega (arith, ap nodes trie_is, trie_of_nodes ps, o.few_nodes, weights_are, o.few_entries);
+  -- where the work area begins
+  module _ (work : ℕ) (at : work ≡ work_at c) where
+    pub tails_asked : TailsAsked m pieces work
+    tails_asked = record {
+      sound = log_is_sound m pieces 64 (is_log_sound m pieces 64 in_log o.sound);
+      before = omega (arith, open_payload m (header_at m) o.header o.phase, count, entry_room);
+      room = omega (arith, few_tails, held_memory);
     }
+
+    module _ (s : List ℕ) (n : ℕ) (w : TailsSorted m s pieces work n) where
+      abbrev ts : List Tail
+      ts = tails_in s work 0 n
+
+      same : SameTails ts all
+      same =
+          let k = sorted_tails all in
+          let e : ts ≡ k.0 =
+          held_back s work n w.held ∙ ap tails_of (w.tails ∙ sym k.1) ∙ back k.0 (λ t h. sound_all t (k.2.to t h)) in
+          subst (λ (x : List Tail). SameTails x all) (sym e) k.2
+
+      pub trie_is : tails_trie ts ≡ trie_of ps
+      trie_is = sorted_trie ps ts sound_pieces w.tails same
+
+      weights_are : weights 0 ts ≡ entries_tallied ps
+      weights_are = sorted_weights 0 ts all w.tails ∙ weights_charged 0 ps
+
+      pub image_asked : ImageAsked s work n
+      image_asked = record {
+        held = w.held;
+        memory = omega (arith, w.long, w.count, few_tails, held_memory);
+        run = run_all ts (subst Ordered (sym w.tails) (sorted_ordered (tail_records all))) (λ t h. sound_all t (same.to t h));
+        apart = apart_sorted ts all w.tails (numbered_apart 0 (entered_all ps));
+        room = omega (arith, ap nodes trie_is, trie_of_nodes ps, o.few_nodes, weights_are, o.few_entries);
+      }

@@ -10,7 +10,7 @@ ghost use Rattle.index_memory.specs.Index.{read_index, opened};
 ghost use Rattle.finished_memory.specs.Finished.{finished_memory};
 ghost use Rattle.finishing.specs.Steps.{TailsAsked, TailsSorted};
 
-use memory_header::{HEADER_SIZE, Header, LOGGED_SIZE, NODE_SIZE};
+use memory_header::{HEADER_SIZE, Header};
 
 // The tails of the log, sorted, from index work on; how many there are.
 fn sort_tails(mem: &mut [u8], pieces: usize, work: usize) -> usize
@@ -27,7 +27,7 @@ pub fn finish_open(mem: &mut [u8], h: Header)
     requires { (header_at mem.old ≡ header_of h) × (read_index mem.old ≡ opened (header_of h).capacity (log_in mem.old h.payload 64)) }
     ensures { mem.new ≡ finished_memory mem.old (header_of h).capacity (trie_of (log_in mem.old h.payload 64)) }
 {
-    let work = HEADER_SIZE + NODE_SIZE * h.node_room + LOGGED_SIZE * h.entry_room;
+    let work = h.capacity.work_at();
     let tails = sort_tails(mem, h.payload, work);
     let end = node_writer::put_image(mem, work, tails);
     let closed = header_tally::closed(h, end.nodes, end.entries, end.at - HEADER_SIZE);

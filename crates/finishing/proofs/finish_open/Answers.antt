@@ -5,45 +5,9 @@ use Rattle.records.proofs.Bytes.{Bytes}
 use Rattle.memory_header.specs.Answers.{header_of}
 use Rattle.index_memory.specs.Log.{log_in}
 use Rattle.index_memory.proofs.Holding.{open_is}
-use Rattle.finishing.proofs.Image.{small_nodes, small_entries, tails_asked, image_asked}
+use Rattle.finishing.proofs.Image.{tails_asked, image_asked}
 use Rattle.finishing.proofs.Closing.{closable, closes}
 use Rattle.finishing.proofs.finish_open.Goals as goal
-
-pub overflow_mul-work : goal.overflow_mul-work
-overflow_mul-work c =
-    let a = c.args in
-    let m = a.mem.now in
-    let room = (header_of a.h).capacity in
-    let b : Bytes m = λ j. omega (arith, c.type_inv.mem j) in
-    let o = open_is m room (log_in m a.h.payload 64) c.requires.1 in
-    omega (arith, small_nodes m room a.h.payload b o, small_entries m room a.h.payload b o)
-
-pub overflow_add-work : goal.overflow_add-work
-overflow_add-work c =
-    let a = c.args in
-    let m = a.mem.now in
-    let room = (header_of a.h).capacity in
-    let b : Bytes m = λ j. omega (arith, c.type_inv.mem j) in
-    let o = open_is m room (log_in m a.h.payload 64) c.requires.1 in
-    omega (arith, small_nodes m room a.h.payload b o, small_entries m room a.h.payload b o)
-
-pub overflow_mul-work-2 : goal.overflow_mul-work-2
-overflow_mul-work-2 c =
-    let a = c.args in
-    let m = a.mem.now in
-    let room = (header_of a.h).capacity in
-    let b : Bytes m = λ j. omega (arith, c.type_inv.mem j) in
-    let o = open_is m room (log_in m a.h.payload 64) c.requires.1 in
-    omega (arith, small_nodes m room a.h.payload b o, small_entries m room a.h.payload b o)
-
-pub overflow_add-work-2 : goal.overflow_add-work-2
-overflow_add-work-2 c =
-    let a = c.args in
-    let m = a.mem.now in
-    let room = (header_of a.h).capacity in
-    let b : Bytes m = λ j. omega (arith, c.type_inv.mem j) in
-    let o = open_is m room (log_in m a.h.payload 64) c.requires.1 in
-    omega (arith, small_nodes m room a.h.payload b o, small_entries m room a.h.payload b o)
 
 pub sort_tails-tails-requires : goal.sort_tails-tails-requires
 sort_tails-tails-requires c =
@@ -52,7 +16,7 @@ sort_tails-tails-requires c =
     let room = (header_of a.h).capacity in
     let b : Bytes m = λ j. omega (arith, c.slice_known-1.given j) in
     let o = open_is m room (log_in m a.h.payload 64) c.requires.1 in
-    tails_asked m room a.h.payload b o
+    tails_asked m room a.h.payload b o _ c.work_at-work.ensures
 
 pub put_image-end-requires : goal.put_image-end-requires
 put_image-end-requires c =
@@ -62,7 +26,7 @@ put_image-end-requires c =
     let b : Bytes m = λ j. omega (arith, c.slice_known-1.given j) in
     let o = open_is m room (log_in m a.h.payload 64) c.requires.1 in
     let r = c.sort_tails-tails in
-    image_asked m room a.h.payload b o r.new.mem r.result r.ensures
+    image_asked m room a.h.payload b o _ c.work_at-work.ensures r.new.mem r.result r.ensures
 
 pub overflow_sub-end : goal.overflow_sub-end
 overflow_sub-end c = omega (arith, c.put_image-end.ensures.at)
@@ -77,7 +41,7 @@ put_finished-requires c =
     let r = c.sort_tails-tails in
     let v = c.put_image-end in
     let k = c.closed-closed in
-    closable m room a.h.payload b o r.new.mem r.result r.ensures v.new.mem v.result v.ensures a.h k.result refl _ k.ensures
+    closable m room a.h.payload b o _ c.work_at-work.ensures r.new.mem r.result r.ensures v.new.mem v.result v.ensures a.h k.result refl _ k.ensures
 
 pub returns : goal.returns
 returns c =
@@ -90,4 +54,4 @@ returns c =
     let v = c.put_image-end in
     let k = c.closed-closed in
     c.put_finished.ensures
-    ∙ closes m room a.h.payload b o r.new.mem r.result r.ensures v.new.mem v.result v.ensures a.h k.result refl k.ensures
+    ∙ closes m room a.h.payload b o _ c.work_at-work.ensures r.new.mem r.result r.ensures v.new.mem v.result v.ensures a.h k.result refl k.ensures
