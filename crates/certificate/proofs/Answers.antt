@@ -1,4 +1,5 @@
 -- What each test of the order tells, from the header and the log on. Assumes nothing.
+use Rattle.lined_locations.specs.declared.LineKind.TheVariants.{Logged}
 use Prim.Native.Nat.{ℕ, ◌+◌, ◌-◌, ◌*◌, ◌≤◌, ◌<◌}
 use native.Mathlib.Omega.{arith}
 use mathlib.Core.Path.{◌≡◌, sym, ◌∙◌, subst}
@@ -50,12 +51,12 @@ module _ (m : List ℕ) (b : (k : ℕ) → get_or m k 0 < 256) (h : Header) (e :
         passed : all (entry_right m (work_at h.capacity) h.payload) (filled (pieces_in m h)) ≡ true
         passed = sym entries ∙ c
 
-        pub within : Within m (record { base = base; count = count; logged = true })
-        within = subst (λ (k : ℕ). Within m (record { base = k; count = count; logged = true })) (sym p) (subst (λ (k : ℕ). Within m (line_of h k)) (sym q) (right.tested_within m b h f z sound passed))
+        pub within : Within m (record { base = base; count = count; kind = Logged })
+        within = subst (λ (k : ℕ). Within m (record { base = k; count = count; kind = Logged })) (sym p) (subst (λ (k : ℕ). Within m (line_of h k)) (sym q) (right.tested_within m b h f z sound passed))
 
-        module _ (u : Bool) (l : u ≡ in_line (location_of m (record { base = base; count = count; logged = true })) (count - 1)) where
+        module _ (u : Bool) (l : u ≡ in_line (location_of m (record { base = base; count = count; kind = Logged })) (count - 1)) where
           line : u ≡ in_line (location_of m (line_of h (filled (pieces_in m h)))) (filled (pieces_in m h) - 1)
-          line = l ∙ (λ i. in_line (location_of m (record { base = p i; count = q i; logged = true })) (q i - 1))
+          line = l ∙ (λ i. in_line (location_of m (record { base = p i; count = q i; kind = Logged })) (q i - 1))
 
           pub line_wrong : u ≡ false → false ≡ order_right m h
           line_wrong g = sym (is_false (order_right m h) (λ r. not_both (sym line ∙ g) (right.right_line m b h f z sound r)))
@@ -64,10 +65,10 @@ module _ (m : List ℕ) (b : (k : ℕ) → get_or m k 0 < 256) (h : Header) (e :
             lined : Lined (filled (pieces_in m h)) (location_of m (line_of h (filled (pieces_in m h))))
             lined = (right.tested_line m b h f z sound passed).0 (sym line ∙ g)
 
-            pub inside : Inside m (record { base = base; count = count; logged = true })
-            inside = subst (λ (k : ℕ). Inside m (record { base = k; count = count; logged = true })) (sym p) (subst (λ (k : ℕ). Inside m (line_of h k)) (sym q) (right.tested_inside m b h f z sound passed lined))
+            pub inside : Inside m (record { base = base; count = count; kind = Logged })
+            inside = subst (λ (k : ℕ). Inside m (record { base = k; count = count; kind = Logged })) (sym p) (subst (λ (k : ℕ). Inside m (line_of h k)) (sym q) (right.tested_inside m b h f z sound passed lined))
 
-            pub none_decides : (w : Bool) → w ≡ all (λ i. not (lives_inside m (record { base = base; count = count; logged = true }) i)) count → w ≡ order_right m h
+            pub none_decides : (w : Bool) → w ≡ all (λ i. not (lives_inside m (record { base = base; count = count; kind = Logged }) i)) count → w ≡ order_right m h
             none_decides w n =
-                let d : w ≡ all (λ i. not (lives_inside m (line_of h (filled (pieces_in m h))) i)) (filled (pieces_in m h)) = n ∙ (λ i. all (λ j. not (lives_inside m (record { base = p i; count = q i; logged = true }) j)) (q i)) in
+                let d : w ≡ all (λ i. not (lives_inside m (line_of h (filled (pieces_in m h))) i)) (filled (pieces_in m h)) = n ∙ (λ i. all (λ j. not (lives_inside m (record { base = p i; count = q i; kind = Logged }) j)) (q i)) in
                 same_test w (order_right m h) (λ r. right.tested_right m b h f z sound passed lined (sym d ∙ r)) (λ r. d ∙ right.right_none m b h f z sound r)

@@ -1,8 +1,8 @@
 -- The entries of a stored certificate are the order of the pieces, in line. Assumes nothing.
+use Rattle.lined_locations.specs.declared.LineKind.TheVariants.{Logged}
 use Prim.Native.Nat.{ℕ, ◌+◌, ◌*◌, ◌≤◌, ◌<◌}
 use native.Mathlib.Omega.{arith}
 use mathlib.Core.Path.{◌≡◌, refl, sym, ap, ◌∙◌, subst}
-use mathlib.Core.Bool.{Bool, true}
 use mathlib.Core.List.{List}
 use lib.ListN.{length, get_or}
 use Rattle.words.specs.Words.{le64}
@@ -30,7 +30,7 @@ use Rattle.certificate.specs.Stored.{pieces_in, line_of, Stored}
 use Rattle.certificate.proofs.Bytes.{log_nth, EntryHeld, entry_held}
 
 -- where location i of a certificate's line stands
-pub logged_place : (m : List ℕ) (base count i : ℕ) → place_of m (record { base = base; count = count; logged = true }) i ≡ 64 + 48 * number_at m base i + 24
+pub logged_place : (m : List ℕ) (base count i : ℕ) → place_of m (record { base = base; count = count; kind = Logged }) i ≡ 64 + 48 * number_at m base i + 24
 unfolding place_of
 logged_place m base count i = refl
 
@@ -134,10 +134,10 @@ module _ (m : List ℕ) (v : Line) (d : Inside m v) (i : ℕ) (l : i < v.count) 
   pub inside_number : v.base + 16 * i + 16 ≤ length m
   inside_number = omega (arith, d.within.numbers d.logged)
 
-  place : (o : Bool) → v.logged ≡ o → o ≡ true → place_of m v i ≡ 64 + 48 * number_at m v.base i + 24
+  place : v.kind ≡ Logged → place_of m v i ≡ 64 + 48 * number_at m v.base i + 24
   unfolding place_of
-  place o e f = rw (e ∙ f)
+  place e = rw e
 
   -- and so does its piece
   pub inside_piece : 64 + 48 * number_at m v.base i + 48 ≤ length m
-  inside_piece = omega (arith, d.within.places i l, place v.logged refl d.logged)
+  inside_piece = omega (arith, d.within.places i l, place d.logged)

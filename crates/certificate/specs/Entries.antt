@@ -1,4 +1,5 @@
 -- The entries of a certificate in memory, tested against the log. Assumes nothing.
+use Rattle.lined_locations.specs.declared.LineKind.TheVariants.{Logged}
 use Rattle.std.specs.Prelude.{ℕ, zero, suc, ◌+◌, ◌-◌, ◌*◌, ◌≤◌, ◌<◌, ◌≡◌, Bool, true, not, ◌&&◌, List, length, ltb, eqb}
 use Rattle.words.specs.Words.{le64}
 use Rattle.definitions.specs.Calls.{header_size, last_number}
@@ -37,7 +38,7 @@ LogWithin m pieces = (header_size + logged_size * pieces ≤ length m) × (piece
 
 -- the entries are those of a log, in line, and no piece goes beyond the last address
 pub record Inside (m : List ℕ) (v : Line) : Type 0 where
-  pub logged : v.logged ≡ true
+  pub logged : v.kind ≡ Logged
   pub within : Within m v
   pub lined : Lined v.count (location_of m v)
   pub below : (i : ℕ) → i < v.count → piece_end m v i ≤ last_number

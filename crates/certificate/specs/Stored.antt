@@ -1,4 +1,5 @@
 -- An open index's pieces and their certificate in memory. Assumes nothing.
+use Rattle.lined_locations.specs.declared.LineKind.TheVariants.{Logged}
 use Rattle.std.specs.Prelude.{ℕ, ◌+◌, ◌*◌, ◌≤◌, ◌≡◌, true, List, length}
 use Rattle.words.specs.Holding.{Holds}
 use Rattle.definitions.specs.Blocks.{Piece}
@@ -16,7 +17,7 @@ pieces_in m h = log_in m h.payload header_size
 
 -- the entries of the certificate as locations in line
 abbrev pub line_of : Header → ℕ → Line
-line_of h count = record { base = work_at h.capacity; count = count; logged = true }
+line_of h count = record { base = work_at h.capacity; count = count; kind = Logged }
 
 -- the pieces that h counts are sound and free of conflicts, and so many of them have a byte; their certificate stands behind the payload
 pub record Stored (m : List ℕ) (h : Header) (count : ℕ) : Type 0 where

@@ -14,7 +14,7 @@ ghost use Rattle.certificate.specs.Entries.{all, piece_at, piece_end, entry_righ
 ghost use Rattle.certificate.specs.Groups.{Group, NoneBeyond, CreatedBefore, Apart};
 
 use definitions::PIECE_SIZE;
-use lined_locations::{CERTIFIED_SIZE, Line};
+use lined_locations::{CERTIFIED_SIZE, Line, LineKind};
 use memory_header::{HEADER_SIZE, Header, LOGGED_SIZE};
 
 // The end of a piece in the log stands behind its length, its bytes, its address and its creation.
@@ -240,7 +240,7 @@ pub fn order_right(mem: &[u8], h: Header) -> bool
     let v = Line {
         base,
         count,
-        logged: true,
+        kind: LineKind::Logged,
     };
     if !lined_locations::in_line(mem, v) {
         return false;

@@ -9,7 +9,7 @@ ghost use Rattle.certificate.specs.Stored.{Stored};
 ghost use Rattle.clashing.specs.Strikes.{strikes, OneAddress, Below, SaysConflict};
 
 use definitions::PIECE_SIZE;
-use lined_locations::Line;
+use lined_locations::{Line, LineKind};
 use location::SpacetimeLocation;
 use memory_header::Header;
 
@@ -68,7 +68,7 @@ pub fn clashes(mem: &[u8], h: Header, count: usize, x: SpacetimeLocation, n: usi
     let v = Line {
         base: certificate::certificate_at(h),
         count,
-        logged: true,
+        kind: LineKind::Logged,
     };
     let from = lined_locations::first_from(mem, v, 0, lowest(x.address.0), 0);
     let upto = lined_locations::first_from(mem, v, from, x.address.0, 0);

@@ -1,8 +1,8 @@
 -- A turn of the loop that enters new pieces, once the place of the next is found. Assumes nothing.
+use Rattle.lined_locations.specs.declared.LineKind.TheVariants.{Logged}
 use Prim.Native.Nat.{ℕ, ◌+◌, ◌-◌, ◌*◌, ◌≤◌, ◌<◌}
 use native.Mathlib.Omega.{arith}
 use mathlib.Core.Path.{◌≡◌, refl, sym, ap, ◌∙◌, subst}
-use mathlib.Core.Bool.{true}
 use mathlib.Core.List.{List, ◌++◌}
 use lib.ListN.{length, get_or}
 use lib.Seq.{sets}
@@ -19,7 +19,7 @@ use Rattle.ordering.proofs.Moving.{new_pieces, Moving, moving_within, moving_lin
 
 -- the entries that stand as they were
 abbrev pub line_at : (base upto : ℕ) → Line
-line_at base upto = record { base = base; count = upto; logged = true }
+line_at base upto = record { base = base; count = upto; kind = Logged }
 
 -- before the next piece is entered
 pub record Turn (m₀ : List ℕ) (h : Header) (count new : ℕ) : Type 0 where

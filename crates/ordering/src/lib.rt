@@ -10,7 +10,7 @@ ghost use Rattle.conflicts.specs.Order.{certificate};
 ghost use Rattle.index_memory.specs.Log.{log_in};
 ghost use Rattle.ordering.specs.Entering.{Entering};
 
-use lined_locations::{CERTIFIED_SIZE, Line};
+use lined_locations::{CERTIFIED_SIZE, Line, LineKind};
 use memory_header::{HEADER_SIZE, Header, LOGGED_SIZE};
 
 // Moves the entries from number from on and below upto by so many entries further on, the last first.
@@ -49,7 +49,7 @@ pub fn enter_pieces(mem: &mut [u8], h: Header, count: usize, new: usize)
         let line = Line {
             base,
             count: upto,
-            logged: true,
+            kind: LineKind::Logged,
         };
         let k = lined_locations::first_from(mem, line, 0, l.address.0, l.created_at.0);
         shift(mem, base, k, upto, new - j);

@@ -1,8 +1,8 @@
 -- `clashing::clashes` meets its contract: what its searches tell of the certificate holds of the pieces. Assumes nothing.
+use Rattle.lined_locations.specs.declared.LineKind.TheVariants.{Logged}
 use Prim.Native.Nat.{ℕ, ◌<◌}
 use native.Mathlib.Omega.{arith}
 use mathlib.Core.Path.{◌≡◌, sym, ◌∙◌}
-use mathlib.Core.Bool.{true}
 use lib.ListN.{get_or}
 use borrow.Author.Tests.{eqb-true, eqb-false}
 use Rattle.location.specs.Plain.{plain}
@@ -15,10 +15,10 @@ use Rattle.clashing.proofs.clashes.Goals as goal
 
 -- the line that stands where the certificate does
 abbrev known : ℕ → ℕ → Line
-known base count = record { base = base; count = count; logged = true }
+known base count = record { base = base; count = count; kind = Logged }
 
 stored_line : (h : Header) {base : ℕ} (count : ℕ) → base ≡ (line_of h count).base → known base count ≡ line_of h count
-stored_line h count e = λ i. record { base = e i; count = count; logged = true }
+stored_line h count e = λ i. record { base = e i; count = count; kind = Logged }
 
 pub returns-then-n-eq0 : goal.returns-then-n-eq0
 returns-then-n-eq0 c =
