@@ -6,7 +6,6 @@ use mathlib.Core.Bool.{true, cond}
 use mathlib.Core.List.{List}
 use lib.ListN.{length, get_or}
 use lib.Dec.{eqb}
-use borrow.Author.Tests.{ne_eqb}
 use Rattle.definitions.specs.Blocks.{Block, Piece, pieces, memory_kind}
 use Rattle.definitions.specs.Causes.{first_cause}
 use Rattle.definitions.specs.Calls.{record_checks}
@@ -23,10 +22,7 @@ use Rattle.certificate.specs.Entries.{LogWithin}
 use Rattle.judging.specs.Judged.{Verdict, counted, refused}
 use Rattle.recording.specs.Record.{appended, record_by, record_memory}
 use Rattle.recording.specs.Enter.{Pending, settled}
-use Rattle.recording.specs.Recorded.{recorded_as}
-use Rattle.recording.specs.declared.Recorded.{Recorded}
-use Rattle.recording.specs.declared.Recorded.TheVariants.{Taken, Refused}
-use Rattle.recording.proofs.Entering.{Enters, some_number, entered_records}
+use Rattle.recording.proofs.Entering.{Enters, entered_records}
 
 -- what a memory holds decides
 pub record_as : (m : List ℕ) (kind : ℕ) (b : Block) (i : Index) → read_index m ≡ i → record_by i m kind b ≡ record_memory m kind b
@@ -40,9 +36,9 @@ record_leaves m kind b =
     refused_leaves (first_cause (record_checks (standing_of (read_index m)) kind b)) m
     (cond (eqb kind memory_kind) (appended m (standing_of (read_index m)).capacity (standing_of (read_index m)).pieces (pieces b)) m)
 
--- an answer and a memory are those of a recording
-abbrev pub Answers : Recorded → List ℕ → Done → Type 0
-Answers r m d = (r ≡ recorded_as d.refusal) × (m ≡ d.memory)
+-- the number of an answer and a memory are those of a recording
+abbrev pub Answers : ℕ → List ℕ → Done → Type 0
+Answers n m d = (n ≡ d.refusal) × (m ≡ d.memory)
 
 -- what counting the pieces that have a byte asks for
 pub log_asked : (m : List ℕ) (h : Header) → header_at m ≡ h → read_index m ≡ opened h.capacity (log_in m h.payload 64) → LogWithin m h.payload × (log_sound m h.payload 64 ≡ true)
@@ -74,11 +70,10 @@ module _ (m : List ℕ) (h : Header) (e : header_at m ≡ h) (q : read_index m �
         (λ i. settled (w.0 i) h (w.1 i)) ∙ sym (entered_records m h kind b pending) ∙ ap (λ (x : List ℕ). record_memory x kind b) standing
 
     -- the pieces, and then the header that counts them
-    pub taken_by : (h' : Header) (m₁ m₂ : List ℕ) → Enters m h kind b (counted h') m₁ → m₂ ≡ with_header m₁ h' → Answers Taken m₂ (record_memory m kind b)
-    taken_by h' m₁ m₂ w v = subst (Answers Taken m₂) (by_verdict (counted h') m₁ w) (refl, v)
+    pub taken_by : (h' : Header) (m₁ m₂ : List ℕ) → Enters m h kind b (counted h') m₁ → m₂ ≡ with_header m₁ h' → Answers 0 m₂ (record_memory m kind b)
+    taken_by h' m₁ m₂ w v = subst (Answers 0 m₂) (by_verdict (counted h') m₁ w) (refl, v)
 
-    pub refused_by : (n : ℕ) (m₁ : List ℕ) → Enters m h kind b (refused n) m₁ → Answers (Refused n) m₁ (record_memory m kind b)
+    pub refused_by : (n : ℕ) (m₁ : List ℕ) → Enters m h kind b (refused n) m₁ → Answers n m₁ (record_memory m kind b)
     refused_by n m₁ w =
-        let k = some_number m h kind b n w.0 in
         let s : m₁ ≡ m = w.1 ∙ rw (← w.0) in
-        subst (Answers (Refused n) m₁) (by_verdict (refused n) m₁ w) (rw (ne_eqb n 0 k) (refl, s ∙ sym standing ∙ ap (λ (x : List ℕ). with_header x h) (sym s)))
+        subst (Answers n m₁) (by_verdict (refused n) m₁ w) (refl, s ∙ sym standing ∙ ap (λ (x : List ℕ). with_header x h) (sym s))

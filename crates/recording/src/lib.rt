@@ -12,23 +12,15 @@ ghost use Rattle.index_memory.specs.Index.{read_index, opened};
 ghost use Rattle.conflicts.specs.Promises.{filled};
 ghost use Rattle.certificate.specs.Stored.{pieces_in};
 ghost use Rattle.judging.specs.Judged.{piece_count};
+ghost use Rattle.definitions.specs.Refusals.{number_in};
 ghost use Rattle.judging.specs.Verdicts.{verdict_of};
 ghost use Rattle.recording.specs.Cut.{part};
 ghost use Rattle.recording.specs.Record.{record_memory, logged, Fitting, filled_after};
 ghost use Rattle.recording.specs.Enter.{Pending, judged_by_kind, entered, FilledAfter};
-ghost use Rattle.recording.specs.Recorded.{recorded_as};
 
-use definitions::PIECE_SIZE;
-use judging::Judged;
+use definitions::{PIECE_SIZE, Refusal, SpaceKind};
 use location::SpacetimeLocation;
 use memory_header::{HEADER_SIZE, Header, LOGGED_SIZE};
-
-// Whether a block is taken, or why not.
-#[derive(Clone, Copy)]
-pub enum Recorded {
-    Taken,
-    Refused(u64),
-}
 
 // Writes a piece to the 48 bytes from index at on: its length, its bytes, zeros up to 16 bytes, its location.
 fn put_piece(mem: &mut [u8], at: usize, piece: &[u8], l: SpacetimeLocation)
@@ -42,23 +34,12 @@ fn put_piece(mem: &mut [u8], at: usize, piece: &[u8], l: SpacetimeLocation)
     location::put_location(mem, at + 24, l);
 }
 
-// Where the piece of a block of n bytes from byte start on ends.
-fn part_end(n: usize, start: usize) -> usize
-    requires { start ≤ n }
-    ensures { result ≡ start + min 16 (n - start) }
-{
-    if n - start < PIECE_SIZE {
-        return n;
-    }
-    start + PIECE_SIZE
-}
-
 // Writes the piece of a block from byte start on.
 fn put_part(mem: &mut [u8], at: usize, data: &[u8], start: usize, l: SpacetimeLocation)
     requires { (at + 48 ≤ length mem.old) × (start ≤ length «data».now) × (l.address.0 + start < 2 ^ 64) }
     ensures { mem.new ≡ sets mem.old at (piece_bytes (part (record { bytes = «data».now; at = plain l }) start)) }
 {
-    let end = part_end(data.len(), start);
+    let end = data.len().min(start + PIECE_SIZE);
     let piece = &data[start..end];
     put_piece(mem, at, piece, l.moved(start));
 }
@@ -68,12 +49,10 @@ fn put_pieces(mem: &mut [u8], from: usize, data: &[u8], l: SpacetimeLocation)
     requires { (length «data».now ≤ 4096) × (l.address.0 + length «data».now < 2 ^ 64) × (from + 48 * piece_count (length «data».now) ≤ length mem.old) }
     ensures { mem.new ≡ sets mem.old from (log_bytes (pieces (record { bytes = «data».now; at = plain l }))) }
 {
-    let mut left = judging::piece_count(data.len());
-    let mut done = 0;
-    while 0 < left {
-        left -= 1;
-        put_part(mem, from + LOGGED_SIZE * done, data, PIECE_SIZE * left, l);
-        done += 1;
+    let count = judging::piece_count(data.len());
+    for done in 0..count {
+        let start = PIECE_SIZE * (count - done - 1);
+        put_part(mem, from + LOGGED_SIZE * done, data, start, l);
     }
 }
 
@@ -95,13 +74,10 @@ pub fn filled_after(count: usize, kind: u64, n: usize) -> usize
     requires { (kind ≡ 1 → n ≤ 4096) × (count ≤ 1048576) }
     ensures { result ≡ filled_after count kind n }
 {
-    if kind == definitions::MEMORY_KIND as u64 {
-        if n == 0 {
-            return count;
-        }
-        return count + judging::piece_count(n);
+    if kind != SpaceKind::Memory.number() || n == 0 {
+        return count;
     }
-    count
+    count + judging::piece_count(n)
 }
 
 // Enters a block into an open index whose header is h, where so many pieces have a byte, and answers the header that counts it
@@ -113,24 +89,20 @@ pub fn enter(
     kind: u64,
     l: SpacetimeLocation,
     data: &[u8],
-) -> Judged
+) -> Result<Header, Refusal>
     requires { Pending mem.old (header_of h) × (count ≡ filled (pieces_in mem.old (header_of h))) }
     ensures verdict { verdict_of result ≡ judged_by_kind mem.old (header_of h) kind (record { bytes = «data».now; at = plain l }) }
     ensures memory { mem.new ≡ entered mem.old (header_of h) kind (record { bytes = «data».now; at = plain l }) }
     ensures filled { FilledAfter (verdict_of result) mem.new count kind (length «data».now) }
 {
-    if (definitions::LAST_KIND as u64) < kind {
-        return Judged::Refused(definitions::UNKNOWN_KIND);
-    }
-    if kind != definitions::MEMORY_KIND as u64 {
-        return Judged::Counted(h);
-    }
-    match judging::judge(mem, h, count, l, data) {
-        Judged::Counted(counted) => {
+    match SpaceKind::try_from(kind) {
+        Ok(SpaceKind::Memory) => {
+            let counted = judging::judge(mem, h, count, l, data)?;
             append(mem, h, count, data, l);
-            Judged::Counted(counted)
+            Ok(counted)
         }
-        Judged::Refused(n) => Judged::Refused(n),
+        Ok(_) => Ok(h),
+        Err(_) => Err(Refusal::UnknownKind),
     }
 }
 
@@ -141,17 +113,13 @@ pub fn record_open(
     kind: u64,
     l: SpacetimeLocation,
     data: &[u8],
-) -> Recorded
+) -> Result<(), Refusal>
     requires { (header_at mem.old ≡ header_of h) × (read_index mem.old ≡ opened (header_of h).capacity (log_in mem.old h.payload 64)) }
-    ensures answer { result ≡ recorded_as (record_memory mem.old kind (record { bytes = «data».now; at = plain l })).refusal }
+    ensures answer { number_in result ≡ (record_memory mem.old kind (record { bytes = «data».now; at = plain l })).refusal }
     ensures memory { mem.new ≡ (record_memory mem.old kind (record { bytes = «data».now; at = plain l })).memory }
 {
     let count = certificate::filled(mem, h.payload);
-    match enter(mem, h, count, kind, l, data) {
-        Judged::Counted(counted) => {
-            memory_header::put_header(mem, counted);
-            Recorded::Taken
-        }
-        Judged::Refused(n) => Recorded::Refused(n),
-    }
+    let counted = enter(mem, h, count, kind, l, data)?;
+    memory_header::put_header(mem, counted);
+    Ok(())
 }

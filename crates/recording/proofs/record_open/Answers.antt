@@ -1,10 +1,10 @@
 -- `recording::record_open` meets its contract: the block is entered, and the header put. Assumes nothing.
-use native.Mathlib.Omega.{arith}
-use mathlib.Core.Path.{ap, sym, ◌∙◌}
+use Rattle.std.proofs.Common.{arith}
+use Rattle.std.proofs.lemmas.Result.{err_from_is_err_and}
 use Rattle.definitions.specs.Blocks.{Block}
+use Rattle.definitions.specs.Refusals.{number_of}
 use Rattle.location.specs.Plain.{plain}
 use Rattle.memory_header.specs.Answers.{header_of}
-use Rattle.judging.specs.Verdicts.{verdict_of}
 use Rattle.recording.proofs.Entering.{header_room}
 use Rattle.recording.proofs.Outcome.{log_asked, pending, taken_by, refused_by}
 use Rattle.recording.proofs.record_open.Goals as goal
@@ -20,16 +20,31 @@ put_header-requires c =
     let p = pending _ _ c.requires.0 c.requires.1 (λ j. omega (arith, c.slice_known-1.given j)) in
     omega (arith, header_room _ _ p, c.enter.auto.mem)
 
-pub returns-in-Counted : goal.returns-in-Counted
-returns-in-Counted c =
+pub returns-in_err-counted-clause-answer : goal.returns-in_err-counted-clause-answer
+returns-in_err-counted-clause-answer c =
     let b : Block = record { bytes = c.args.«data».now; at = plain c.args.l } in
-    let w = taken_by _ _ c.requires.0 c.requires.1 (λ j. omega (arith, c.slice_known-1.given j)) _ b (header_of c.in-Counted.counted) c.enter.new.mem c.put_header.new.mem
-    (sym (ap verdict_of c.in-Counted.is) ∙ c.enter.ensures.verdict, c.enter.ensures.memory) c.put_header.ensures in
-    record { answer = w.0; memory = w.1 }
+    let r = c.in_err-counted in
+    let w = refused_by _ _ c.requires.0 c.requires.1 (λ j. omega (arith, c.slice_known-1.given j)) _ b (number_of r.field-0.0) c.enter.new.mem (r.ensures.verdict, r.ensures.memory) in
+    let p = err_from_is_err_and c.from_residual.result c.from_residual.ensures.1 in
+    rw (p.1, p.2) w.0
 
-pub returns-in-Refused : goal.returns-in-Refused
-returns-in-Refused c =
+pub returns-in_err-counted-clause-memory : goal.returns-in_err-counted-clause-memory
+returns-in_err-counted-clause-memory c =
     let b : Block = record { bytes = c.args.«data».now; at = plain c.args.l } in
-    let w = refused_by _ _ c.requires.0 c.requires.1 (λ j. omega (arith, c.slice_known-1.given j)) _ b c.in-Refused.n c.enter.new.mem
-    (sym (ap verdict_of c.in-Refused.is) ∙ c.enter.ensures.verdict, c.enter.ensures.memory) in
-    record { answer = w.0; memory = w.1 }
+    let r = c.in_err-counted in
+    let w = refused_by _ _ c.requires.0 c.requires.1 (λ j. omega (arith, c.slice_known-1.given j)) _ b (number_of r.field-0.0) c.enter.new.mem (r.ensures.verdict, r.ensures.memory) in
+    w.1
+
+pub returns-clause-answer : goal.returns-clause-answer
+returns-clause-answer c =
+    let b : Block = record { bytes = c.args.«data».now; at = plain c.args.l } in
+    let r = c.in_ok-counted in
+    let w = taken_by _ _ c.requires.0 c.requires.1 (λ j. omega (arith, c.slice_known-1.given j)) _ b (header_of r.counted) c.enter.new.mem c.put_header.new.mem (r.ensures.verdict, r.ensures.memory) c.put_header.ensures in
+    w.0
+
+pub returns-clause-memory : goal.returns-clause-memory
+returns-clause-memory c =
+    let b : Block = record { bytes = c.args.«data».now; at = plain c.args.l } in
+    let r = c.in_ok-counted in
+    let w = taken_by _ _ c.requires.0 c.requires.1 (λ j. omega (arith, c.slice_known-1.given j)) _ b (header_of r.counted) c.enter.new.mem c.put_header.new.mem (r.ensures.verdict, r.ensures.memory) c.put_header.ensures in
+    w.1
