@@ -1,20 +1,22 @@
 -- The mask of a table, one entry after another. Assumes nothing.
-use Prim.Native.Nat.{ℕ, ◌+◌, ◌*◌, ◌/◌, ◌%◌, ◌^◌, ◌≤◌, ◌<◌, max}
+use Prim.Native.Nat.{ℕ, zero, suc, ◌+◌, ◌*◌, ◌/◌, ◌%◌, ◌^◌, ◌≤◌, ◌<◌, max}
 use native.Mathlib.Nat.{max-le, le-max_left, le-max_right}
 use native.Mathlib.Omega.{arith}
 use mathlib.Core.Path.{◌≡◌, refl, sym, ap, subst, ◌∙◌}
-use mathlib.Core.Bool.{Bool, true, false, cond}
+use mathlib.Core.Bool.{Bool, true, false, ◌&&◌, cond}
 use mathlib.Core.List.{List}
 use mathlib.Core.Option.{Option, none, some}
+use mathlib.Core.Logic.{◌⊎◌, inl, inr}
 use lib.Dec.{eqb}
+use Rattle.definitions.proofs.Views.{lt_or_le}
 use lib.Bits.{bit_or, or_shr, or_step}
 use lib.Pow.{shl_exact, shl-shr}
-use borrow.Author.Tests.{eqb-true, eqb-false, ne_eqb}
+use borrow.Author.Tests.{eqb-true, ne_eqb}
 use Rattle.trie.specs.Trie.{Forest, Node, child}
 use Rattle.image_format.specs.Held.{Entry}
 use Rattle.image_walk.specs.Tables.{slot_in}
 use Rattle.node_rule.specs.Parts.{Ahead, TableOf}
-use Rattle.fronts.specs.Masks.{bit, is_absent, with_byte, Absent, SaysMask}
+use Rattle.fronts.specs.Masks.{bit, is_absent, with_byte, all_bits, SaysMask}
 use Rattle.node_rule.proofs.Tables.{slot_taken, slot_empty, slots_end}
 
 -- ── a bit more ──
@@ -49,18 +51,39 @@ adds m c = record { other = other; before = λ b e. (or_bit m (1 * 2 ^ (c % 64) 
 pub adds_byte : (m c n : ℕ) → n ≡ with_byte m c → Adds m c n
 adds_byte m c n e = subst (Adds m c) (sym e) (adds m c)
 
-pub absent : (m b : ℕ) → is_absent m b ≡ true → Absent m b
-absent m b e = go (eqb m 0) refl e
+pub absent : (m b : ℕ) → is_absent m b ≡ true → bit m b ≡ 0
+absent m b e = eqb-true (bit m b) 0 e
+
+-- ── every bit ──
+
+-- the last k bits of the mask with every bit are set
+all_set : ℕ → Bool
+all_set zero = true
+all_set (suc k) = eqb (all_bits / 2 ^ k % 2) 1 && all_set k
+
+is_set : (n k : ℕ) → k < n → all_set n ≡ true → all_bits / 2 ^ k % 2 ≡ 1
+unfolding all_set
+is_set zero k h e = absurd (omega arith)
+is_set (suc n) k h e = go (eqb (all_bits / 2 ^ n % 2) 1) (all_set n) refl refl e (λ l y. is_set n k l y)
   where
-    go : (o : Bool) → eqb m 0 ≡ o → cond o false (eqb (bit m b) 0) ≡ true → Absent m b
-    go true z f = absurd (let w : ◌≡◌ {A = ℕ} 0 1 = cc in omega arith)
-    go false z f = record { some = eqb-false m 0 z; unset = eqb-true (bit m b) 0 f }
+    go : (o r : Bool) → eqb (all_bits / 2 ^ n % 2) 1 ≡ o → all_set n ≡ r → (o && r) ≡ true → (k < n → all_set n ≡ true → all_bits / 2 ^ k % 2 ≡ 1) → all_bits / 2 ^ k % 2 ≡ 1
+    go true true x y z ih = last (lt_or_le k n)
+      where
+        last : (k < n) ⊎ (n ≤ k) → all_bits / 2 ^ k % 2 ≡ 1
+        last (inl l) = ih l y
+        last (inr l) = let q : n ≡ k = omega arith in ap (λ (i : ℕ). all_bits / 2 ^ i % 2) (sym q) ∙ eqb-true (all_bits / 2 ^ n % 2) 1 x
+    go true false x y z ih = absurd (let w : true ≡ false = sym z in cc)
+    go false r x y z ih = absurd (let w : true ≡ false = sym z in cc)
+
+each_set : all_set 64 ≡ true
+unfolding all_set
+each_set = refl
+
+-- it tells nothing
+pub no_mask : (s : List ℕ) (table children : ℕ) → SaysMask s table children all_bits
+no_mask s table children d f t b q = absurd (let e : all_bits / 2 ^ (b % 64) % 2 ≡ 1 = is_set 64 (b % 64) (omega arith) each_set in omega (arith, e, q))
 
 -- ── the mask of a table ──
-
--- 0 tells nothing
-pub no_mask : (s : List ℕ) (table children : ℕ) → SaysMask s table children 0
-no_mask s table children d f t b q = absurd (q.some refl)
 
 module _ (s : List ℕ) (table children : ℕ) where
   -- a byte whose bit is not set has the child that the siblings ahead have
@@ -98,4 +121,4 @@ module _ (s : List ℕ) (table children : ℕ) where
   pub masking_done : (j m : ℕ) → Masking j m → children ≤ j → SaysMask s table children m
   masking_done j m i l d f t b q =
       let x = i.each d f t in
-      sym (x.says b q.unset) ∙ ap (λ (y : Forest). child y b) (slots_end s d table children j x.rest l x.ahead)
+      sym (x.says b q) ∙ ap (λ (y : Forest). child y b) (slots_end s d table children j x.rest l x.ahead)

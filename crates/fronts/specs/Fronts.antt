@@ -1,31 +1,37 @@
--- The fronts of a node on a stack: each is three numbers, its table, how many entries that has, and a mask of their bytes. Assumes nothing.
-use Rattle.std.specs.Prelude.{ℕ, ◌+◌, ◌≤◌, ◌<◌, ◌≡◌, List, [], ◌∷◌, length, get_or, set}
+-- The fronts of a node on a stack. Assumes nothing.
+use Rattle.std.specs.Prelude.{ℕ, ◌+◌, ◌≤◌, ◌<◌, ◌≡◌, List, [], ◌∷◌, length, get_or}
 use Rattle.trie.specs.Trie.{Node}
 use Rattle.node_rule.specs.Parts.{TableOf}
+use Rattle.fronts.specs.declared.Front.{Front}
 use Rattle.fronts.specs.Masks.{SaysMask}
 
--- the numbers from index p on are the tables of these nodes, with their masks
-abbrev pub FrontsFrom : List ℕ → ℕ → List ℕ → ℕ → List Node → Type 0
+-- the front at an index
+abbrev pub front_at : List Front → ℕ → Front
+front_at fronts p = get_or fronts p (record { table = record { at = 0; count = 0 }; mask = 0 })
+
+-- it has the table of a node, which has at most d levels below it, and a mask of that
+pub record FrontIs (s : List ℕ) (d : ℕ) (x : Front) (f : Node) : Type 0 where
+  pub table : TableOf s d x.table.at x.table.count f.children
+  pub mask : SaysMask s x.table.at x.table.count x.mask
+
+-- those from index p on are these nodes'
+abbrev pub FrontsFrom : List ℕ → ℕ → List Front → ℕ → List Node → Type 0
 FrontsFrom s d fronts p [] = Unit {0}
-FrontsFrom s d fronts p (f ∷ fs) = TableOf s d (get_or fronts p 0) (get_or fronts (p + 1) 0) f.children × SaysMask s (get_or fronts p 0) (get_or fronts (p + 1) 0) (get_or fronts (p + 2) 0) × FrontsFrom s d fronts (p + 3) fs
+FrontsFrom s d fronts p (f ∷ fs) = FrontIs s d (front_at fronts p) f × FrontsFrom s d fronts (p + 1) fs
 
 -- so many from an index on are the fronts fs, each with at most d levels below it
-pub record FrontsHere (s : List ℕ) (d : ℕ) (fronts : List ℕ) (from count : ℕ) (fs : List Node) : Type 0 where
+pub record FrontsHere (s : List ℕ) (d : ℕ) (fronts : List Front) (from count : ℕ) (fs : List Node) : Type 0 where
   pub many : length fs ≡ count
   pub few : count ≤ 256
   pub each : FrontsFrom s d fronts from fs
 
 -- some fronts
-pub record HasFronts (s fronts : List ℕ) (from count : ℕ) : Type 0 where
+pub record HasFronts (s : List ℕ) (fronts : List Front) (from count : ℕ) : Type 0 where
   pub depth : ℕ
   pub nodes : List Node
   pub is : FrontsHere s depth fronts from count nodes
 
--- a front at an index
-abbrev pub with_front : List ℕ → ℕ → ℕ → ℕ → ℕ → List ℕ
-with_front fronts p table children mask = set (set (set fronts p table) (p + 1) children) (p + 2) mask
-
 -- up to index m ys is xs
-pub record KeptBelow (m : ℕ) (xs ys : List ℕ) : Type 0 where
-  pub first : (k : ℕ) → k < m → get_or ys k 0 ≡ get_or xs k 0
+pub record KeptBelow (m : ℕ) (xs ys : List Front) : Type 0 where
+  pub first : (k : ℕ) → k < m → front_at ys k ≡ front_at xs k
   pub same_length : length ys ≡ length xs

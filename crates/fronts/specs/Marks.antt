@@ -1,30 +1,55 @@
--- Marks of bytes: a number for each byte, 0 where the byte is not marked. Assumes nothing.
-use Rattle.std.specs.Prelude.{ℕ, ◌≡◌, Bool, not, List, get_or, eqb}
-use Rattle.trie.specs.Trie.{Forest, Node, child}
-use Rattle.trie.specs.Test.{is_some, within, fronts_within}
+-- Tests of bytes: for each byte whether it is marked, or whether a table has a child for it. Assumes nothing.
+use Rattle.std.specs.Prelude.{ℕ, ◌≡◌, ◌<◌, Bool, true, false, ◌&&◌, List, [], ◌∷◌, get_or}
+use Rattle.std.proofs.Math.Option.{Option, none, some}
+use Rattle.trie.specs.Trie.{Forest, leaf, more, Node, child}
+use Rattle.trie.specs.Test.{is_some}
+use Rattle.image_walk.specs.Tables.{entries_at, node_for}
 use Rattle.node_rule.specs.Parts.{TableOf}
+use Rattle.fronts.specs.declared.Front.{Front}
 use Rattle.fronts.specs.Fronts.{FrontsHere}
 
--- whether a byte is marked
-abbrev pub marked : List ℕ → ℕ → Bool
-marked has b = not (eqb (get_or has b 0) 0)
+-- ── the byte of each sibling ──
 
--- no byte is
-abbrev pub Unmarked : List ℕ → Type 0
-Unmarked has = (b : ℕ) → get_or has b 0 ≡ 0
+-- a test holds of it
+abbrev pub each_byte : (ℕ → Bool) → Forest → Bool
+each_byte p leaf = true
+each_byte p (more b h below later) = p b && each_byte p later
+
+-- of those of each front
+abbrev pub each_front : (ℕ → Bool) → List Node → Bool
+each_front p [] = true
+each_front p (f ∷ fs) = each_byte p f.children && each_front p fs
+
+-- the answers of a call are those of a test
+abbrev pub Tests : (ℕ → Bool → Type 0) → (ℕ → Bool) → Type 0
+Tests answers p = (b : ℕ) (r : Bool) → b < 256 → answers b r → r ≡ p b
+
+-- whether it holds of each sibling that a table leads to
+abbrev pub SaysEach : List ℕ → (ℕ → Bool) → ℕ → ℕ → Bool → Type 0
+SaysEach s p table children r = (d : ℕ) (f : Forest) → TableOf s d table children f → r ≡ each_byte p f
+
+-- of those of each front
+abbrev pub SaysEachFront : List ℕ → (ℕ → Bool) → List Front → ℕ → ℕ → Bool → Type 0
+SaysEachFront s p fronts from count r = (d : ℕ) (fs : List Node) → FrontsHere s d fronts from count fs → r ≡ each_front p fs
+
+-- ── tests ──
+
+abbrev pub is_found : Option ℕ → Bool
+is_found none = false
+is_found (some at) = true
+
+-- a table has a child for a byte
+abbrev pub has_child : List ℕ → ℕ → ℕ → ℕ → Bool
+has_child s table children b = is_found (node_for (entries_at s table children) b)
+
+-- a byte is marked
+abbrev pub marked : List Bool → ℕ → Bool
+marked has b = get_or has b false
 
 -- the bytes for which siblings have a child are, and no other
-pub record MarksOf (has : List ℕ) (g : Forest) : Type 0 where
+pub record MarksOf (has : List Bool) (g : Forest) : Type 0 where
   pub is : (b : ℕ) → marked has b ≡ is_some (child g b)
 
 -- the marks are those of the siblings that a table leads to
-abbrev pub SaysMarks : List ℕ → ℕ → ℕ → List ℕ → Type 0
+abbrev pub SaysMarks : List ℕ → ℕ → ℕ → List Bool → Type 0
 SaysMarks s table children has = (d : ℕ) (g : Forest) → TableOf s d table children g → MarksOf has g
-
--- whatever siblings g the marks are of, among their bytes are those of the siblings that a table leads to
-abbrev pub SaysMarked : List ℕ → List ℕ → ℕ → ℕ → Bool → Type 0
-SaysMarked s has other others r = (d : ℕ) (f : Forest) → TableOf s d other others f → (g : Forest) → MarksOf has g → r ≡ within f g
-
--- those of each front
-abbrev pub SaysAllMarked : List ℕ → List ℕ → List ℕ → ℕ → ℕ → Bool → Type 0
-SaysAllMarked s has fronts from count r = (d : ℕ) (fs : List Node) → FrontsHere s d fronts from count fs → (g : Forest) → MarksOf has g → r ≡ fronts_within fs g

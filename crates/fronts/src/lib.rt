@@ -1,95 +1,100 @@
 // The nodes whose paths have one byte more in front.
 #![tactic(auto)]
 
-ghost use Rattle.std.specs.Prelude.{◌≡◌, ◌+◌, ◌*◌, ◌≤◌, ◌<◌, ◌/◌, min, length, set, cond, eqb};
+ghost use Rattle.std.specs.Prelude.{◌≡◌, ℕ, ◌+◌, ◌*◌, ◌≤◌, cond, eqb, Bool};
+ghost use Rattle.image_walk.specs.Bounds.{TableHere};
 ghost use Rattle.node_rule.specs.Parts.{HasTable};
-ghost use Rattle.fronts.specs.Fronts.{HasFronts, with_front};
-ghost use Rattle.fronts.specs.FrontRule.{RootFronts, NextFronts, SaysWithin, SaysFronts};
+ghost use Rattle.fronts.specs.Fronts.{HasFronts};
+ghost use Rattle.fronts.specs.FrontRule.{RootFronts, NextFronts, SaysFronts};
 ghost use Rattle.fronts.specs.Ahead.{part_read, shares_read};
-ghost use Rattle.fronts.specs.Masks.{is_absent, with_byte, SaysMask};
-ghost use Rattle.fronts.specs.Marks.{Unmarked, SaysMarks, SaysMarked, SaysAllMarked};
+ghost use Rattle.fronts.specs.Masks.{is_absent, with_byte, all_bits, SaysMask};
+ghost use Rattle.fronts.specs.Marks.{Tests, SaysEach, SaysEachFront, has_child, SaysMarks};
 
 use image_format::DENSE_ENTRIES;
-use image_walk::{Child, Node, Slot};
+use image_walk::Table;
+use location_lists::Lists;
 
-// The nodes whose path has one byte more in front are a node's fronts. Each is three numbers on a stack of 256 for each
-// depth: its table, how many entries that has, and a mask of their bytes.
+// The nodes whose path has one byte more in front are a node's fronts. Each is its table, and a mask of that table's bytes.
+#[derive(Clone, Copy)]
+pub struct Front {
+    pub table: Table,
+    pub mask: u64,
+}
 
-// The numbers of a depth on the stack: 256 fronts of three.
-pub const LEVEL_SIZE: usize = 768;
+impl Front {
+    // The front with a table whose bytes are not looked at.
+    pub fn new(table: Table) -> Self
+        ensures { result ≡ record { table = table; mask = all_bits } }
+    {
+        Front {
+            table,
+            mask: u64::MAX,
+        }
+    }
+}
 
-// Puts a front at an index of the stack.
-pub fn put_front(fronts: &mut [usize], at: usize, table: usize, children: usize, mask: usize)
-    requires { at + 3 ≤ length fronts.old }
-    ensures { fronts.new ≡ with_front fronts.old at table children mask }
+// The fronts of a depth on the stack: one for each byte.
+pub const LEVEL_SIZE: usize = 256;
+
+// The fronts on the stack: those of 17 depths.
+pub const STACK_SIZE: usize = 4352;
+
+// The front with a table.
+fn front_of(s: &[u8], table: Table) -> Front
+    requires { HasTable s.now table.at table.count }
+    ensures { (result.table ≡ table) × SaysMask s.now result.table.at result.table.count result.mask }
 {
-    fronts[at] = table;
-    fronts[at + 1] = children;
-    fronts[at + 2] = mask;
+    Front {
+        table,
+        mask: mask_of(s, table),
+    }
 }
 
 // The fronts of the root, which are its children in a table; how many.
-pub fn root_fronts(s: &[u8], table: usize, children: usize, fronts: &mut [usize]) -> usize
-    requires { HasTable s.now table children × (768 ≤ length fronts.old) }
-    ensures { RootFronts s.now table children fronts.new result }
+pub fn root_fronts(s: &[u8], table: Table, fronts: &mut [Front; STACK_SIZE]) -> usize
+    requires { HasTable s.now table.at table.count }
+    ensures { RootFronts s.now table.at table.count fronts.new result }
 {
     let mut count = 0;
-    let mut j = 0;
-    while j < children {
-        let slot = image_walk::slot_in(s, table, children, j);
-        j += 1;
-        if let Slot::Taken { byte: _, at } = slot {
-            let c = image_walk::node_at(s, at);
-            let mask = mask_of(s, c.table, c.children);
-            put_front(fronts, count * 3, c.table, c.children, mask);
+    for j in 0..table.count {
+        if let Some(entry) = image_walk::slot_in(s, table, j) {
+            let child = image_walk::node_at(s, entry.node);
+            fronts[count] = front_of(s, child.table);
             count += 1;
         }
     }
     count
 }
 
-// How many fronts, and how many lists of their chunks and prefixes.
-#[derive(Clone, Copy)]
-pub struct Found {
-    pub fronts: usize,
-    pub lists: usize,
-}
-
-// The fronts of a child by byte, one depth further on: the children by byte of the fronts at depth.
+// The fronts of a child by byte, one depth further on: the children by byte of the fronts at depth; how many. The lists
+// become their chunks and prefixes.
 fn fronts_by(
     s: &[u8],
     byte: u8,
     depth: usize,
-    fronts: &mut [usize],
+    fronts: &mut [Front; STACK_SIZE],
     count: usize,
-    lists: &mut [usize],
-) -> Found
-    requires { HasFronts s.now fronts.old (depth * 768) count × (depth ≤ 15) × (13056 ≤ length fronts.old) × (1025 ≤ length lists.old) }
-    ensures { NextFronts s.now byte depth fronts.old count fronts.new result.fronts lists.new result.lists }
+    lists: &mut Lists,
+) -> usize
+    requires { HasFronts s.now fronts.old (depth * 256) count × (depth ≤ 15) }
+    ensures { NextFronts s.now byte depth fronts.old count fronts.new result lists.new }
 {
     let from = depth * LEVEL_SIZE;
     let to = (depth + 1) * LEVEL_SIZE;
     let mut met = 0;
-    let mut listed = 0;
-    let mut i = 0;
-    while i < count {
-        let f = from + i * 3;
-        i += 1;
-        if !is_absent(fronts[f + 2], byte) {
-            let c = image_walk::child_in(s, fronts[f], fronts[f + 1], byte);
-            if let Child::At(at) = c {
-                let n = image_walk::node_at(s, at);
-                let mask = mask_of(s, n.table, n.children);
-                put_front(fronts, to + met * 3, n.table, n.children, mask);
+    lists.clear();
+    for i in 0..count {
+        let front = fronts[from + i];
+        if !is_absent(front.mask, byte) {
+            if let Some(at) = image_walk::child_in(s, front.table, byte) {
+                let child = image_walk::node_at(s, at);
+                fronts[to + met] = front_of(s, child.table);
                 met += 1;
-                listed = node_rule::add_front(lists, listed, n);
+                node_rule::add_front(lists, child);
             }
         }
     }
-    Found {
-        fronts: met,
-        lists: listed,
-    }
+    met
 }
 
 // The child by byte at index at, of a node at depth.
@@ -100,53 +105,37 @@ pub struct Place {
     pub depth: usize,
 }
 
-// The fronts of a child. Below the root they are many, and are read ahead with all below them.
+// The fronts of a child; how many. Below the root they are many, and are read ahead with all below them.
 pub fn next_fronts(
     s: &[u8],
     child: Place,
-    fronts: &mut [usize],
+    fronts: &mut [Front; STACK_SIZE],
     count: usize,
-    lists: &mut [usize],
-) -> Found
-    requires { HasFronts s.now fronts.old (child.depth * 768) count × (child.depth ≤ 15) × (13056 ≤ length fronts.old) × (1025 ≤ length lists.old) }
-    ensures { NextFronts s.now child.byte child.depth fronts.old count fronts.new result.fronts lists.new result.lists }
+    lists: &mut Lists,
+) -> usize
+    requires { HasFronts s.now fronts.old (child.depth * 256) count × (child.depth ≤ 15) }
+    ensures { NextFronts s.now child.byte child.depth fronts.old count fronts.new result lists.new }
 {
     look_ahead(s, child, fronts, count, lists);
     fronts_by(s, child.byte, child.depth, fronts, count, lists)
 }
 
-// How many parts of 64 bytes of n bytes are among room bytes.
-fn parts_within(n: usize, room: usize) -> usize
-    ensures { result ≡ min n room / 64 }
-{
-    if room < n {
-        return room / 64;
-    }
-    n / 64
-}
-
-// Reads a word of each 64 bytes of the n from index at on.
+// Reads a word of each 64 bytes of the n from index at on, as far as they are there.
 fn read_part(s: &[u8], at: usize, n: usize) -> u64
     ensures { result ≡ part_read s.now at n }
 {
-    if s.len() < at {
-        return 0;
-    }
+    let parts = n.min(s.len().saturating_sub(at)) / 64;
     let mut sum = 0;
-    let mut p = at;
-    let mut left = parts_within(n, s.len() - at);
-    while 0 < left {
-        sum = sum ^ words::get64(s, p);
-        p += 64;
-        left -= 1;
+    for i in 0..parts {
+        sum ^= words::get64(s, at + i * 64);
     }
     sum
 }
 
 // Reads of the image an even share below the child by byte of each front of the root, and one below the node at index at,
 // which has the same byte.
-fn read_ahead(s: &[u8], byte: u8, fronts: &[usize], count: usize, at: usize) -> u64
-    requires { HasFronts s.now fronts.now 0 count × (count * 3 ≤ length fronts.now) }
+fn read_ahead(s: &[u8], byte: u8, fronts: &[Front; STACK_SIZE], count: usize, at: usize) -> u64
+    requires { HasFronts s.now fronts.now 0 count }
     ensures { result ≡ shares_read s.now byte fronts.now count at }
 {
     if count == 0 {
@@ -154,140 +143,64 @@ fn read_ahead(s: &[u8], byte: u8, fronts: &[usize], count: usize, at: usize) -> 
     }
     let share = s.len() / count;
     let mut sum = read_part(s, at, share);
-    let mut i = 0;
-    while i < count {
-        let f = i * 3;
-        i += 1;
-        let c = image_walk::child_in(s, fronts[f], fronts[f + 1], byte);
-        if let Child::At(p) = c {
-            sum = sum ^ read_part(s, p, share / count);
+    for i in 0..count {
+        if let Some(p) = image_walk::child_in(s, fronts[i].table, byte) {
+            sum ^= read_part(s, p, share / count);
         }
     }
     sum
 }
 
-// The place behind the lists for the number that is read ahead.
-const AHEAD: usize = 1024;
-
 // Reads ahead for a child of the root.
-fn look_ahead(s: &[u8], child: Place, fronts: &[usize], count: usize, lists: &mut [usize])
-    requires { HasFronts s.now fronts.now (child.depth * 768) count × (13056 ≤ length fronts.now) × (1025 ≤ length lists.old) }
-    ensures { lists.new ≡ cond (eqb child.depth 0) (set lists.old 1024 (shares_read s.now child.byte fronts.now count child.at)) lists.old }
+fn look_ahead(s: &[u8], child: Place, fronts: &[Front; STACK_SIZE], count: usize, lists: &mut Lists)
+    requires { HasFronts s.now fronts.now (child.depth * 256) count }
+    ensures { lists.new ≡ cond (eqb child.depth 0) (record { each = lists.old.each; count = lists.old.count; ahead = shares_read s.now child.byte fronts.now count child.at }) lists.old }
 {
-    if child.depth != 0 {
-        return;
+    if child.depth == 0 {
+        lists.ahead = read_ahead(s, child.byte, fronts, count, child.at);
     }
-    lists[AHEAD] = read_ahead(s, child.byte, fronts, count, child.at) as usize;
 }
 
 // Whether a mask tells that a byte is not among its bytes.
-fn is_absent(mask: usize, byte: u8) -> bool
+fn is_absent(mask: u64, byte: u8) -> bool
     ensures { result ≡ is_absent mask byte }
 {
-    if mask == 0 {
-        return false;
-    }
     (mask >> (byte % 64)) % 2 == 0
 }
 
 // The mask with one byte more.
-fn with_byte(mask: usize, byte: u8) -> usize
+fn with_byte(mask: u64, byte: u8) -> u64
     ensures { result ≡ with_byte mask byte }
 {
-    mask | (1usize << (byte % 64))
+    mask | (1u64 << (byte % 64))
 }
 
-// The mask of the bytes in a table; one of 256 entries has 0.
-fn mask_of(s: &[u8], table: usize, children: usize) -> usize
-    requires { HasTable s.now table children }
-    ensures { SaysMask s.now table children result }
+// The mask of the bytes in a table; one of 256 entries has every bit.
+fn mask_of(s: &[u8], table: Table) -> u64
+    requires { HasTable s.now table.at table.count }
+    ensures { SaysMask s.now table.at table.count result }
 {
-    if children == DENSE_ENTRIES {
-        return 0;
+    if table.count == DENSE_ENTRIES {
+        return u64::MAX;
     }
     let mut mask = 0;
-    let mut j = 0;
-    while j < children {
-        let slot = image_walk::slot_in(s, table, children, j);
-        j += 1;
-        if let Slot::Taken { byte, at: _ } = slot {
-            mask = with_byte(mask, byte);
+    for j in 0..table.count {
+        if let Some(entry) = image_walk::slot_in(s, table, j) {
+            mask = with_byte(mask, entry.byte);
         }
     }
     mask
 }
 
-// The most entries of a table in which bytes are looked for.
-const FEW: usize = 8;
-
-// Whether a table has a child for each byte for which another has one.
-fn table_within(s: &[u8], table: usize, children: usize, other: usize, others: usize) -> bool
-    requires { HasTable s.now table children × HasTable s.now other others }
-    ensures { SaysWithin s.now table children other others result }
+// Whether a test holds of each byte for which a table has a child.
+fn has_each<F: Fn(u8) -> bool>(s: &[u8], table: Table, has: &F) -> bool
+    requires table { HasTable s.now table.at table.count }
+    requires calls { F.IsAlwaysCallable has.now }
+    ensures { (p : ℕ → Bool) → Tests (F.post has.now) p → SaysEach s.now p table.at table.count result }
 {
-    let mut j = 0;
-    while j < others {
-        let slot = image_walk::slot_in(s, other, others, j);
-        j += 1;
-        if let Slot::Taken { byte, at: _ } = slot {
-            let c = image_walk::child_in(s, table, children, byte);
-            let Child::At(_) = c else {
-                return false;
-            };
-        }
-    }
-    true
-}
-
-// Whether a table has a child for each byte for which one of the fronts from an index on has one.
-fn each_within(
-    s: &[u8],
-    table: usize,
-    children: usize,
-    fronts: &[usize],
-    from: usize,
-    count: usize,
-) -> bool
-    requires { HasTable s.now table children × HasFronts s.now fronts.now from count × (from + count * 3 ≤ length fronts.now) }
-    ensures { SaysFronts s.now table children fronts.now from count result }
-{
-    let mut i = 0;
-    while i < count {
-        let f = from + i * 3;
-        i += 1;
-        if !table_within(s, table, children, fronts[f], fronts[f + 1]) {
-            return false;
-        }
-    }
-    true
-}
-
-// Marks the bytes for which a table has a child, where none is marked yet.
-fn mark_bytes(s: &[u8], table: usize, children: usize, has: &mut [u8])
-    requires { HasTable s.now table children × (256 ≤ length has.old) × Unmarked has.old }
-    ensures { SaysMarks s.now table children has.new }
-{
-    let mut j = 0;
-    while j < children {
-        let slot = image_walk::slot_in(s, table, children, j);
-        j += 1;
-        if let Slot::Taken { byte, at: _ } = slot {
-            has[byte as usize] = 1;
-        }
-    }
-}
-
-// Whether each byte for which a table has a child is marked.
-fn table_marked(s: &[u8], has: &[u8], other: usize, others: usize) -> bool
-    requires { HasTable s.now other others × (256 ≤ length has.now) }
-    ensures { SaysMarked s.now has.now other others result }
-{
-    let mut j = 0;
-    while j < others {
-        let slot = image_walk::slot_in(s, other, others, j);
-        j += 1;
-        if let Slot::Taken { byte, at: _ } = slot {
-            if has[byte as usize] == 0 {
+    for j in 0..table.count {
+        if let Some(entry) = image_walk::slot_in(s, table, j) {
+            if !has(entry.byte) {
                 return false;
             }
         }
@@ -295,38 +208,65 @@ fn table_marked(s: &[u8], has: &[u8], other: usize, others: usize) -> bool
     true
 }
 
-// Whether each byte for which one of the fronts from an index on has a child is marked.
-fn each_marked(s: &[u8], has: &[u8], fronts: &[usize], from: usize, count: usize) -> bool
-    requires { HasFronts s.now fronts.now from count × (from + count * 3 ≤ length fronts.now) × (256 ≤ length has.now) }
-    ensures { SaysAllMarked s.now has.now fronts.now from count result }
+// Whether it holds of each byte for which one of the fronts from an index on has a child.
+fn has_each_front<F: Fn(u8) -> bool>(
+    s: &[u8],
+    fronts: &[Front; STACK_SIZE],
+    from: usize,
+    count: usize,
+    has: &F,
+) -> bool
+    requires fronts { HasFronts s.now fronts.now from count × (from + count ≤ 4352) }
+    requires calls { F.IsAlwaysCallable has.now }
+    ensures { (p : ℕ → Bool) → Tests (F.post has.now) p → SaysEachFront s.now p fronts.now from count result }
 {
-    let mut i = 0;
-    while i < count {
-        let f = from + i * 3;
-        i += 1;
-        if !table_marked(s, has, fronts[f], fronts[f + 1]) {
+    for i in 0..count {
+        if !has_each(s, fronts[from + i].table, has) {
             return false;
         }
     }
     true
 }
 
+// Whether a table has a child for a byte.
+fn has_child(s: &[u8], table: Table, byte: u8) -> bool
+    requires { TableHere s.now table.at table.count }
+    ensures { result ≡ has_child s.now table.at table.count byte }
+{
+    image_walk::child_in(s, table, byte).is_some()
+}
+
+// For each byte whether a table has a child for it.
+fn marks_of(s: &[u8], table: Table) -> [bool; 256]
+    requires { HasTable s.now table.at table.count }
+    ensures { SaysMarks s.now table.at table.count result }
+{
+    let mut has = [false; 256];
+    for j in 0..table.count {
+        if let Some(entry) = image_walk::slot_in(s, table, j) {
+            has[entry.byte as usize] = true;
+        }
+    }
+    has
+}
+
+// The most entries of a table in which bytes are looked for.
+const FEW: usize = 8;
+
 // Whether a table has a child for each byte for which one of the fronts from an index on has one.
 pub fn fronts_within(
     s: &[u8],
-    table: usize,
-    children: usize,
-    fronts: &[usize],
+    table: Table,
+    fronts: &[Front; STACK_SIZE],
     from: usize,
     count: usize,
 ) -> bool
-    requires { HasTable s.now table children × HasFronts s.now fronts.now from count × (from + count * 3 ≤ length fronts.now) }
-    ensures { SaysFronts s.now table children fronts.now from count result }
+    requires { HasTable s.now table.at table.count × HasFronts s.now fronts.now from count × (from + count ≤ 4352) }
+    ensures { SaysFronts s.now table.at table.count fronts.now from count result }
 {
-    if children <= FEW {
-        return each_within(s, table, children, fronts, from, count);
+    if table.count <= FEW {
+        return has_each_front(s, fronts, from, count, &|byte| has_child(s, table, byte));
     }
-    let mut has = [0u8; 256];
-    mark_bytes(s, table, children, &mut has);
-    each_marked(s, &has, fronts, from, count)
+    let marks = marks_of(s, table);
+    has_each_front(s, fronts, from, count, &|byte| marks[byte as usize])
 }

@@ -1,12 +1,6 @@
 -- `fronts::fronts_by` meets its contract: the fronts found, and then those of the fronts ahead, are all. Assumes nothing.
-use Prim.Native.Nat.{◌-◌}
-use mathlib.Core.Path.{◌≡◌}
-use lib.ListN.{length}
 use Rattle.fronts.proofs.NextFronts.{Finding}
 use Rattle.fronts.proofs.fronts_by.Given as goal
 
 abbrev pub invariant-loop-i : goal.invariant-loop-i
-invariant-loop-i l = Finding l.s l.byte l.from l.to l.initial.fronts l.count l.i l.fronts l.met l.lists l.listed × (length l.lists ≡ length l.initial.lists)
-
-abbrev pub decreases-loop-i : goal.decreases-loop-i
-decreases-loop-i l = l.count - l.i
+invariant-loop-i l = Finding l.s l.byte l.from l.to l.initial.fronts l.count l.i l.fronts l.met l.lists

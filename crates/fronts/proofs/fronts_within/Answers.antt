@@ -1,12 +1,16 @@
 -- `fronts::fronts_within` meets its contract: by a search for each byte, or by marks. Assumes nothing.
-use native.Mathlib.Omega.{arith}
-use Rattle.fronts.proofs.MarkLaws.{unmarked_zeros, marked_fronts}
+use Rattle.std.proofs.Common.{rules}
+use Rattle.fronts.specs.Marks.{has_child, marked}
+use Rattle.fronts.proofs.WithinLaws.{found_fronts, marked_fronts}
 use Rattle.fronts.proofs.fronts_within.Goals as goal
 
-pub mark_bytes-requires : goal.mark_bytes-requires
-mark_bytes-requires c = (c.requires.0, omega arith, unmarked_zeros 256)
+pub returns-then-table-le-FEW : goal.returns-then-table-le-FEW
+returns-then-table-le-FEW c =
+    let a = c.args in
+    found_fronts a.s.now a.table.at a.table.count a.fronts.now a.from a.count c.has_each_front.result (c.has_each_front.ensures (has_child a.s.now a.table.at a.table.count) (λ b r l h. search rules))
 
 pub returns : goal.returns
 returns c =
     let a = c.args in
-    marked_fronts a.s.now a.table a.children _ a.fronts.now a.from a.count c.each_marked.result c.mark_bytes.ensures c.each_marked.ensures
+    let m = c.marks_of-marks in
+    marked_fronts a.s.now a.table.at a.table.count m.result a.fronts.now a.from a.count c.has_each_front-2.result m.ensures (c.has_each_front-2.ensures (marked m.result) (λ b r l h. search rules))
