@@ -1,15 +1,16 @@
 -- Where a line ends: at the first newline, or at the end of the input. Assumes nothing.
-use Prim.Native.Nat.{ℕ, zero, suc, ◌+◌, ◌-◌, ◌≤◌, ◌<◌}
+use Prim.Native.Nat.{ℕ, zero, suc, max, ◌+◌, ◌-◌, ◌≤◌, ◌<◌}
 use native.Mathlib.Omega.{arith}
 use native.Mathlib.Numerals.{add-one}
 use mathlib.Core.Path.{◌≡◌, refl, sym, ap, ◌∙◌}
 use mathlib.Core.Bool.{Bool, true, false, cond}
+use mathlib.Core.Logic.{◌⊎◌, inl, inr}
 use mathlib.Core.List.{List, [], ◌∷◌}
 use lib.ListN.{length, get_or, take, drop, drop_of_length-le, length-drop}
 use lib.Seq.{drop-cons, get_or-drop}
 use lib.Dec.{eqb}
 use borrow.Author.Tests.{eq-eqb, ne_eqb}
-use Rattle.definitions.proofs.Views.{Eq, eq}
+use Rattle.definitions.proofs.Views.{Eq, eq, lt_or_le}
 use Rattle.lines.specs.Cut.{first_line, line_end, Ends}
 
 -- ── the loop of `line_end` ──
@@ -30,6 +31,14 @@ module _ (s : List ℕ) (i : ℕ) where
     pub end_on : (get_or s i 0 ≡ 10 → ⊥) → line_end s (i + 1) ≡ line_end s i
     unfolding line_end first_line
     end_on n = rw (step, ne_eqb (get_or s i 0) 10 n) (omega arith)
+
+-- without a newline from `at` on, the line ends with the input, or where it began behind that
+pub end_none : (s : List ℕ) (at i : ℕ) → length s ≤ i → (at ≤ length s → i ≤ length s) → line_end s i ≡ line_end s at → max (length s) at ≡ line_end s at
+end_none s at i h k e = go (lt_or_le at (length s))
+  where
+    go : (at < length s) ⊎ (length s ≤ at) → max (length s) at ≡ line_end s at
+    go (inl m) = omega (arith, k (omega arith), end_out s i h, e)
+    go (inr m) = omega (arith, end_out s at m)
 
 -- ── the first newline ──
 

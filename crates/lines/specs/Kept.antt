@@ -1,6 +1,6 @@
 -- What is kept of an unfinished line, byte by byte and in a line buffer. Assumes nothing.
-use Rattle.std.specs.Prelude.{ℕ, ◌+◌, ◌≡◌, cond, List, [], ◌∷◌, ◌++◌, length, take, ltb}
-use Rattle.std.proofs.lemmas.List.Edits.{sets}
+use Rattle.std.specs.Prelude.{ℕ, cond, List, [], ◌∷◌, ◌++◌, length, take, ltb, Option, Some, None}
+use Rattle.std.specs.Borrow.{Bor}
 use Rattle.definitions.specs.Program.{line_limit}
 
 -- the bytes of an unfinished line, or that it is too long
@@ -18,20 +18,12 @@ abbrev pub keeps : Kept → List ℕ → Kept
 keeps k [] = k
 keeps k (b ∷ bs) = keeps (keeps_byte k b) bs
 
--- the first n bytes of a line buffer are kept; a line of over 1,024 is too long
-abbrev pub kept_in : List ℕ → ℕ → Kept
-kept_in line n = cond (ltb line_limit n) too_long (part (take n line))
+-- the first n bytes of a buffer are kept, or the line is too long
+abbrev pub kept_in : List ℕ → Option ℕ → Kept
+kept_in line None = too_long
+kept_in line (Some n) = part (take n line)
 
--- how many bytes are kept with these behind n; 1,025 where the line is too long
-abbrev pub count_with : ℕ → List ℕ → ℕ
-count_with n bs = cond (ltb line_limit (n + length bs)) (line_limit + 1) (n + length bs)
-
--- the line buffer then; it stays where the line is too long
-abbrev pub line_with : List ℕ → ℕ → List ℕ → List ℕ
-line_with line n bs = cond (ltb line_limit (n + length bs)) line (sets line n bs)
-
--- bytes are kept behind n of a line
-pub record KeepsBehind (line : List ℕ) (n : ℕ) (bs after : List ℕ) (r : ℕ) : Type 0 where
-  pub count : r ≡ count_with n bs
-  pub buffer : after ≡ line_with line n bs
-  pub keeps_them : kept_in after r ≡ keeps (kept_in line n) bs
+-- a text that is kept, or none of a line that is too long
+abbrev pub kept_text : Option (Bor (List ℕ)) → Kept
+kept_text None = too_long
+kept_text (Some t) = part t.now

@@ -1,7 +1,7 @@
 -- `lines::line_end` meets its contract: where the line ends is the same from each byte of it on. Assumes nothing.
 use native.Mathlib.Omega.{arith}
 use mathlib.Core.Path.{◌∙◌}
-use Rattle.lines.proofs.LineEnds.{end_out, end_here, end_on}
+use Rattle.lines.proofs.LineEnds.{end_here, end_on, end_none}
 use Rattle.lines.proofs.line_end.Goals as goal
 
 pub returns-then-input-i-eq10 : goal.returns-then-input-i-eq10
@@ -15,6 +15,4 @@ loop-i-preserved c =
     end_on s c.loop-i.i (omega arith) (λ e. omega arith) ∙ c.loop-i.invariant
 
 pub returns : goal.returns
-returns c =
-    let s = c.args.input.now in
-    end_out s c.loop-i.i (omega arith) ∙ c.loop-i.invariant
+returns c = c.max.ensures ∙ end_none c.args.input.now c.args.at c.loop-i.i (omega arith) (λ h. omega arith) c.loop-i.invariant
