@@ -13,7 +13,7 @@ use Rattle.words.proofs.Parts.{take_sets}
 use Rattle.definitions.specs.Program as P
 use Rattle.definitions.proofs.Views.{Lt, lt}
 use Rattle.forms.specs.ReadLine.{read_line}
-use Rattle.forms.specs.Answers.{answer_of, bytes_of, form_in, byte_count, Is, Reads}
+use Rattle.forms.specs.Answers.{answer_of, bytes_of, form_in, byte_count, answer_count, Is, Reads}
 use Rattle.hex_pairs.specs.HexAnswers.{pairs_at}
 use Rattle.forms.specs.declared.Form.{Form}
 use Rattle.forms.proofs.Lines.{Behind, form_behind, read_line_is}
@@ -42,6 +42,10 @@ given_back l before (M.some (P.find q)) i h =
     let n = few_bytes l (P.find q) i in
     ap (λ (bs : List ℕ). M.some (P.find bs)) (take_sets q before 0 (omega arith))
 
+few_read : (l : List ℕ) (o : M.Option P.Form) → Is l o → length (bytes_of o) ≤ 511
+few_read l M.none i = omega arith
+few_read l (M.some f) i = few_bytes l f i
+
 module _ (l before : List ℕ) where
   pub reads_all : (r : Option Form) → r ≡ answer_of (read_line l) → (after : List ℕ) → after ≡ sets before 0 (bytes_of (read_line l)) → Reads l before r after
   reads_all r e after f = record {
@@ -49,6 +53,7 @@ module _ (l before : List ℕ) where
     answer = e;
     decoded = f;
     means = λ h. ap (λ (r : Option Form). form_in r after) e ∙ ap (form_in (answer_of (read_line l))) f ∙ given_back l before (read_line l) (read_line_is l) h;
+    few = omega (arith, ap answer_count e, count_of_answer (read_line l), few_read l (read_line l) (read_line_is l));
   }
 
   -- no form
@@ -64,7 +69,7 @@ module _ (l before : List ℕ) where
   -- a form r with n bytes
   module _ (r : Form) (n : ℕ) (e : Some r ≡ answer_of (read_line l)) (k : n ≡ byte_count r) where
     size : n ≡ length (bytes_of (read_line l))
-    size = k ∙ count_of_answer (read_line l) e
+    size = k ∙ ap answer_count e ∙ count_of_answer (read_line l)
 
     pub reads_none : n ≡ 0 → Reads l before (Some r) before
     reads_none z =

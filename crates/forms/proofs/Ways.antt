@@ -16,7 +16,7 @@ use Rattle.definitions.specs.Program.{text, line_limit}
 use Rattle.forms.specs.ReadLine.{with_bytes, read_block, read_line}
 use Rattle.numerals.specs.Numerals.{starts}
 use Rattle.hex_pairs.specs.HexBytes.{last_bytes}
-use Rattle.forms.specs.Answers.{answer_of, bytes_of, byte_count}
+use Rattle.forms.specs.Answers.{answer_of, bytes_of, answer_count}
 use Rattle.hex_pairs.specs.HexAnswers.{counted}
 use Rattle.forms.specs.declared.Form.{Form}
 use Rattle.forms.specs.declared.Form.TheVariants as F
@@ -82,13 +82,9 @@ module _ (l : List ℕ) where
 
 -- ── decoding ──
 
-abbrev count_in : Option Form → ℕ
-count_in None = 0
-count_in (Some f) = byte_count f
-
 -- an answer counts the bytes that were read
-pub count_of_answer : (o : M.Option P.Form) {r : Form} → Some r ≡ answer_of o → byte_count r ≡ length (bytes_of o)
-count_of_answer M.none e = absurd (cc)
-count_of_answer (M.some (P.block k b)) e = ap (λ (o : Option Form). count_in o) e
-count_of_answer (M.some P.finish) e = ap (λ (o : Option Form). count_in o) e
-count_of_answer (M.some (P.find q)) e = ap (λ (o : Option Form). count_in o) e
+pub count_of_answer : (o : M.Option P.Form) → answer_count (answer_of o) ≡ length (bytes_of o)
+count_of_answer M.none = refl
+count_of_answer (M.some (P.block k b)) = refl
+count_of_answer (M.some P.finish) = refl
+count_of_answer (M.some (P.find q)) = refl

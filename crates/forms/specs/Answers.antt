@@ -40,9 +40,15 @@ abbrev pub Is : List ℕ → M.Option P.Form → Type 0
 Is l M.none = (f : P.Form) → P.IsForm l f → ⊥
 Is l (M.some f) = P.IsForm l f
 
--- a line was read: the answer, and the buffer with the form's bytes in front, as many as have room there; 511 always have
+-- how many bytes an answer has
+abbrev pub answer_count : Option Form → ℕ
+answer_count None = 0
+answer_count (Some f) = byte_count f
+
+-- a line was read: the answer, and the buffer with the form's bytes in front, as many as have room there; it has at most 511
 pub record Reads (l before : List ℕ) (r : Option Form) (after : List ℕ) : Type 0 where
   pub is : Is l (read_line l)
   pub answer : r ≡ answer_of (read_line l)
   pub decoded : after ≡ sets before 0 (bytes_of (read_line l))
   pub means : 511 ≤ length before → form_in r after ≡ read_line l
+  pub few : answer_count r ≤ 511
