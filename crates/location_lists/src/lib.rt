@@ -100,7 +100,7 @@ pub fn is_ascending(s: &[u8], list: List) -> bool
 // Whether the locations of a list pass the checks on a block's life and end, for a piece of depth bytes.
 // The address is compared with what is left of the numbers, since a sum with it could wrap.
 pub fn are_sound(s: &[u8], list: List, depth: usize) -> bool
-    requires { Within s.now list × (depth ≤ 16) }
+    requires { Within s.now list }
     ensures { result ≡ all_pass depth (held s.now list) }
 {
     let top = u64::MAX - depth as u64;

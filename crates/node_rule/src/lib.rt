@@ -21,7 +21,7 @@ fn is_owed(n: Node, depth: usize) -> bool
 
 // Whether the three lists are sorted, and the chunks pass the checks on a piece of depth bytes.
 fn lists_right(s: &[u8], n: Node, depth: usize) -> bool
-    requires { HasParts s.now n × (depth ≤ 16) }
+    requires { HasParts s.now n }
     ensures { result ≡ lists_right depth (lists_of s.now n) }
 {
     location_lists::is_ascending(s, n.prefixes)
@@ -72,7 +72,7 @@ fn suffixes_right(s: &[u8], n: Node, lists: &mut Lists) -> bool
 
 // What the rule says of one node and the lists of its children.
 pub fn node_right(s: &[u8], n: Node, depth: usize, lists: &mut Lists) -> bool
-    requires { HasParts s.now n × (depth ≤ 16) }
+    requires { HasParts s.now n }
     ensures { SaysNode s.now n depth result }
 {
     is_owed(n, depth) && lists_right(s, n, depth) && suffixes_right(s, n, lists)
