@@ -2,7 +2,8 @@
 use Prim.Native.Nat.{ℕ, zero, suc, ◌-◌, ◌*◌, ◌/◌, ◌^◌, ◌≤◌, ◌<◌}
 use native.Mathlib.Omega.{arith}
 use mathlib.Core.Path.{◌≡◌, refl, sym, ap, subst, ◌∙◌}
-use mathlib.Core.Bool.{Bool, true, false}
+use Rattle.std.specs.Prelude.{Some, None, ⊤}
+use mathlib.Core.Bool.{true, false}
 use mathlib.Core.List.{List, [], ◌∷◌}
 use lib.ListN.{length, get_or}
 use lib.Dec.{eqb}
@@ -19,8 +20,7 @@ use Rattle.image_format.specs.Reading as R
 use Rattle.image_format.specs.Savable.{AllBytes}
 use Rattle.image_walk.specs.Here.{NodeHere, RootHere}
 use Rattle.image_walk.proofs.Root.{here_root}
-use Rattle.row_buffer.specs.declared.Finding.{Finding}
-use Rattle.row_buffer.specs.Answer.{refused, finding_of, rows_answer}
+use Rattle.row_buffer.specs.Answer.{Finding, refused, finding_of, rows_answer}
 use Rattle.row_buffer.proofs.Answering.{Answers, none_answers}
 use Rattle.image_format.specs.Reading.{RightImage}
 use Rattle.node_joining.specs.Found.{root_of, rooted}
@@ -84,24 +84,24 @@ sound_image {img} a l h rule z =
 
 -- ── the places are found, or have no room ──
 
-module _ {img q s ends s' : List ℕ} {o : Bool} (sound : Sound img) (f : TableFound (rooted img) q s ends s' o) where
-  pub places_over : (room : ℕ) (s'' : List ℕ) {g : Finding} → o ≡ true → g ≡ finding_of (refused (number scratch_too_small)) → Answers (search_answer (trie_in img) q (length s) room) s'' g
+module _ {img q s ends s' : List ℕ} (sound : Sound img) where
+  pub places_over : TableFound (rooted img) q s ends s' None → (room : ℕ) (s'' : List ℕ) {g : Finding} → g ≡ finding_of (refused (number scratch_too_small)) → Answers (search_answer (trie_in img) q (length s) room) s'' g
   unfolding search_answer
-  places_over room s'' e g = none_answers s'' (number scratch_too_small) (rw (sound.trie, lt-ltb (length s / 24) (sizes (table_found (root (rooted img)) q)) (f.over e)) refl) g
+  places_over f room s'' g = none_answers s'' (number scratch_too_small) (rw (sound.trie, lt-ltb (length s / 24) (sizes (table_found (root (rooted img)) q)) f.found) refl) g
 
-  module _ (e : o ≡ false) (h : 0 < length q) where
+  module _ {u : ⊤} (f : TableFound (rooted img) q s ends s' (Some u)) (h : 0 < length q) where
     pub hand_order : get_or ends 1 0 ≤ get_or ends 0 0
-    hand_order = ((f.tabled e).laid.part 0 (omega arith) h (λ z. absurd (omega arith))).order
+    hand_order = (f.found.laid.part 0 (omega arith) h (λ z. absurd (omega arith))).order
 
     pub hand_within : get_or ends 0 0 * 24 ≤ length s'
-    hand_within = (f.tabled e).laid.fits
+    hand_within = f.found.laid.fits
 
     pub handed : (room : ℕ) {s'' : List ℕ} {g : Finding} → length s' ≡ length s
         → Answers (rows_answer (combine_split_times (locations_in s' (get_or ends 0 0 - get_or ends 1 0) (get_or ends 1 0 * 24))) room) s'' g
         → Answers (search_answer (trie_in img) q (length s) room) s'' g
     unfolding search_answer
     handed room {s''} {g} l a =
-        let d = (f.tabled e).laid in
-        let fits : sizes (table_found (root (rooted img)) q) ≤ length s / 24 = omega (arith, (f.tabled e).fits, ap (λ (x : ℕ). x / 24) l) in
+        let d = f.found.laid in
+        let fits : sizes (table_found (root (rooted img)) q) ≤ length s / 24 = omega (arith, f.found.fits, ap (λ (x : ℕ). x / 24) l) in
         rw (sound.trie, le-ltb (length s / 24) (sizes (table_found (root (rooted img)) q)) fits)
         (subst (λ (ls : List Location). Answers (rows_answer (combine_split_times ls) room) s'' g) (d.part 0 (omega arith) h (λ z. absurd (omega arith))).places a)

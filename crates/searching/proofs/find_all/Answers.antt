@@ -3,22 +3,26 @@ use native.Mathlib.Omega.{arith}
 use lib.Seq.{get_or-set_same}
 use borrow.Author.Rules.{rules}
 use Rattle.node_joining.specs.Found.{rooted}
-use Rattle.end_places.proofs.Laying.{laid_one, found_one, found_tabled, found_after}
+use Rattle.end_places.proofs.Laying.{laid_one, one_over, one_laid, found_after}
 use Rattle.searching.proofs.find_all.Goals as goal
 
 pub find_end-requires : goal.find_end-requires
 find_end-requires c =
     let args = c.args in
-    (c.requires.0, omega arith, c.last_node-last.ensures, laid_one (rooted args.img.now) args.q.now args.ends.now args.scratch.now c.if-q-eq1.true (omega arith))
+    (c.requires.0, omega arith, c.last_places-last.ensures, laid_one (rooted args.img.now) args.q.now args.ends.now args.scratch.now c.if-q-eq1.true (omega arith))
+
+pub returns-in_err-ends : goal.returns-in_err-ends
+returns-in_err-ends c =
+    rw c.from_residual.ensures (one_over _ _ c.if-q-eq1.true (get_or-set_same c.args.ends.now 1 0 0 (omega arith)) c.in_err-ends.ensures)
 
 pub returns-then-q-eq1 : goal.returns-then-q-eq1
-returns-then-q-eq1 c = found_one c.if-q-eq1.true (get_or-set_same c.args.ends.now 1 0 0 (omega arith)) c.find_end.ensures
+returns-then-q-eq1 c = one_laid _ _ c.if-q-eq1.true (get_or-set_same c.args.ends.now 1 0 0 (omega arith)) c.in_ok-ends.ensures
 
-pub returns-then-find_loosely : goal.returns-then-find_loosely
-returns-then-find_loosely c = found_tabled (c.find_loosely.ensures c.if-find_loosely.true)
+pub returns-in-Some : goal.returns-in-Some
+returns-in-Some c = record { found = c.in-Some.ensures }
 
 pub find_exactly-requires : goal.find_exactly-requires
-find_exactly-requires c = (c.requires.0, omega arith, c.last_node-last.ensures, omega (arith, c.find_loosely.auto))
+find_exactly-requires c = (c.requires.0, omega arith, c.last_places-last.ensures, omega (arith, c.find_loosely.auto))
 
-pub returns : goal.returns
-returns c = found_after c.find_exactly.ensures (search rules)
+pub returns-in-None : goal.returns-in-None
+returns-in-None c = found_after c.find_exactly.ensures (search rules)

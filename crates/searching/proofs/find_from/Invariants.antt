@@ -1,14 +1,11 @@
 -- `searching::find_from` meets its contract. The loop's invariant: the places from i on stand in scratch, but for those of the last byte. Assumes nothing.
-use Prim.Native.Nat.{◌+◌, ◌≤◌, ◌<◌}
+use Prim.Native.Nat.{◌+◌}
 use mathlib.Core.Path.{◌≡◌}
-use lib.ListN.{length, get_or}
+use lib.ListN.{get_or}
 use Rattle.definitions.specs.Places.{sizes}
 use Rattle.node_joining.specs.Found.{rooted, table_from}
 use Rattle.node_joining.specs.Layout.{LaidOut, last_size}
 use Rattle.searching.proofs.find_from.Given as goal
 
 abbrev pub invariant-loop-i : goal.invariant-loop-i
-invariant-loop-i l = (1 ≤ l.i) × (l.i < length l.q) × LaidOut (rooted l.img) l.q l.i l.ends l.scratch × (get_or l.ends l.i 0 + last_size (rooted l.img) l.q ≡ l.count + sizes (table_from (rooted l.img) l.q l.i)) × (length l.scratch ≡ length l.initial.scratch) × (length l.ends ≡ length l.initial.ends)
-
-abbrev pub decreases-loop-i : goal.decreases-loop-i
-decreases-loop-i l = l.i
+invariant-loop-i l = LaidOut (rooted l.img) l.q l.i l.ends l.scratch × (get_or l.ends l.i 0 + last_size (rooted l.img) l.q ≡ l.count + sizes (table_from (rooted l.img) l.q l.i))
