@@ -1,10 +1,10 @@
 -- The rule from the root on, and the whole check of an image. Assumes nothing.
-use Prim.Native.Nat.{ℕ, ◌≤◌}
+use Prim.Native.Nat.{ℕ}
 use native.Mathlib.Omega.{arith}
 use mathlib.Core.Path.{◌≡◌, sym, ap, ◌∙◌}
 use mathlib.Core.Bool.{Bool, true, false, ◌&&◌, cond}
 use mathlib.Core.List.{List}
-use lib.ListN.{length, get_or}
+use lib.ListN.{get_or}
 use Rattle.definitions.specs.Conflicts.{free}
 use Rattle.definitions.specs.Causes.{image_broken, conflict}
 use Rattle.trie.specs.Trie.{trie_pieces}
@@ -15,8 +15,11 @@ use Rattle.image_walk.specs.Parts.{parts_at}
 use Rattle.image_walk.specs.Here.{RootHere}
 use Rattle.image_walk.proofs.Root.{trie_empty}
 use Rattle.node_rule.specs.Parts.{PartsOf, HasParts, HasTable}
-use Rattle.single_runs.specs.Says.{children_right, ChildrenAsked, ChildrenSays}
+use Rattle.single_runs.specs.Says.{children_right}
+use Rattle.forest_rule.specs.Says.{ChildrenAsked, ChildrenSays}
+use Rattle.forest_rule.specs.declared.Siblings.{Siblings}
 use Rattle.fronts.specs.FrontRule.{RootFronts}
+use Rattle.fronts.specs.declared.Front.{Front}
 use Rattle.node_rule.specs.OneNode.{SaysNode}
 use Rattle.image_format.specs.Check.{and_if, check_image}
 use Rattle.node_rule.proofs.Parts.{parts_of}
@@ -38,12 +41,16 @@ module _ (s : List ℕ) (h : RootHere s) (c : Parts) (g : c ≡ parts_at s 0) wh
   pub root_parts : HasParts s c
   root_parts = record { depth = 16; node = h.node; is = root_is }
 
-  pub root_table : HasTable s c.table c.children
+  pub root_table : HasTable s c.table.at c.table.count
   root_table = record { depth = 16; forest = h.node.children; is = root_is.table }
 
-  pub root_asked : (fronts : List ℕ) (count : ℕ) (lists : List ℕ) → RootFronts s c.table c.children fronts count → 13056 ≤ length fronts → 1025 ≤ length lists → ChildrenAsked s c.table c.children 0 fronts count lists 16
-  root_asked fronts count lists f l m =
-      record { forest = h.node.children; is = root_is.table; nodes = siblings h.node.children; fronts_here = f.are 16 h.node.children root_is.table; levels = omega arith; room = l; lists_room = m }
+  -- all nodes below it
+  abbrev pub below_root : Siblings
+  below_root = record { table = c.table; depth = 0; left = 16 }
+
+  pub root_asked : (fronts : List Front) (count : ℕ) → RootFronts s c.table.at c.table.count fronts count → ChildrenAsked s below_root fronts count
+  root_asked fronts count f =
+      record { forest = h.node.children; is = root_is.table; nodes = siblings h.node.children; fronts_here = f.are 16 h.node.children root_is.table; levels = omega arith }
 
   module _ (v : Bool) (e : SaysNode s c 0 v) where
     pub rule_not_node : v ≡ false → false ≡ index_rule (trie_in s)
@@ -52,7 +59,7 @@ module _ (s : List ℕ) (h : RootHere s) (c : Parts) (g : c ≡ parts_at s 0) wh
         and_not (node_right 0 n.lists n.children) (fronts_within (siblings n.children) n.children && forest_right (siblings n.children) 1 n.children) (sym z ∙ e 16 n root_is)
         ∙ ap index_rule (sym h.trie)
 
-    pub rule_by_children : v ≡ true → (fronts : List ℕ) (count : ℕ) → RootFronts s c.table c.children fronts count → (last : List ℕ) (r : Bool) → ChildrenSays s c.table c.children 0 fronts count 16 last r →
+    pub rule_by_children : v ≡ true → (fronts : List Front) (count : ℕ) → RootFronts s c.table.at c.table.count fronts count → (last : List Front) (r : Bool) → ChildrenSays s below_root fronts count last r →
         r ≡ index_rule (trie_in s)
     unfolding children_right
     rule_by_children z fronts count f last r x =
@@ -74,6 +81,13 @@ module _ (s : List ℕ) where
     unfolding check_image
     check_fails z = sym (rw (sym q, sym f ∙ z))
 
-    pub check_by : r ≡ true → (o : Bool) → o ≡ free (trie_pieces (trie_in s)) → cond o (right k e) (refused 18) ≡ check_image s
-    unfolding check_image
-    check_by z o g = sym (rw (sym q, sym f ∙ z, sym g))
+    module _ (z : r ≡ true) (o : Bool) (g : o ≡ free (trie_pieces (trie_in s))) where
+      check_by : cond o (right k e) (refused 18) ≡ check_image s
+      unfolding check_image
+      check_by = sym (rw (sym q, sym f ∙ z, sym g))
+
+      pub check_conflict : o ≡ false → refused 18 ≡ check_image s
+      check_conflict w = ap (λ (b : Bool). cond b (right k e) (refused 18)) (sym w) ∙ check_by
+
+      pub check_clear : o ≡ true → right k e ≡ check_image s
+      check_clear w = ap (λ (b : Bool). cond b (right k e) (refused 18)) (sym w) ∙ check_by

@@ -114,6 +114,15 @@ pub struct Run<T> {
     pub end: T,
 }
 
+impl<T> Run<T> {
+    // No level: it ends where it starts.
+    pub fn none(end: T) -> Self
+        ensures { result ≡ record { levels = 0; end = end } }
+    {
+        Run { levels: 0, end }
+    }
+}
+
 // The run from a place on, by the step from each level to the next; at most so many.
 fn run_by<T: Copy, F: Fn(T) -> Option<T>>(from: T, most: usize, step: F) -> Run<T>
     requires { (k : ℕ) (x : T) → k < most → StepsTo (λ a b. F.post step a (Some b)) from k x → F.pre step x }
@@ -179,10 +188,7 @@ pub fn single_run(s: &[u8], table: usize, most: usize) -> Run<usize>
     ensures { SinglesTo s.now table most result.levels result.end }
 {
     if !has_single_with_suffix(s, table) {
-        return Run {
-            levels: 0,
-            end: table,
-        };
+        return Run::none(table);
     }
     run_by(table, most, |t| next_single(s, t))
 }

@@ -1,40 +1,24 @@
 -- `index_rule::check` meets its contract: the layout, then the rule, and last conflicts. Assumes nothing.
 use mathlib.Core.Path.{sym, ap, ◌∙◌}
-use mathlib.Core.Bool.{Bool, cond}
-use Rattle.image_format.specs.Reading.{right, refused}
 use Rattle.fields.specs.Answers.{layout_of}
-use Rattle.index_rule.proofs.Whole.{check_fails, check_by, check_refused}
+use Rattle.fields.proofs.Passed.{passed}
+use Rattle.index_rule.proofs.Whole.{check_clear, check_conflict, check_fails, check_refused}
 use Rattle.index_rule.proofs.check.Goals as goal
 
+pub returns-in_err-counts : goal.returns-in_err-counts
+returns-in_err-counts c = ap layout_of (passed _ _ c.from_residual.ensures.1) ∙ check_refused c.args.s.now _ c.in_err-counts.ensures
+
 pub index_rule-requires : goal.index_rule-requires
-index_rule-requires c =
-    let q = ap layout_of (sym c.in-Right.is) ∙ c.read_image.ensures in
-    record { nodes = _; entries = _; read = sym q }
+index_rule-requires c = record { nodes = _; entries = _; read = sym c.in_ok-counts.ensures }
 
 pub returns-then-not-index_rule : goal.returns-then-not-index_rule
-returns-then-not-index_rule c =
-    let q = ap layout_of (sym c.in-Right.is) ∙ c.read_image.ensures in
-    let r = c.index_rule in
-    check_fails c.args.s.now _ _ q r.result r.ensures c.if-not-index_rule.true
+returns-then-not-index_rule c = check_fails c.args.s.now _ _ c.in_ok-counts.ensures _ c.index_rule.ensures c.if-not-index_rule.true
 
 pub conflict_free-requires : goal.conflict_free-requires
-conflict_free-requires c =
-    let q = ap layout_of (sym c.in-Right.is) ∙ c.read_image.ensures in
-    (record { nodes = _; entries = _; read = sym q }, sym c.index_rule.ensures ∙ c.if-not-index_rule.false)
+conflict_free-requires c = (record { nodes = _; entries = _; read = sym c.in_ok-counts.ensures }, sym c.index_rule.ensures ∙ c.if-not-index_rule.false)
 
-pub returns-in-Refused : goal.returns-in-Refused
-returns-in-Refused c = check_refused c.args.s.now _ (ap layout_of (sym c.in-Refused.is) ∙ c.read_image.ensures)
+pub returns-then-not-conflict_free : goal.returns-then-not-conflict_free
+returns-then-not-conflict_free c = check_conflict c.args.s.now _ _ c.in_ok-counts.ensures _ c.index_rule.ensures c.if-not-index_rule.false _ c.conflict_free.ensures c.if-not-conflict_free.true
 
-pub returns-then-conflict_free : goal.returns-then-conflict_free
-returns-then-conflict_free c =
-    let q = ap layout_of (sym c.in-Right.is) ∙ c.read_image.ensures in
-    let r = c.index_rule in
-    let f = c.conflict_free in
-    ap (λ (o : Bool). cond o (right c.in-Right.t.nodes c.in-Right.t.entries) (refused 18)) (sym c.if-conflict_free.true) ∙ check_by c.args.s.now _ _ q r.result r.ensures c.if-not-index_rule.false f.result f.ensures
-
-pub returns-else-conflict_free : goal.returns-else-conflict_free
-returns-else-conflict_free c =
-    let q = ap layout_of (sym c.in-Right.is) ∙ c.read_image.ensures in
-    let r = c.index_rule in
-    let f = c.conflict_free in
-    ap (λ (o : Bool). cond o (right c.in-Right.t.nodes c.in-Right.t.entries) (refused 18)) (sym c.if-conflict_free.false) ∙ check_by c.args.s.now _ _ q r.result r.ensures c.if-not-index_rule.false f.result f.ensures
+pub returns : goal.returns
+returns c = check_clear c.args.s.now _ _ c.in_ok-counts.ensures _ c.index_rule.ensures c.if-not-index_rule.false _ c.conflict_free.ensures c.if-not-conflict_free.false

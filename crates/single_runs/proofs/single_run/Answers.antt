@@ -5,7 +5,7 @@ use Rattle.single_runs.proofs.SingleLaws.{singles_none, singles_steps, singles_t
 use Rattle.single_runs.proofs.single_run.Goals as goal
 
 pub returns-then-not-has_single_with_suffix : goal.returns-then-not-has_single_with_suffix
-returns-then-not-has_single_with_suffix c = singles_none _ _ _
+returns-then-not-has_single_with_suffix c = rw c.none.ensures (singles_none _ _ _)
 
 pub run_by-requires : goal.run_by-requires
 run_by-requires c = λ k x l e.
