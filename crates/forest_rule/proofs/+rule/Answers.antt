@@ -41,12 +41,8 @@ child_right-returns-then-not-children_right t c =
 pub child_right-node_right-requires : goal.child_right-node_right-requires
 child_right-node_right-requires t c =
     let a = c.args in
-    let k = c.requires in
     let n = c.node_at-c in
-    let f = c.next_fronts-met in
-    let u = c.is_union in
-    let x = c.children_right in
-    (child_parts a.s.now a.child a.fronts.now a.count a.left n.result n.ensures k, omega (arith, k.levels))
+    child_parts a.s.now a.child a.fronts.now a.count a.left n.result n.ensures c.requires
 
 pub child_right-returns : goal.child_right-returns
 child_right-returns t c =

@@ -24,7 +24,7 @@ node_right-requires c =
     let a = c.args in
     let h = root_found a.s.now c.type_inv.s (omega arith) c.requires _ c.is_empty.ensures c.if-is_empty.false in
     let n = c.node_at-root in
-    (root_parts a.s.now h n.result n.ensures, omega arith)
+    root_parts a.s.now h n.result n.ensures
 
 pub returns-then-not-node_right : goal.returns-then-not-node_right
 returns-then-not-node_right c =
