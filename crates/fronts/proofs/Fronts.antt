@@ -3,12 +3,14 @@ use Prim.Native.Nat.{ℕ, zero, suc, ◌+◌, ◌-◌, ◌≤◌, ◌<◌}
 use native.Mathlib.Omega.{arith}
 use mathlib.Core.Path.{◌≡◌, refl, subst, ◌∙◌}
 use mathlib.Core.List.{List, [], ◌∷◌, ◌++◌}
-use lib.ListN.{length, set, length-set, length-append}
+use lib.ListN.{length, set, drop, length-set, length-append}
+use Rattle.std.proofs.lemmas.List.{length-take-le, length-drop, get_or-take, get_or-drop}
+use borrow.Rule.Slice.PartMut.{mid_of}
 use lib.Seq.{get_or-set_same, get_or-set_other}
 use Rattle.trie.specs.Trie.{Node}
 use Rattle.node_rule.specs.Parts.{HasTable}
 use Rattle.fronts.specs.declared.Front.{Front}
-use Rattle.fronts.specs.Fronts.{front_at, FrontIs, FrontsFrom, HasFronts, KeptBelow}
+use Rattle.fronts.specs.Fronts.{front_at, FrontIs, FrontsFrom, FrontsHere, HasFronts, KeptBelow}
 
 -- ── a front on the stack ──
 
@@ -36,10 +38,46 @@ length_more gs f n e = simp length-append (omega arith)
 
 -- ── what stays ──
 
--- the same numbers are the same fronts
+-- the same fronts elsewhere
+fronts_moved : (s : List ℕ) (d : ℕ) (xs ys : List Front) (p q : ℕ) (fs : List Node) → ((k : ℕ) → k < length fs → front_at ys (q + k) ≡ front_at xs (p + k)) → FrontsFrom s d xs p fs → FrontsFrom s d ys q fs
+fronts_moved s d xs ys p q [] e h = tt
+fronts_moved s d xs ys p q (f ∷ fs) e h =
+    let a : p + 0 ≡ p = omega arith in
+    let b : q + 0 ≡ q = omega arith in
+    let z : front_at ys q ≡ front_at xs p = rw (a, b) at (e 0 (omega arith)) in
+    (rw z h.0, fronts_moved s d xs ys (p + 1) (q + 1) fs later h.1)
+  where
+    later : (k : ℕ) → k < length fs → front_at ys (q + 1 + k) ≡ front_at xs (p + 1 + k)
+    later k l =
+        let a : p + (k + 1) ≡ p + 1 + k = omega arith in
+        let b : q + (k + 1) ≡ q + 1 + k = omega arith in
+        rw (a, b) at (e (k + 1) (omega arith))
+
 pub fronts_same : (s : List ℕ) (d : ℕ) (xs ys : List Front) (p : ℕ) (fs : List Node) → ((k : ℕ) → k < p + length fs → front_at ys k ≡ front_at xs k) → FrontsFrom s d xs p fs → FrontsFrom s d ys p fs
-fronts_same s d xs ys p [] e h = tt
-fronts_same s d xs ys p (f ∷ fs) e h = (rw (e p (omega arith)) h.0, fronts_same s d xs ys (p + 1) fs (λ k l. e k (omega arith)) h.1)
+fronts_same s d xs ys p fs e h = fronts_moved s d xs ys p p fs (λ k l. e (p + k) (omega arith)) h
+
+-- a part of the stack by itself
+module _ (s : List ℕ) (fronts : List Front) (from count : ℕ) (n : ℕ) (z : n ≡ count) (w : from + count ≤ length fronts) where
+  abbrev part : List Front
+  part = mid_of from n fronts
+
+  pub fronts_part : (d : ℕ) (fs : List Node) → FrontsHere s d fronts from count fs → FrontsHere s d part 0 (length part) fs
+  fronts_part d fs h =
+      let many = h.many in
+      let l : length part ≡ n = omega (arith, length-take-le n (drop from fronts), length-drop from fronts) in
+      record { many = omega arith; few = omega (arith, h.few); each = fronts_moved s d fronts part from 0 fs here h.each }
+    where
+      here : (k : ℕ) → k < length fs → front_at part (0 + k) ≡ front_at fronts (from + k)
+      here k l =
+          let many = h.many in
+          let a : 0 + k ≡ k = omega arith in
+          rw a (get_or-take n (drop from fronts) k none (omega arith) ∙ get_or-drop from fronts k none)
+        where
+          none : Front
+          none = record { table = record { at = 0; count = 0 }; mask = 0 }
+
+  pub has_part : HasFronts s fronts from count → HasFronts s part 0 (length part)
+  has_part h = record { depth = h.depth; nodes = h.nodes; is = fronts_part h.depth h.nodes h.is }
 
 pub kept_none : (m : ℕ) (xs : List Front) → KeptBelow m xs xs
 kept_none m xs = record { first = λ k h. refl; same_length = refl }

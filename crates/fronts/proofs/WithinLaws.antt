@@ -1,7 +1,7 @@
 -- A test of each byte of a table's, and of each front's, one after another, and tests that tell the children of siblings. Assumes nothing.
 use Prim.Native.Nat.{ℕ, ◌+◌, ◌-◌, ◌≤◌, ◌<◌}
 use native.Mathlib.Omega.{arith}
-use mathlib.Core.Path.{◌≡◌, refl, sym, ap, ◌∙◌}
+use mathlib.Core.Path.{◌≡◌, refl, sym, ap, subst, ◌∙◌}
 use mathlib.Core.Bool.{Bool, true, false, ◌&&◌}
 use mathlib.Core.List.{List, [], ◌∷◌}
 use mathlib.Core.Option.{Option, none, some}
@@ -14,7 +14,6 @@ use Rattle.image_walk.specs.Tables.{slot_in, entries_at, node_for}
 use Rattle.node_rule.specs.Parts.{Ahead, TableOf}
 use Rattle.fronts.specs.declared.Front.{Front}
 use Rattle.fronts.specs.Fronts.{front_at, FrontsFrom, FrontsHere}
-use Rattle.fronts.specs.FrontRule.{SaysFronts}
 use Rattle.fronts.specs.Marks.{each_byte, each_front, SaysEach, SaysEachFront, is_found, has_child, marked, SaysMarks}
 use Rattle.node_rule.proofs.Tables.{slot_taken, slot_empty, slots_end, table_child}
 use Rattle.node_rule.proofs.Owed.{and_not, and_so}
@@ -63,52 +62,55 @@ module _ (s : List ℕ) (p : ℕ → Bool) (table children : ℕ) where
 
 -- ── the bytes of fronts ──
 
-module _ (s : List ℕ) (p : ℕ → Bool) (fronts : List Front) (from count : ℕ) where
+module _ (s : List ℕ) (p : ℕ → Bool) (fronts : List Front) where
   pub record FrontsAhead (d i : ℕ) (fs : List Node) : Type 0 where
     pub rest : List Node
-    pub ahead : FrontsFrom s d fronts (from + i) rest
-    pub left : length rest ≡ count - i
+    pub ahead : FrontsFrom s d fronts (0 + i) rest
+    pub left : length rest ≡ length fronts - i
     pub says : each_front p rest ≡ each_front p fs
 
   pub record Passing (i : ℕ) : Type 0 where
-    pub each : (d : ℕ) (fs : List Node) → FrontsHere s d fronts from count fs → FrontsAhead d i fs
+    pub each : (d : ℕ) (fs : List Node) → FrontsHere s d fronts 0 (length fronts) fs → FrontsAhead d i fs
 
   pub passing_start : Passing 0
   passing_start = record { each = step }
     where
-      step : (d : ℕ) (fs : List Node) → FrontsHere s d fronts from count fs → FrontsAhead d 0 fs
-      step d fs h = let m = h.many in record { rest = fs; ahead = fronts_start s d fronts from fs h.each; left = omega arith; says = refl }
+      step : (d : ℕ) (fs : List Node) → FrontsHere s d fronts 0 (length fronts) fs → FrontsAhead d 0 fs
+      step d fs h = let m = h.many in record { rest = fs; ahead = fronts_start s d fronts 0 fs h.each; left = omega arith; says = refl }
 
-  module _ (i : ℕ) (o : Passing i) (l : i < count) where
-    front_now : (d : ℕ) (fs : List Node) (h : FrontsHere s d fronts from count fs) → Next s d fronts from count i (o.each d fs h).rest
-    front_now d fs h = let x = o.each d fs h in front_next s d fronts from count i x.rest l x.left x.ahead
+  module _ (i : ℕ) (o : Passing i) (l : i < length fronts) where
+    front_now : (d : ℕ) (fs : List Node) (h : FrontsHere s d fronts 0 (length fronts) fs) → Next s d fronts 0 (length fronts) i (o.each d fs h).rest
+    front_now d fs h = let x = o.each d fs h in front_next s d fronts 0 (length fronts) i x.rest l x.left x.ahead
 
-    one_front : (d : ℕ) (fs : List Node) (h : FrontsHere s d fronts from count fs) → (each_byte p (front_now d fs h).node.children && each_front p (front_now d fs h).later) ≡ each_front p fs
+    one_front : (d : ℕ) (fs : List Node) (h : FrontsHere s d fronts 0 (length fronts) fs) → (each_byte p (front_now d fs h).node.children && each_front p (front_now d fs h).later) ≡ each_front p fs
     one_front d fs h = ap (each_front p) (sym (front_now d fs h).is) ∙ (o.each d fs h).says
 
-    module _ (r : Bool) (w : SaysEach s p (front_at fronts (from + i)).table.at (front_at fronts (from + i)).table.count r) where
-      pub passing_lost : r ≡ false → SaysEachFront s p fronts from count false
+    table_now : (d : ℕ) (fs : List Node) (h : FrontsHere s d fronts 0 (length fronts) fs) → TableOf s d (front_at fronts i).table.at (front_at fronts i).table.count (front_now d fs h).node.children
+    table_now d fs h = let z : 0 + i ≡ i = omega arith in subst (λ (k : ℕ). TableOf s d (front_at fronts k).table.at (front_at fronts k).table.count (front_now d fs h).node.children) z (front_now d fs h).front.table
+
+    module _ (r : Bool) (w : SaysEach s p (front_at fronts i).table.at (front_at fronts i).table.count r) where
+      pub passing_lost : r ≡ false → SaysEachFront s p fronts false
       passing_lost z d fs h =
           let x = front_now d fs h in
-          and_not (each_byte p x.node.children) (each_front p x.later) (sym z ∙ w d x.node.children x.front.table) ∙ one_front d fs h
+          and_not (each_byte p x.node.children) (each_front p x.later) (sym z ∙ w d x.node.children (table_now d fs h)) ∙ one_front d fs h
 
       pub passing_on : r ≡ true → Passing (i + 1)
       passing_on z = record { each = step }
         where
-          step : (d : ℕ) (fs : List Node) → FrontsHere s d fronts from count fs → FrontsAhead d (i + 1) fs
+          step : (d : ℕ) (fs : List Node) → FrontsHere s d fronts 0 (length fronts) fs → FrontsAhead d (i + 1) fs
           step d fs h =
               let x = front_now d fs h in
               record {
                 rest = x.later;
                 ahead = x.ahead;
                 left = x.left;
-                says = and_so (each_byte p x.node.children) (each_front p x.later) (each_front p x.later) (sym z ∙ w d x.node.children x.front.table) refl ∙ one_front d fs h;
+                says = and_so (each_byte p x.node.children) (each_front p x.later) (each_front p x.later) (sym z ∙ w d x.node.children (table_now d fs h)) refl ∙ one_front d fs h;
               }
 
-  pub passing_done : (i : ℕ) → Passing i → count ≤ i → SaysEachFront s p fronts from count true
+  pub passing_done : (i : ℕ) → Passing i → length fronts ≤ i → SaysEachFront s p fronts true
   passing_done i o l d fs h =
       let x = o.each d fs h in
-      ap (each_front p) (sym (fronts_end x.rest count i l x.left)) ∙ x.says
+      ap (each_front p) (sym (fronts_end x.rest (length fronts) i l x.left)) ∙ x.says
 
 -- ── tests that tell the children of siblings ──
 
@@ -127,11 +129,11 @@ module _ (s : List ℕ) (table children : ℕ) where
   same_found d (some at) none f = absurd f
   same_found d (some at) (some n) f = refl
 
-  -- by looking for each byte in a table
-  pub found_fronts : (fronts : List Front) (from count : ℕ) (r : Bool) → SaysEachFront s (has_child s table children) fronts from count r → SaysFronts s table children fronts from count r
-  found_fronts fronts from count r w d e g fs t h =
-      w e fs h ∙ front_within (has_child s table children) g (λ b. same_found (d - 1) (node_for (entries_at s table children) b) (child g b) (table_child s d table children g t b)) fs
+  module _ (d : ℕ) (g : Forest) (t : TableOf s d table children g) (fs : List Node) {r : Bool} where
+    -- by looking for each byte in a table
+    pub found_within : r ≡ each_front (has_child s table children) fs → r ≡ fronts_within fs g
+    found_within e = e ∙ front_within (has_child s table children) g (λ b. same_found (d - 1) (node_for (entries_at s table children) b) (child g b) (table_child s d table children g t b)) fs
 
   -- by its marks
-  pub marked_fronts : (has : List Bool) (fronts : List Front) (from count : ℕ) (r : Bool) → SaysMarks s table children has → SaysEachFront s (marked has) fronts from count r → SaysFronts s table children fronts from count r
-  marked_fronts has fronts from count r m w d e g fs t h = w e fs h ∙ front_within (marked has) g (m d g t).is fs
+  pub marks_within : (has : List Bool) → SaysMarks s table children has → (d : ℕ) (g : Forest) → TableOf s d table children g → (fs : List Node) {r : Bool} → r ≡ each_front (marked has) fs → r ≡ fronts_within fs g
+  marks_within has m d g t fs e = e ∙ front_within (marked has) g (m d g t).is fs

@@ -1,5 +1,5 @@
 -- Tests of bytes: for each byte whether it is marked, or whether a table has a child for it. Assumes nothing.
-use Rattle.std.specs.Prelude.{ℕ, ◌≡◌, ◌<◌, Bool, true, false, ◌&&◌, List, [], ◌∷◌, get_or}
+use Rattle.std.specs.Prelude.{ℕ, ◌≡◌, ◌<◌, Bool, true, false, ◌&&◌, List, [], ◌∷◌, length, get_or}
 use Rattle.std.proofs.Math.Option.{Option, none, some}
 use Rattle.trie.specs.Trie.{Forest, leaf, more, Node, child}
 use Rattle.trie.specs.Test.{is_some}
@@ -29,8 +29,8 @@ abbrev pub SaysEach : List ℕ → (ℕ → Bool) → ℕ → ℕ → Bool → T
 SaysEach s p table children r = (d : ℕ) (f : Forest) → TableOf s d table children f → r ≡ each_byte p f
 
 -- of those of each front
-abbrev pub SaysEachFront : List ℕ → (ℕ → Bool) → List Front → ℕ → ℕ → Bool → Type 0
-SaysEachFront s p fronts from count r = (d : ℕ) (fs : List Node) → FrontsHere s d fronts from count fs → r ≡ each_front p fs
+abbrev pub SaysEachFront : List ℕ → (ℕ → Bool) → List Front → Bool → Type 0
+SaysEachFront s p fronts r = (d : ℕ) (fs : List Node) → FrontsHere s d fronts 0 (length fronts) fs → r ≡ each_front p fs
 
 -- ── tests ──
 

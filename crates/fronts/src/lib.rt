@@ -1,7 +1,7 @@
 // The nodes whose paths have one byte more in front.
 #![tactic(auto)]
 
-ghost use Rattle.std.specs.Prelude.{◌≡◌, ℕ, ◌+◌, ◌*◌, ◌≤◌, cond, eqb, Bool};
+ghost use Rattle.std.specs.Prelude.{◌≡◌, ℕ, ◌+◌, ◌*◌, ◌≤◌, cond, eqb, Bool, length};
 ghost use Rattle.image_walk.specs.Bounds.{TableHere};
 ghost use Rattle.node_rule.specs.Parts.{HasTable};
 ghost use Rattle.fronts.specs.Fronts.{HasFronts};
@@ -208,20 +208,14 @@ fn has_each<F: Fn(u8) -> bool>(s: &[u8], table: Table, has: &F) -> bool
     true
 }
 
-// Whether it holds of each byte for which one of the fronts from an index on has a child.
-fn has_each_front<F: Fn(u8) -> bool>(
-    s: &[u8],
-    fronts: &[Front; STACK_SIZE],
-    from: usize,
-    count: usize,
-    has: &F,
-) -> bool
-    requires fronts { HasFronts s.now fronts.now from count × (from + count ≤ 4352) }
+// Whether it holds of each byte for which one of some fronts has a child.
+fn has_each_front<F: Fn(u8) -> bool>(s: &[u8], fronts: &[Front], has: &F) -> bool
+    requires fronts { HasFronts s.now fronts.now 0 (length fronts.now) }
     requires calls { F.IsAlwaysCallable has.now }
-    ensures { (p : ℕ → Bool) → Tests (F.post has.now) p → SaysEachFront s.now p fronts.now from count result }
+    ensures { (p : ℕ → Bool) → Tests (F.post has.now) p → SaysEachFront s.now p fronts.now result }
 {
-    for i in 0..count {
-        if !has_each(s, fronts[from + i].table, has) {
+    for front in fronts {
+        if !has_each(s, front.table, has) {
             return false;
         }
     }
@@ -264,9 +258,10 @@ pub fn fronts_within(
     requires { HasTable s.now table.at table.count × HasFronts s.now fronts.now from count × (from + count ≤ 4352) }
     ensures { SaysFronts s.now table.at table.count fronts.now from count result }
 {
+    let fronts = &fronts[from..from + count];
     if table.count <= FEW {
-        return has_each_front(s, fronts, from, count, &|byte| has_child(s, table, byte));
+        return has_each_front(s, fronts, &|byte| has_child(s, table, byte));
     }
     let marks = marks_of(s, table);
-    has_each_front(s, fronts, from, count, &|byte| marks[byte as usize])
+    has_each_front(s, fronts, &|byte| marks[byte as usize])
 }

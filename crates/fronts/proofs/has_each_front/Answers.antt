@@ -1,25 +1,26 @@
 -- `fronts::has_each_front` meets its contract: the fronts ahead decide. Assumes nothing.
-use Rattle.fronts.proofs.Fronts.{front_table}
+use lib.ListN.{length}
+use Rattle.fronts.proofs.Fronts.{first_table}
 use Rattle.fronts.proofs.WithinLaws.{passing_start, passing_lost, passing_on, passing_done}
 use Rattle.fronts.proofs.has_each_front.Goals as goal
 
-pub loop-i-init : goal.loop-i-init
-loop-i-init g c p k = let a = c.args in passing_start a.s.now p a.fronts.now a.from a.count
+pub loop-front-init : goal.loop-front-init
+loop-front-init g c p k = let a = c.args in passing_start a.s.now p a.fronts.now
 
 pub has_each-requires-clause-table : goal.has_each-requires-clause-table
-has_each-requires-clause-table g c = let a = c.args in front_table a.s.now a.fronts.now a.from a.count c.loop-i.i c.loop-i-test.true c.requires.fronts.0
+has_each-requires-clause-table g c = let a = c.args in first_table a.s.now a.fronts.now (length a.fronts.now) c.loop-front.front-index c.loop-front-test.true c.requires.fronts
 
 pub returns-then-not-has_each : goal.returns-then-not-has_each
 returns-then-not-has_each g c p k =
     let a = c.args in
-    let o = c.loop-i in
-    passing_lost a.s.now p a.fronts.now a.from a.count o.i (o.invariant p k) c.loop-i-test.true _ (c.has_each.ensures p k) c.if-not-has_each.true
+    let o = c.loop-front in
+    passing_lost a.s.now p a.fronts.now o.front-index (o.invariant p k) c.loop-front-test.true _ (c.has_each.ensures p k) c.if-not-has_each.true
 
-pub loop-i-preserved : goal.loop-i-preserved
-loop-i-preserved g c p k =
+pub loop-front-preserved : goal.loop-front-preserved
+loop-front-preserved g c p k =
     let a = c.args in
-    let o = c.loop-i in
-    passing_on a.s.now p a.fronts.now a.from a.count o.i (o.invariant p k) c.loop-i-test.true _ (c.has_each.ensures p k) c.if-not-has_each.false
+    let o = c.loop-front in
+    passing_on a.s.now p a.fronts.now o.front-index (o.invariant p k) c.loop-front-test.true _ (c.has_each.ensures p k) c.if-not-has_each.false
 
 pub returns : goal.returns
-returns g c p k = let a = c.args in let o = c.loop-i in passing_done a.s.now p a.fronts.now a.from a.count o.i (o.invariant p k) c.loop-i-test.false
+returns g c p k = let a = c.args in let o = c.loop-front in passing_done a.s.now p a.fronts.now o.front-index (o.invariant p k) c.loop-front-test.false

@@ -5,5 +5,5 @@ use Rattle.fronts.specs.Marks.{Tests}
 use Rattle.fronts.proofs.WithinLaws.{Passing}
 use Rattle.fronts.proofs.has_each_front.Given as goal
 
-abbrev pub invariant-loop-i : goal.invariant-loop-i
-invariant-loop-i g l = (p : ℕ → Bool) → Tests (goal.F-post g l.has) p → Passing l.s p l.fronts l.from l.count l.i
+abbrev pub invariant-loop-front : goal.invariant-loop-front
+invariant-loop-front g l = (p : ℕ → Bool) → Tests (goal.F-post g l.has) p → Passing l.s p l.fronts l.front-index
