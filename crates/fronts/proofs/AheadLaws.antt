@@ -2,10 +2,13 @@
 use Prim.Native.Nat.{ℕ, suc, ◌+◌, ◌-◌, ◌*◌, ◌/◌, ◌≤◌, ◌<◌}
 use native.Mathlib.Omega.{arith}
 use mathlib.Core.Path.{◌≡◌, refl, ap, ◌∙◌}
-use mathlib.Core.List.{List}
+use mathlib.Core.List.{List, []}
 use mathlib.Core.Option.{Option, none, some}
 use lib.Bits.{bit_xor}
-use lib.ListN.{length}
+use lib.ListN.{length, drop}
+use lib.Seq.{drop-cons}
+use native.Mathlib.Numerals.{add-one}
+use Rattle.std.proofs.lemmas.List.{drop_all}
 use borrow.Author.Tests.{eq-eqb, ne_eqb}
 use Rattle.words.specs.Words.{le64}
 use Rattle.image_walk.specs.Tables.{entries_at, node_for}
@@ -36,33 +39,34 @@ module _ (s : List ℕ) (at n : ℕ) where
 
 -- ── fronts ──
 
-module _ (s : List ℕ) (b : ℕ) (fronts : List Front) (n : ℕ) where
-  pub fronts_start : (count x y : ℕ) → x ≡ y → fronts_read s b fronts n (count - 0) 0 x ≡ fronts_read s b fronts n count 0 y
-  fronts_start count x y e = let z : count - 0 ≡ count = omega arith in rw (z, e) refl
+module _ (s : List ℕ) (b n : ℕ) (fronts : List Front) where
+  -- those from number i on
+  abbrev rest : ℕ → List Front
+  rest i = drop i fronts
 
-  fronts_on : (count i x : ℕ) (o : Option ℕ) → i < count → o ≡ node_for (entries_at s (front_at fronts i).table.at (front_at fronts i).table.count) b
-      → fronts_read s b fronts n (count - (i + 1)) (i + 1) (child_read s n x o) ≡ fronts_read s b fronts n (count - i) i x
+  fronts_on : (i x : ℕ) (o : Option ℕ) → i < length fronts → o ≡ node_for (entries_at s (front_at fronts i).table.at (front_at fronts i).table.count) b
+      → fronts_read s b n (rest (i + 1)) (child_read s n x o) ≡ fronts_read s b n (rest i) x
   unfolding fronts_read
-  fronts_on count i x o h e = let k : count - i ≡ suc (count - (i + 1)) = omega arith in rw (k, e) refl
+  fronts_on i x o h e = rw (drop-cons fronts i (record { table = record { at = 0; count = 0 }; mask = 0 }) h, add-one i, e) refl
 
-  pub fronts_end : (count i x : ℕ) → count ≤ i → x ≡ fronts_read s b fronts n (count - i) i x
+  pub fronts_end : (i x : ℕ) → length fronts ≤ i → x ≡ fronts_read s b n (rest i) x
   unfolding fronts_read
-  fronts_end count i x h = let k : count - i ≡ 0 = omega arith in rw k refl
+  fronts_end i x h = let e : rest i ≡ [] = drop_all i fronts h in rw e refl
 
   -- a child that is not there leaves the number as it is; one that is there adds its part
-  pub fronts_none : (count i x : ℕ) → i < count → none ≡ node_for (entries_at s (front_at fronts i).table.at (front_at fronts i).table.count) b
-      → fronts_read s b fronts n (count - (i + 1)) (i + 1) x ≡ fronts_read s b fronts n (count - i) i x
-  fronts_none count i x h e = fronts_on count i x none h e
+  pub fronts_none : (i x : ℕ) → i < length fronts → none ≡ node_for (entries_at s (front_at fronts i).table.at (front_at fronts i).table.count) b
+      → fronts_read s b n (rest (i + 1)) x ≡ fronts_read s b n (rest i) x
+  fronts_none i x h e = fronts_on i x none h e
 
-  pub fronts_some : (count i x at y : ℕ) → i < count → some at ≡ node_for (entries_at s (front_at fronts i).table.at (front_at fronts i).table.count) b → y ≡ part_read s at n
-      → fronts_read s b fronts n (count - (i + 1)) (i + 1) (bit_xor x y) ≡ fronts_read s b fronts n (count - i) i x
-  fronts_some count i x at y h e ey = ap (λ (z : ℕ). fronts_read s b fronts n (count - (i + 1)) (i + 1) (bit_xor x z)) ey ∙ fronts_on count i x (some at) h e
+  pub fronts_some : (i x at y : ℕ) → i < length fronts → some at ≡ node_for (entries_at s (front_at fronts i).table.at (front_at fronts i).table.count) b → y ≡ part_read s at n
+      → fronts_read s b n (rest (i + 1)) (bit_xor x y) ≡ fronts_read s b n (rest i) x
+  fronts_some i x at y h e ey = ap (λ (z : ℕ). fronts_read s b n (rest (i + 1)) (bit_xor x z)) ey ∙ fronts_on i x (some at) h e
 
 -- ── all shares ──
 
-module _ (s : List ℕ) (b : ℕ) (fronts : List Front) (count at : ℕ) where
-  pub shares_none : count ≡ 0 → 0 ≡ shares_read s b fronts count at
-  shares_none e = rw (eq-eqb count 0 e) refl
+module _ (s : List ℕ) (b : ℕ) (fronts : List Front) (at : ℕ) where
+  pub shares_none : length fronts ≡ 0 → 0 ≡ shares_read s b fronts at
+  shares_none e = rw (eq-eqb (length fronts) 0 e) refl
 
-  pub shares_some : 1 ≤ count → fronts_read s b fronts (length s / count / count) count 0 (part_read s at (length s / count)) ≡ shares_read s b fronts count at
-  shares_some h = rw (ne_eqb count 0 (λ e. omega arith)) refl
+  pub shares_some : (length fronts ≡ 0 → ⊥) → fronts_read s b (length s / length fronts / length fronts) fronts (part_read s at (length s / length fronts)) ≡ shares_read s b fronts at
+  shares_some h = rw (ne_eqb (length fronts) 0 h) refl

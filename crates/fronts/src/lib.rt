@@ -1,7 +1,7 @@
 // The nodes whose paths have one byte more in front.
 #![tactic(auto)]
 
-ghost use Rattle.std.specs.Prelude.{◌≡◌, ℕ, ◌+◌, ◌*◌, ◌≤◌, cond, eqb, Bool, length};
+ghost use Rattle.std.specs.Prelude.{◌≡◌, ℕ, ◌+◌, ◌*◌, ◌≤◌, cond, eqb, Bool, length, take};
 ghost use Rattle.image_walk.specs.Bounds.{TableHere};
 ghost use Rattle.node_rule.specs.Parts.{HasTable};
 ghost use Rattle.fronts.specs.Fronts.{HasFronts};
@@ -134,17 +134,18 @@ fn read_part(s: &[u8], at: usize, n: usize) -> u64
 
 // Reads of the image an even share below the child by byte of each front of the root, and one below the node at index at,
 // which has the same byte.
-fn read_ahead(s: &[u8], byte: u8, fronts: &[Front; STACK_SIZE], count: usize, at: usize) -> u64
-    requires { HasFronts s.now fronts.now 0 count }
-    ensures { result ≡ shares_read s.now byte fronts.now count at }
+fn read_ahead(s: &[u8], byte: u8, fronts: &[Front], at: usize) -> u64
+    requires { HasFronts s.now fronts.now 0 (length fronts.now) }
+    ensures { result ≡ shares_read s.now byte fronts.now at }
 {
+    let count = fronts.len();
     if count == 0 {
         return 0;
     }
     let share = s.len() / count;
     let mut sum = read_part(s, at, share);
-    for i in 0..count {
-        if let Some(p) = image_walk::child_in(s, fronts[i].table, byte) {
+    for front in fronts {
+        if let Some(p) = image_walk::child_in(s, front.table, byte) {
             sum ^= read_part(s, p, share / count);
         }
     }
@@ -154,10 +155,10 @@ fn read_ahead(s: &[u8], byte: u8, fronts: &[Front; STACK_SIZE], count: usize, at
 // Reads ahead for a child of the root.
 fn look_ahead(s: &[u8], child: Place, fronts: &[Front; STACK_SIZE], count: usize, lists: &mut Lists)
     requires { HasFronts s.now fronts.now (child.depth * 256) count }
-    ensures { lists.new ≡ cond (eqb child.depth 0) (record { each = lists.old.each; count = lists.old.count; ahead = shares_read s.now child.byte fronts.now count child.at }) lists.old }
+    ensures { lists.new ≡ cond (eqb child.depth 0) (record { each = lists.old.each; count = lists.old.count; ahead = shares_read s.now child.byte (take count fronts.now) child.at }) lists.old }
 {
     if child.depth == 0 {
-        lists.ahead = read_ahead(s, child.byte, fronts, count, child.at);
+        lists.ahead = read_ahead(s, child.byte, &fronts[..count], child.at);
     }
 }
 
