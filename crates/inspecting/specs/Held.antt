@@ -1,6 +1,8 @@
 -- What an inspection answers is what the memory holds. Assumes nothing.
-use Rattle.std.specs.Prelude.{ℕ, ◌+◌, ◌≤◌, ◌≡◌, Bool, true, cond, List, length}
+use Rattle.std.specs.Prelude.{ℕ, ◌+◌, ◌≤◌, ◌≡◌, Bool, true, cond, List, length, Result, Ok, Err}
 use Rattle.definitions.specs.Calls.{header_size}
+use Rattle.definitions.specs.declared.refusal.Refusal.{Refusal}
+use Rattle.definitions.specs.declared.refusal.Refusal.TheVariants.{IndexRuleBroken}
 use Rattle.image_format.specs.Held.{trie_in}
 use Rattle.image_format.specs.Reading.{right}
 use Rattle.image_format.specs.Check.{check_image}
@@ -9,7 +11,7 @@ use Rattle.memory_header.specs.Answers.{header_of}
 use Rattle.index_memory.specs.Log.{log_in}
 use Rattle.index_memory.specs.Index.{Index, broken, opened, finished, image_part, finished_index, read_index}
 use Rattle.inspecting.specs.declared.Held.{Held}
-use Rattle.inspecting.specs.declared.Held.TheVariants.{Broken, Open, Finished}
+use Rattle.inspecting.specs.declared.Held.TheVariants.{Open, Finished}
 
 -- an image that passes the whole test
 pub record AcceptedImage (s : List ℕ) : Type 0 where
@@ -23,10 +25,10 @@ pub record SaysImage (m : List ℕ) (h : Header) (r : Bool) : Type 0 where
   pub tested : r ≡ true → AcceptedImage (image_part m h)
 
 -- the index that an answer stands for
-abbrev pub held_in : List ℕ → Held → Index
-held_in m Broken = broken
-held_in m (Open h) = opened (header_of h).capacity (log_in m h.payload header_size)
-held_in m (Finished h) = finished (header_of h).capacity (trie_in (image_part m (header_of h)))
+abbrev pub held_in : List ℕ → Result Held Refusal → Index
+held_in m (Ok (Open h)) = opened (header_of h).capacity (log_in m h.payload header_size)
+held_in m (Ok (Finished h)) = finished (header_of h).capacity (trie_in (image_part m (header_of h)))
+held_in m (Err r) = broken
 
 -- the header is that of the memory, and the image behind it passed the test and lies within the memory
 pub record ImageIn (m : List ℕ) (h : Header) : Type 0 where
@@ -34,12 +36,12 @@ pub record ImageIn (m : List ℕ) (h : Header) : Type 0 where
   pub tested : AcceptedImage (image_part m h)
   pub within : header_size + h.payload ≤ length m
 
--- the header is that of the memory, in both cases
-abbrev pub Told : List ℕ → Held → Type 0
-Told m Broken = Unit {0}
-Told m (Open h) = header_at m ≡ header_of h
-Told m (Finished h) = ImageIn m (header_of h)
+-- the header is that of the memory, in both cases; what holds no index breaks the index rule
+abbrev pub Told : List ℕ → Result Held Refusal → Type 0
+Told m (Ok (Open h)) = header_at m ≡ header_of h
+Told m (Ok (Finished h)) = ImageIn m (header_of h)
+Told m (Err r) = r ≡ IndexRuleBroken
 
-pub record Inspects (m : List ℕ) (r : Held) : Type 0 where
+pub record Inspects (m : List ℕ) (r : Result Held Refusal) : Type 0 where
   pub holds : read_index m ≡ held_in m r
   pub told : Told m r

@@ -6,49 +6,38 @@ ghost use Rattle.std.proofs.Math.Option.{some};
 ghost use Rattle.memory_header.specs.Answers.{header_of, heading_at};
 ghost use Rattle.inspecting.specs.Held.{SaysImage, Inspects};
 
-use fields::Layout;
-use memory_header::{HEADER_SIZE, Header, Heading};
+use definitions::Refusal;
+use memory_header::{HEADER_SIZE, Header};
+use tally::Phase;
 
-// What a memory holds, by its header.
+// The index that a memory holds, by its header.
 #[derive(Clone, Copy)]
 pub enum Held {
-    Broken,
     Open(Header),
     Finished(Header),
 }
 
 // Whether a finished index's image is right, with the tally that finish sets.
 fn image_right(mem: &[u8], h: Header) -> bool
-    requires { (heading_at mem.now ≡ some (header_of h)) × (h.phase ≡ 1) }
+    requires { (heading_at mem.now ≡ some (header_of h)) × ((header_of h).phase ≡ 1) }
     ensures { SaysImage mem.now (header_of h) result }
 {
-    let Layout::Right(t) = index_rule::check(&mem[HEADER_SIZE..HEADER_SIZE + h.payload]) else {
+    let Ok(t) = index_rule::check(&mem[HEADER_SIZE..HEADER_SIZE + h.payload]) else {
         return false;
     };
-    if h.nodes != t.nodes {
-        return false;
-    }
-    h.entries == t.entries
+    h.tally.nodes == t.nodes && h.tally.entries == t.entries
 }
 
 // What a memory holds: the index rule on all of it.
-pub fn inspect(mem: &[u8]) -> Held
+pub fn inspect(mem: &[u8]) -> Result<Held, Refusal>
     ensures { Inspects mem.now result }
 {
-    let Heading::Right(h) = memory_header::header_in(mem) else {
-        return Held::Broken;
-    };
-    if h.phase == 0 {
-        if !index_memory::log_right(mem, h) {
-            return Held::Broken;
+    let h = memory_header::header_in(mem).ok_or(Refusal::IndexRuleBroken)?;
+    match h.tally.phase {
+        Phase::Open if index_memory::log_right(mem, h) && certificate::order_right(mem, h) => {
+            Ok(Held::Open(h))
         }
-        if !certificate::order_right(mem, h) {
-            return Held::Broken;
-        }
-        return Held::Open(h);
+        Phase::Finished if image_right(mem, h) => Ok(Held::Finished(h)),
+        _ => Err(Refusal::IndexRuleBroken),
     }
-    if image_right(mem, h) {
-        return Held::Finished(h);
-    }
-    Held::Broken
 }
