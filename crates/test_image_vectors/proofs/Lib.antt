@@ -1,3 +1,3 @@
--- `Saying` has the laws of what is said of images, `Vectors` those of where a vector leads. Assumes nothing.
+-- `Saying` has laws of what is said, `Vectors` of where a vector leads. Assumes nothing.
 pub mod Saying
 pub mod Vectors

@@ -1,20 +1,19 @@
 -- `judge_damaged` changes one byte of the image and puts it back. Assumes nothing.
 use Prim.Native.Nat.{◌+◌}
-use mathlib.Core.Path.{refl}
 use Rattle.test_image_vectors.proofs.Vectors.{damaged_none, damaged_one, put_back}
-use native.Mathlib.Omega.{arith}
-use lib.ListN.{length-set}
 use Rattle.test_image_vectors.proofs.judge_damaged.Goals as goal
 
-pub returns-then-len-index : goal.returns-then-len-index
-returns-then-len-index c =
+pub returns-then-c-index-clause-value : goal.returns-then-c-index-clause-value
+returns-then-c-index-clause-value c =
     let g = c.args in
-    record { value = damaged_none g.bytes.now g.start g.len g.index g.byte _ c.if-len-index.true c.judge.ensures; bytes_unchanged = refl }
+    damaged_none g.bytes.now g.c.start g.c.len g.index g.byte _ c.if-c-index.true c.check.ensures
 
-pub bounds-bytes-i-3 : goal.bounds-bytes-i-3
-bounds-bytes-i-3 c = simp length-set (omega arith)
-
-pub returns : goal.returns
-returns c =
+pub returns-clause-value : goal.returns-clause-value
+returns-clause-value c =
     let g = c.args in
-    record { value = damaged_one g.bytes.now g.start g.len g.index g.byte _ c.if-len-index.false c.judge-said.ensures; bytes_unchanged = put_back g.bytes.now (g.start + g.index) g.byte }
+    damaged_one g.bytes.now g.c.start g.c.len g.index g.byte _ c.if-c-index.false c.check-verdict.ensures
+
+pub returns-clause-bytes_unchanged : goal.returns-clause-bytes_unchanged
+returns-clause-bytes_unchanged c =
+    let g = c.args in
+    put_back g.bytes.now (g.c.start + g.index) g.byte

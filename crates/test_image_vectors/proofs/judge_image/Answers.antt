@@ -1,13 +1,16 @@
 -- `test_image_vectors::judge_image` meets its contract. Assumes nothing.
+use mathlib.Core.Path.{ap, ◌∙◌}
+use Rattle.fields.specs.Answers.{layout_of}
+use Rattle.test_image_vectors.specs.Said.{said_in, said_after}
 use Rattle.test_image_vectors.proofs.Saying.{whole_parts, whole_alone}
 use Rattle.test_image_vectors.proofs.judge_image.Goals as goal
-
-pub returns-then-parts : goal.returns-then-parts
-returns-then-parts g c =
-    let a = c.args in
-    whole_parts a.img.now a.last c.judge.result c.after.result c.judge.ensures c.judge_parts-before.result a.parts c.if-parts.true c.judge_parts-before.ensures c.after.ensures
+use Rattle.test_image_vectors.proofs.judge_image.Goals.{then-parts, else-parts}
 
 pub returns : goal.returns
 returns g c =
-    let a = c.args in
-    whole_alone a.img.now a.last c.judge-2.result c.after-2.result c.judge-2.ensures a.parts c.if-parts.false c.after-2.ensures
+    let img = c.args.img.now in
+    let l = layout_of c.check.result in
+    elim c.if-parts.branch [
+      | then-parts w ↦ whole_parts img _ _ l c.check.ensures (said_in c.if-parts.page.last) c.args.parts w.if-parts.true (ap (λ p. said_in p.last) w.page-is ∙ w.judge_parts.ensures) c.say.ensures
+      | else-parts w ↦ whole_alone img _ _ l c.check.ensures c.args.parts w.if-parts.false (c.say.ensures ∙ ap (λ p. said_after (said_in p.last) l) w.page-is)
+    ]

@@ -1,16 +1,10 @@
 -- `test_image_vectors::step` meets its contract. Assumes nothing.
-use mathlib.Core.Path.{refl}
 use Rattle.test_image_vectors.proofs.Vectors.{vector_damaged, vector_whole}
+use Rattle.test_image_vectors.specs.Vector.{reached}
 use Rattle.test_image_vectors.proofs.step.Goals as goal
 
-pub returns-then-mode-eq2 : goal.returns-then-mode-eq2
-returns-then-mode-eq2 g c =
-    let a = c.args in
-    let d = c.damaged in
-    record { value = vector_damaged a.bytes.now a.c d.result c.if-mode-eq2.true d.ensures.value; bytes_unchanged = d.ensures.bytes_unchanged; at_lt_at = d.ensures.at_lt_at }
+pub returns-then-mode-eq2-clause-value : goal.returns-then-mode-eq2-clause-value
+returns-then-mode-eq2-clause-value g c = vector_damaged c.args.bytes.now (reached c.args.c c.args.page.now.last) _ c.if-mode-eq2.true c.damaged.ensures.value
 
-pub returns : goal.returns
-returns g c =
-    let a = c.args in
-    let w = c.whole in
-    record { value = vector_whole a.bytes.now a.c w.result c.if-mode-eq2.false w.ensures.value; bytes_unchanged = refl; at_lt_at = w.ensures.at_lt_at }
+pub returns-else-mode-eq2-clause-value : goal.returns-else-mode-eq2-clause-value
+returns-else-mode-eq2-clause-value g c = vector_whole c.args.bytes.now (reached c.args.c c.args.page.now.last) _ c.if-mode-eq2.false c.whole.ensures.value
