@@ -1,13 +1,13 @@
 -- What each way out of save and load says. Assumes nothing.
 use Prim.Native.Nat.{ℕ, ◌+◌, ◌-◌, ◌^◌, ◌≤◌, ◌<◌}
 use native.Mathlib.Omega.{arith}
-use mathlib.Core.Path.{◌≡◌, refl, sym, ap, ◌∙◌, subst}
+use mathlib.Core.Path.{◌≡◌, sym, ap, ◌∙◌, subst}
 use mathlib.Core.Logic.{inl, inr}
 use mathlib.Core.List.{List}
 use mathlib.Core.Option.{some}
 use lib.ListN.{length, take, drop}
 use lib.Seq.{sets, length-sets, take-length}
-use borrow.Author.Tests.{lt-ltb, le-ltb, ne_eqb}
+use borrow.Author.Tests.{lt-ltb, le-ltb}
 use Rattle.words.specs.Holding.{Holds}
 use Rattle.words.proofs.Parts.{get_or_sets_out}
 use Rattle.words.proofs.Holding.{holds_sets}
@@ -32,8 +32,6 @@ use Rattle.finished_memory.specs.Room.{capacity_of}
 use Rattle.finished_memory.proofs.Standing.{closed_is}
 use Rattle.finished_memory.proofs.Holds.{part_bytes, part_small}
 use Rattle.saving.specs.Saving.{Saving, save_by, save_memory, load_by, load_memory}
-use Rattle.memory_header.specs.Answers.{outcome_as}
-use Rattle.memory_header.specs.declared.Outcome.TheVariants as L
 use Rattle.saving.proofs.Faults.{Fault}
 
 -- ── an image that passes the test ──
@@ -68,10 +66,6 @@ module _ (m s buffer : List ℕ) (c : Capacity) (t : Trie) (holds : read_index m
       w ∙ (rw (le-ltb (length buffer) (length x) (subst (λ (y : List ℕ). length y ≤ length buffer) is h)) at (save_as m buffer (finished c t) holds))
 
 -- ── load ──
-
--- a number that is not 0 is answered as a refusal
-pub refused_as : (n : ℕ) → (n ≡ 0 → ⊥) → L.Refused n ≡ outcome_as n
-refused_as n h = rw (ne_eqb n 0 h) refl
 
 -- an image of this layout, loaded where the capacity is c
 abbrev pub load_image : Layout → Capacity → List ℕ → List ℕ → Done
@@ -135,7 +129,7 @@ module _ (c : Capacity) (m s : List ℕ) (n e : ℕ) where
     room = omega (arith, within, r.held)
 
     able : (x : List ℕ) → length x ≡ length m → Closable x head
-    able x q = record { nodes = r.few_nodes; entries = r.few_entries; payload = within; held = omega (arith, r.held) }
+    able x q = record { payload = within; held = omega (arith, r.held) }
 
     pub closable : (made : Header) → made ≡ head → (x : List ℕ) → length x ≡ length m → Closable x made
     closable made v x q = subst (Closable x) (sym v) (able x q)
