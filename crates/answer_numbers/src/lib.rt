@@ -1,63 +1,46 @@
-// The answers of calls as numbers: the refusal's, 0 where there is none, how many rows there are, how many blocks were taken.
+// The answers of calls as numbers: the refusal's, 0 where there is none, how many rows or bytes there are, how many blocks were taken.
 #![tactic(auto)]
 
 ghost use Rattle.std.specs.Prelude.{◌≡◌, set};
-ghost use Rattle.memory_header.specs.Answers.{outcome_number};
-ghost use Rattle.recording.specs.Recorded.{recorded_number};
+ghost use Rattle.definitions.specs.Refusals.{number_in};
 ghost use Rattle.stream_recording.specs.Answers.{streamed_number, streamed_taken};
-ghost use Rattle.handing_over.specs.Answers.{answer_number};
 ghost use Rattle.answer_numbers.specs.Counts.{count_after};
 
-use handing_over::Answer;
-use memory_header::Outcome;
-use recording::Recorded;
-use stream_recording::Streamed;
+use definitions::Refusal;
+use stream_recording::Stopped;
 
-// The number of a refusal, 0 where the call is done.
-pub fn outcome_number(r: Outcome) -> u64
-    ensures { result ≡ outcome_number r }
+// The number of a refusal, 0 where there is none.
+pub fn number_of<T: Copy>(answer: Result<T, Refusal>) -> u64
+    ensures { result ≡ number_in answer }
 {
-    match r {
-        Outcome::Done => 0,
-        Outcome::Refused(n) => n,
+    match answer {
+        Ok(_) => 0,
+        Err(refusal) => refusal.number(),
     }
 }
 
-// The number of a refusal, 0 where a block is taken.
-pub fn recorded_number(r: Recorded) -> u64
-    ensures { result ≡ recorded_number r }
+// Writes how many rows or bytes there are, unless the call is refused, and answers the refusal's number.
+pub fn put_count(count: &mut [u64; 1], answer: Result<usize, Refusal>) -> u64
+    ensures { (result ≡ number_in answer) × (count.new ≡ count_after answer count.old) }
 {
-    match r {
-        Recorded::Taken => 0,
-        Recorded::Refused(n) => n,
+    if let Ok(n) = answer {
+        count[0] = n as u64;
     }
-}
-
-// Writes how many rows there are, unless the search is refused, and answers the refusal's number.
-pub fn put_count(count: &mut [u64; 1], a: Answer) -> u64
-    ensures { (result ≡ answer_number a) × (count.new ≡ count_after a count.old) }
-{
-    match a {
-        Answer::Rows(n) => {
-            count[0] = n as u64;
-            0
-        }
-        Answer::Refused(n) => n,
-    }
+    number_of(answer)
 }
 
 // Writes how many blocks of a stream were taken, whether all were or not, and answers the refusal's number.
-pub fn put_taken(taken: &mut [u64; 1], r: Streamed) -> u64
-    ensures { (result ≡ streamed_number r) × (taken.new ≡ set taken.old 0 (streamed_taken r)) }
+pub fn put_taken(taken: &mut [u64; 1], answer: Result<u64, Stopped>) -> u64
+    ensures { (result ≡ streamed_number answer) × (taken.new ≡ set taken.old 0 (streamed_taken answer)) }
 {
-    match r {
-        Streamed::All(all) => {
+    match answer {
+        Ok(all) => {
             taken[0] = all;
             0
         }
-        Streamed::Stopped(before, n) => {
-            taken[0] = before;
-            n
+        Err(stopped) => {
+            taken[0] = stopped.taken;
+            stopped.refusal.number()
         }
     }
 }
