@@ -1,2 +1,2 @@
--- `Queries` has the laws of queries that stand one behind another. Assumes nothing.
+-- `Queries` has laws of an image that passed the test and of queries that stand one behind another. Assumes nothing.
 pub mod Queries

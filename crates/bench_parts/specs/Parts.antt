@@ -10,11 +10,6 @@ use Rattle.image_format.specs.Check.{and_if, check_image}
 use Rattle.row_buffer.specs.Answer as S
 use Rattle.searching.specs.Search.{search_answer}
 
--- the number of a refusal, 0 where there is none
-abbrev pub refusal_of : Layout → ℕ
-refusal_of (right nodes entries) = 0
-refusal_of (refused n) = n
-
 -- what is said of an image before conflicts are looked for
 abbrev pub but_conflicts : List ℕ → Layout
 but_conflicts s = and_if (index_rule (trie_in s)) image_broken (read_image s)

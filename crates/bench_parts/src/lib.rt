@@ -4,55 +4,58 @@
 
 ghost use Rattle.std.specs.Prelude.{◌≡◌, ◌≤◌, min, length};
 ghost use Rattle.trie.specs.Rule.{Rule};
-ghost use Rattle.fields.specs.Answers.{layout_of};
+ghost use Rattle.definitions.specs.Refusals.{number_in};
 ghost use Rattle.image_format.specs.Held.{trie_in};
-ghost use Rattle.image_format.specs.Reading.{read_image, RightImage};
+ghost use Rattle.image_format.specs.Reading.{fault_of, read_image, RightImage};
 ghost use Rattle.image_format.specs.Check.{check_image};
 ghost use Rattle.definitions.specs.Causes.{ScratchAfter};
-ghost use Rattle.row_buffer.specs.Answer.{finding_of};
+ghost use Rattle.row_buffer.specs.Answer.{finding_of, finding_in};
 ghost use Rattle.searching.specs.Search.{search_answer};
-ghost use Rattle.bench_parts.specs.Parts.{refusal_of, but_conflicts, query_size, last_query, last_of, query_search, counted, image_search, image_counted, ScratchIn};
+ghost use Rattle.bench_parts.specs.Parts.{but_conflicts, query_size, last_query, last_of, query_search, counted, image_search, image_counted, ScratchIn};
 
-use fields::Layout;
-use row_buffer::Finding;
+use definitions::{QUERY_LIMIT, Refusal};
 
-fn number(l: Layout) -> u64
-    ensures { result ≡ refusal_of (layout_of l) }
+// The number of what refuses a call, 0 where nothing does.
+fn number<T: Drop>(answer: Result<T, Refusal>) -> u64
+    ensures { result ≡ number_in answer }
 {
-    match l {
-        Layout::Right(_) => 0,
-        Layout::Refused(n) => n,
+    match answer {
+        Ok(_) => 0,
+        Err(r) => r.number(),
     }
 }
 
 // The whole test: layout, bytes left over, index rule, conflicts.
 #[unsafe(no_mangle)]
 pub extern "C" fn helmapricot_judge(img: &[u8]) -> u64
-    ensures { result ≡ refusal_of (check_image img.now) }
+    ensures { result ≡ fault_of (check_image img.now) }
 {
     number(index_rule::check(img))
 }
 
 // All of it but conflicts.
+fn check_but_conflicts(img: &[u8]) -> Result<(), Refusal>
+    ensures { number_in result ≡ fault_of (but_conflicts img.now) }
+{
+    image::read_image(img)?;
+    if index_rule::index_rule(img) {
+        Ok(())
+    } else {
+        Err(Refusal::ImageBroken)
+    }
+}
+
 #[unsafe(no_mangle)]
 pub extern "C" fn helmapricot_check(img: &[u8]) -> u64
-    ensures { result ≡ refusal_of (but_conflicts img.now) }
+    ensures { result ≡ fault_of (but_conflicts img.now) }
 {
-    match image::read_image(img) {
-        Layout::Refused(n) => n,
-        Layout::Right(_) => {
-            if index_rule::index_rule(img) {
-                return 0;
-            }
-            definitions::IMAGE_BROKEN
-        }
-    }
+    number(check_but_conflicts(img))
 }
 
 // Layout and bytes left over alone.
 #[unsafe(no_mangle)]
 pub extern "C" fn helmapricot_layout(img: &[u8]) -> u64
-    ensures { result ≡ refusal_of (read_image img.now) }
+    ensures { result ≡ fault_of (read_image img.now) }
 {
     number(image::read_image(img))
 }
@@ -61,31 +64,32 @@ pub extern "C" fn helmapricot_layout(img: &[u8]) -> u64
 fn query_size(queries: &[u8], size: usize) -> usize
     ensures { result ≡ query_size queries.now size }
 {
-    if size == 0 {
-        return queries.len();
+    if size == 0 || queries.len() < size {
+        queries.len()
+    } else {
+        size
     }
-    if queries.len() < size {
-        return queries.len();
-    }
-    size
 }
 
 // Searches for each of the queries, size bytes each, and answers for the last.
-fn search_each(img: &[u8], queries: &[u8], size: usize, scratch: &mut [u8], room: usize) -> Finding
+fn search_each(
+    img: &[u8],
+    queries: &[u8],
+    size: usize,
+    scratch: &mut [u8],
+    room: usize,
+) -> Result<usize, Refusal>
     requires { RightImage img.now × Rule (trie_in img.now) × (size ≤ 256) × (min 1 (length queries.now) ≤ size) × (size ≤ length queries.now) }
-    ensures finding { result ≡ finding_of (search_answer (trie_in img.now) (last_query queries.now size) (length scratch.old) room) }
+    ensures finding { finding_in result ≡ finding_of (search_answer (trie_in img.now) (last_query queries.now size) (length scratch.old) room) }
 {
     let last = queries.len() - size;
-    let mut at = 0;
-    while at < last {
-        let end = at + size;
-        searching::search_image(img, &queries[at..end], scratch, room);
-        at = end;
+    for query in queries[..last].chunks(size.max(1)) {
+        let _ = searching::search_image(img, query, scratch, room);
     }
     searching::search_image(img, &queries[last..], scratch, room)
 }
 
-// The same for an image that passed the test: the number of the refusal, 0 where there is none, and how many rows there are.
+// The same for an image that passed the test: how many rows there are is written into count.
 fn search_right(
     img: &[u8],
     queries: &[u8],
@@ -93,26 +97,39 @@ fn search_right(
     scratch: &mut [u8],
     room: usize,
     count: &mut [u64; 1],
-) -> u64
+) -> Result<(), Refusal>
     requires { RightImage img.now × Rule (trie_in img.now) }
-    ensures answer { result ≡ (query_search (trie_in img.now) (last_of queries.now size) (length scratch.old) room).refusal }
+    ensures answer { number_in result ≡ (query_search (trie_in img.now) (last_of queries.now size) (length scratch.old) room).refusal }
     ensures count { count.new ≡ counted (query_search (trie_in img.now) (last_of queries.now size) (length scratch.old) room) count.old }
     ensures scratch { ScratchAfter (query_search (trie_in img.now) (last_of queries.now size) (length scratch.old) room).refusal scratch.old scratch.new }
 {
     let n = query_size(queries, size);
-    if definitions::QUERY_LIMIT < n {
-        return definitions::QUERY_TOO_LONG;
+    if QUERY_LIMIT < n {
+        return Err(Refusal::QueryTooLong);
     }
-    let found = search_each(img, queries, n, scratch, room);
-    if found.refusal != 0 {
-        return found.refusal;
-    }
-    count[0] = found.count as u64;
-    0
+    let rows = search_each(img, queries, n, scratch, room)?;
+    count[0] = rows as u64;
+    Ok(())
 }
 
-// Tests an image once and searches it for each of the queries, size bytes each: so the search can be timed apart from the
-// test. The answer is that of the last search.
+// Tests an image once and searches it for each of the queries, size bytes each.
+fn test_and_search(
+    img: &[u8],
+    queries: &[u8],
+    size: usize,
+    scratch: &mut [u8],
+    room: usize,
+    count: &mut [u64; 1],
+) -> Result<(), Refusal>
+    ensures answer { number_in result ≡ (image_search img.now (last_of queries.now size) (length scratch.old) room).refusal }
+    ensures count { count.new ≡ image_counted img.now (last_of queries.now size) (length scratch.old) room count.old }
+    ensures scratch { ScratchIn (check_image img.now) (image_search img.now (last_of queries.now size) (length scratch.old) room) scratch.old scratch.new }
+{
+    index_rule::check(img)?;
+    search_right(img, queries, size, scratch, room, count)
+}
+
+// The same for C: so the search can be timed apart from the test. The answer is that of the last search.
 #[unsafe(no_mangle)]
 pub extern "C" fn helmapricot_search_image(
     img: &[u8],
@@ -126,8 +143,5 @@ pub extern "C" fn helmapricot_search_image(
     ensures count { count.new ≡ image_counted img.now (last_of queries.now size) (length scratch.old) room count.old }
     ensures scratch { ScratchIn (check_image img.now) (image_search img.now (last_of queries.now size) (length scratch.old) room) scratch.old scratch.new }
 {
-    match index_rule::check(img) {
-        Layout::Refused(n) => n,
-        Layout::Right(_) => search_right(img, queries, size, scratch, room, count),
-    }
+    number(test_and_search(img, queries, size, scratch, room, count))
 }
