@@ -17,7 +17,7 @@ use Rattle.finished_memory.proofs.Holds.{part_bytes, part_small}
 use Rattle.inspecting.specs.Held.{AcceptedImage, ImageIn}
 use Rattle.inspecting.proofs.Facts.{same_part}
 use Rattle.searching.specs.Search.{search_answer}
-use Rattle.row_buffer.specs.declared.Finding.{Finding}
+use Rattle.row_buffer.specs.Answer.{Finding}
 use Rattle.row_buffer.proofs.Answering.{Answers}
 use Rattle.finding.specs.Find.{RowsFound, find_by}
 use Rattle.finding.proofs.FindCall.{by_pieces, Finds, searched}

@@ -16,9 +16,8 @@ use Rattle.definitions.specs.Calls.{Capacity}
 use Rattle.trie.specs.Trie.{Trie, trie_pieces}
 use Rattle.trie.specs.Rule.{Rule}
 use Rattle.index_memory.specs.Index.{Index, finished, read_index}
-use Rattle.row_buffer.specs.Answer.{refused, finding_of, AtFront, rows_answer}
+use Rattle.row_buffer.specs.Answer.{Finding, refused, finding_of, AtFront, rows_answer}
 use Rattle.searching.specs.Search.{search_answer}
-use Rattle.row_buffer.specs.declared.Finding.{Finding}
 use Rattle.row_buffer.proofs.Answering.{Answers, none_answers}
 use Rattle.searching.proofs.Equations.{answer_by_pieces}
 use Rattle.finding.specs.Find.{RowsFound, rows_or_refused, find_by, find_memory}

@@ -11,8 +11,7 @@ use Rattle.definitions.specs.Causes.{index_rule_broken, before_finish, wrong_num
 use Rattle.definitions.specs.Calls.{number_checks}
 use Rattle.check_character.specs.Number.{number_in, right}
 use Rattle.index_memory.specs.Index.{standing_of, read_index}
-use Rattle.row_buffer.specs.Answer.{refused}
-use Rattle.row_buffer.specs.declared.Finding.{Finding}
+use Rattle.row_buffer.specs.Answer.{Finding, refused}
 use Rattle.finding.specs.Find.{RowsFound, rows_or_refused, find_memory}
 use Rattle.finding.proofs.FindCall.{Finds}
 use Rattle.number_finding.specs.FindNumber.{find_number_memory}

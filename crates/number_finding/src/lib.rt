@@ -4,33 +4,39 @@
 ghost use Rattle.std.specs.Prelude.{◌≡◌, false, length};
 ghost use Rattle.definitions.specs.Causes.{first_cause, refusal_of, ScratchAfter};
 ghost use Rattle.definitions.specs.Calls.{number_checks};
+ghost use Rattle.definitions.specs.Refusals.{number_of};
 ghost use Rattle.index_memory.specs.Index.{standing_of, read_index};
-ghost use Rattle.row_buffer.specs.Answer.{finding_of, AtFront};
+ghost use Rattle.row_buffer.specs.Answer.{finding_of, finding_in, AtFront};
 ghost use Rattle.number_finding.specs.FindNumber.{find_number_memory};
 
 use check_character::NUMBER_SIZE;
+use definitions::Refusal;
 use inspecting::Held;
-use row_buffer::Finding;
 
 // The refusal of a search for a wrong number: what the memory is refused for comes first.
-fn wrong_number(mem: &[u8]) -> u64
-    ensures { result ≡ refusal_of (first_cause (number_checks (standing_of (read_index mem.now)) false)) }
+fn wrong_number(mem: &[u8]) -> Refusal
+    ensures { number_of result ≡ refusal_of (first_cause (number_checks (standing_of (read_index mem.now)) false)) }
 {
     match inspecting::inspect(mem) {
-        Held::Broken => definitions::INDEX_RULE_BROKEN,
-        Held::Open(_) => definitions::BEFORE_FINISH,
-        Held::Finished(_) => definitions::WRONG_NUMBER,
+        Held::Broken => Refusal::IndexRuleBroken,
+        Held::Open(_) => Refusal::BeforeFinish,
+        Held::Finished(_) => Refusal::WrongNumber,
     }
 }
 
-// Finds the rows of a typed number, where so many rows have room; they stand at the front of scratch.
-pub fn find_number(mem: &[u8], typed: &[u8], scratch: &mut [u8], room: usize) -> Finding
-    ensures found { result ≡ finding_of (find_number_memory mem.now typed.now (length scratch.old) room) }
+// Finds the rows of a typed number, where so many rows have room; they stand at the front of scratch. Answers how many they are.
+pub fn find_number(
+    mem: &[u8],
+    typed: &[u8],
+    scratch: &mut [u8],
+    room: usize,
+) -> Result<usize, Refusal>
+    ensures found { finding_in result ≡ finding_of (find_number_memory mem.now typed.now (length scratch.old) room) }
     ensures rows { AtFront (find_number_memory mem.now typed.now (length scratch.old) room).rows scratch.new }
     ensures scratch { ScratchAfter (find_number_memory mem.now typed.now (length scratch.old) room).refusal scratch.old scratch.new }
 {
     if !check_character::is_number(typed) {
-        return row_buffer::no_rows(wrong_number(mem));
+        return Err(wrong_number(mem));
     }
     finding::find(mem, &typed[..NUMBER_SIZE], scratch, room)
 }

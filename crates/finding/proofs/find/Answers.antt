@@ -15,14 +15,14 @@ pub returns-in-Broken : goal.returns-in-Broken
 returns-in-Broken c =
     let a = c.args in
     let w = subst (Inspects a.mem.now) c.in-Broken.is c.inspect.ensures in
-    let w = finds a.mem.now a.q.now a.scratch.now _ _ w.holds (none_finds a.scratch.now (number index_rule_broken) refl c.no_rows.ensures) in
+    let w = finds a.mem.now a.q.now a.scratch.now _ _ w.holds (none_finds a.scratch.now (number index_rule_broken) refl refl) in
     record { found = w.0; rows = w.1.0; scratch = w.1.1 }
 
 pub returns-in-Open : goal.returns-in-Open
 returns-in-Open c =
     let a = c.args in
     let w = subst (Inspects a.mem.now) c.in-Open.is c.inspect.ensures in
-    let w = finds a.mem.now a.q.now a.scratch.now _ _ w.holds (none_finds a.scratch.now (number before_finish) refl c.no_rows-in-Open.ensures) in
+    let w = finds a.mem.now a.q.now a.scratch.now _ _ w.holds (none_finds a.scratch.now (number before_finish) refl refl) in
     record { found = w.0; rows = w.1.0; scratch = w.1.1 }
 
 pub returns-in-Finished : goal.returns-in-Finished

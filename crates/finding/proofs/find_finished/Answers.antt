@@ -1,5 +1,6 @@
 -- `finding::find_finished` meets its contract: the image passed the test, so what is found is that by its pieces. Assumes nothing.
 use native.Mathlib.Omega.{arith}
+use mathlib.Core.Path.{refl}
 use borrow.Author.Rules.{rules}
 use borrow.Author.Tests.{lt-ltb}
 use Rattle.memory_header.specs.Answers.{header_of}
@@ -11,7 +12,7 @@ pub returns-then-q-gt-QUERY_LIMIT : goal.returns-then-q-gt-QUERY_LIMIT
 returns-then-q-gt-QUERY_LIMIT c =
     let long = c.if-q-gt-QUERY_LIMIT.true in
     record {
-      found = rw (lt-ltb 256 _ long) c.no_rows.ensures;
+      found = rw (lt-ltb 256 _ long) refl;
       rows = rw (lt-ltb 256 _ long) (none_front _);
       scratch = unchanged _ _;
     }

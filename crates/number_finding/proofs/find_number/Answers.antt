@@ -14,7 +14,7 @@ returns-then-not-is_number c =
     let a = c.args in
     let wrong = sym c.is_number.ensures ∙ c.if-not-is_number.true in
     let w = none_finds a.scratch.now _ (wrong_is_refused a.mem.now a.typed.now (length a.scratch.now) a.room wrong)
-    (c.no_rows.ensures ∙ ap (λ (n : ℕ). finding_of (refused n)) c.wrong_number.ensures) in
+    (ap (λ (n : ℕ). finding_of (refused n)) c.wrong_number.ensures) in
     record { found = w.0; rows = w.1.0; scratch = w.1.1 }
 
 pub slice_bounds-find-end : goal.slice_bounds-find-end
