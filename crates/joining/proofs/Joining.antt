@@ -26,8 +26,11 @@ use Rattle.place_buffer.specs.Buffer.{Valid, Taken}
 use Rattle.place_lookup.specs.Lookup.{Within}
 use Rattle.definitions.proofs.Locations.{locations_snoc}
 use Rattle.place_buffer.proofs.Adding.{taken_none, taken_same, taken_over, taken_more}
+use Rattle.location_lists.specs.declared.List.{List as Listing}
+use Rattle.joining.specs.Lists.{listed}
+use Rattle.joining.specs.Below.{below_count, NoneAt, FirstAt}
 use Rattle.joining.proofs.Each.{joins_each_mem, mem_joins_each, none_joined}
-use Rattle.joining.proofs.Search.{sorted_behind, sorted_from, locations_first, locations_part, location_listed, Parted}
+use Rattle.joining.proofs.Search.{sorted_behind, sorted_from, locations_first, locations_part, location_listed, Parted, parted}
 
 -- ── one location and one place ──
 
@@ -120,6 +123,18 @@ module _ (img : List ℕ) (n at key i : ℕ) (d : Parted img n at key i) (l : Lo
     key_done {s} {s'} {p} {o} h k t =
         let e : j ≡ n = omega arith in
         subst (λ (i : ℕ). JoinedTo img at key l s s' p i o) e t
+
+-- none has the address
+pub none_joined_to : {img s : List ℕ} {list : Listing} {key : ℕ} {p : Places} (x : Location) → NoneAt img list key → Valid s p → Taken s s p (joins x key (listed img list)) (Some p)
+none_joined_to {img} {s} {list} {key} {p} x h v = subst (λ (ls : List Location). Taken s s p ls (Some p)) (sym (joins_none x key (listed img list) h.none)) (taken_none v)
+
+-- by the first with the address a list parts
+pub parted_at : {img : List ℕ} {list : Listing} {key a i : ℕ} → Sorted Less (listed img list) → FirstAt img list key i → a ≡ key → Parted img list.count list.at a i
+parted_at {img} {list} {key} {a} {i} up f e = parted img list.count list.at a i up (f.below ∙ ap (λ (k : ℕ). below_count k (listed img list)) (sym e))
+
+-- the address by another name
+pub joined_to_key : (x : Location) (ls : List Location) {s s' : List ℕ} {p : Places} {o : Option Places} {a b : ℕ} → a ≡ b → Taken s s' p (joins x a ls) o → Taken s s' p (joins x b ls) o
+joined_to_key x ls {s} {s'} {p} {o} e t = subst (λ (key : ℕ). Taken s s' p (joins x key ls) o) e t
 
 -- ── one place and the locations of a list ──
 

@@ -4,6 +4,7 @@ use native.Mathlib.Omega.{arith}
 use mathlib.Core.Path.{◌≡◌, refl, sym, ap, subst, ◌∙◌}
 use mathlib.Core.Bool.{Bool, true, false, cond}
 use mathlib.Core.Logic.{◌⊎◌, inl, inr}
+use mathlib.Core.List.Memᴰ.{append_cases}
 use mathlib.Core.List.Memᴰ.{head as here}
 use mathlib.Core.List.Memᴰ.{tail as later}
 use mathlib.Core.List.{List, [], ◌∷◌, ◌++◌, Memᴰ as Mem}
@@ -104,6 +105,25 @@ parted s n at key i up e =
       behind = behind_from key (locations_in s i at) (locations_in s (n - i) (at + i * 24)) up' count;
       in_order = sorted_behind (locations_in s i at) (locations_in s (n - i) (at + i * 24)) up';
     }
+
+-- where the first of the others has another address, none has the key
+pub parted_none : {s : List ℕ} {n at key i : ℕ} → Parted s n at key i → (i < n → le64 s (at + i * 24) ≡ key → ⊥) → (m : Location) → Mem m (locations_in s n at) → m.address ≡ key → ⊥
+unfolding locations_in
+parted_none {s} {n} {at} {key} {i} d ne m h e = go (append_cases (locations_in s i at) (subst (Mem m) d.whole h))
+  where
+    rest : (k : ℕ) → k ≡ n - i → Mem m (locations_in s k (at + i * 24)) → ⊥
+    rest zero z j = elim j [ ]
+    rest (suc k) z j =
+        let first = locations_first s (n - i) (at + i * 24) (omega arith) in
+        let more = locations_in s (n - i - 1) (at + i * 24 + 24) in
+        let least : key ≤ le64 s (at + i * 24) = d.behind (location_at s (at + i * 24)) (subst (Mem (location_at s (at + i * 24))) (sym first) (here refl)) in
+        let there : Mem m (locations_in s (n - i) (at + i * 24)) = subst (λ (x : ℕ). Mem m (locations_in s x (at + i * 24))) z j in
+        let above = sorted_from (location_at s (at + i * 24)) more (subst (Sorted Less) first d.in_order) m (subst (Mem m) first there) in
+        ne (omega arith) (omega arith)
+
+    go : Mem m (locations_in s i at) ⊎ Mem m (locations_in s (n - i) (at + i * 24)) → ⊥
+    go (inl j) = let b = d.front m j in omega arith
+    go (inr j) = rest (n - i) refl j
 
 -- ── the search for the key ──
 

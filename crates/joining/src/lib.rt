@@ -1,14 +1,15 @@
 // Joins locations that end where places begin, and adds what they have in common to a set of places.
 #![tactic(auto)]
 
-ghost use Rattle.std.specs.Prelude.{◌≡◌, [], ◌∷◌, ◌+◌, ◌*◌, ◌≤◌, ◌<◌};
+ghost use Rattle.std.specs.Prelude.{◌≡◌, ◌+◌, ◌*◌, ◌≤◌, ◌<◌, MatchOption};
+ghost use Rattle.words.specs.Words.{le64};
 ghost use Rattle.definitions.specs.Location.{location_at};
 ghost use Rattle.definitions.specs.Places.{joins};
 ghost use Rattle.location.specs.Plain.{plain};
 ghost use Rattle.trie.specs.Find.{joins_each};
 ghost use Rattle.place_buffer.specs.Buffer.{Valid, Taken};
 ghost use Rattle.joining.specs.Lists.{Inside, Ascends, listed, spanned};
-ghost use Rattle.joining.specs.Below.{below_count};
+ghost use Rattle.joining.specs.Below.{below_count, NoneAt, FirstAt};
 
 use definitions::LOCATION_SIZE;
 use location::SpacetimeLocation;
@@ -30,22 +31,6 @@ fn location_in(img: &[u8], list: List, i: usize) -> SpacetimeLocation
     location::location_at(img, list.at + i * LOCATION_SIZE)
 }
 
-// Adds the life that l and m have in common, where there is one.
-fn join_one(
-    l: SpacetimeLocation,
-    m: SpacetimeLocation,
-    scratch: &mut [u8],
-    p: Places,
-) -> Option<Places>
-    requires { Valid scratch.old p }
-    ensures { Taken scratch.old scratch.new p (joins (plain l) m.address.0 (plain m ∷ [])) result }
-{
-    match l.overlap(m) {
-        Some(x) => place_buffer::place(scratch, p, x),
-        None => Some(p),
-    }
-}
-
 // How many of a sorted list have an address below key.
 fn count_below(img: &[u8], list: List, key: u64) -> usize
     requires { Ascends img.now list }
@@ -56,64 +41,43 @@ fn count_below(img: &[u8], list: List, key: u64) -> usize
     })
 }
 
-// Joins x to those of a sorted list that have the address key: the first that are not below it.
-fn join_key(
+// The number of the first location of a sorted list with the address key; none where none has it.
+fn first_at(img: &[u8], list: List, key: u64) -> Option<usize>
+    requires { Ascends img.now list }
+    ensures { MatchOption result (NoneAt img.now list key) (FirstAt img.now list key) }
+{
+    let first = count_below(img, list, key);
+    if first < list.count && location_in(img, list, first).address.0 == key {
+        Some(first)
+    } else {
+        None
+    }
+}
+
+// Joins x to those of a sorted list with the address of the first, from number first on.
+fn join_from(
     img: &[u8],
     list: List,
-    key: u64,
+    first: usize,
     x: SpacetimeLocation,
     scratch: &mut [u8],
     p: Places,
 ) -> Option<Places>
-    requires { Ascends img.now list × Valid scratch.old p }
-    ensures { Taken scratch.old scratch.new p (joins (plain x) key (listed img.now list)) result }
+    requires { Ascends img.now list × FirstAt img.now list (le64 img.now (list.at + first * 24)) first × Valid scratch.old p }
+    ensures { Taken scratch.old scratch.new p (joins (plain x) (le64 img.now (list.at + first * 24)) (listed img.now list)) result }
 {
-    let first = count_below(img, list, key);
+    let key = location_in(img, list, first).address.0;
     let mut r = p;
     for i in first..list.count {
         let m = location_in(img, list, i);
         if key < m.address.0 {
             return Some(r);
         }
-        r = join_one(x, m, scratch, r)?;
+        if let Some(both) = x.overlap(m) {
+            r = place_buffer::place(scratch, r, both)?;
+        }
     }
     Some(r)
-}
-
-// Joins the place m to those of a sorted list that end where it begins, k bytes further on.
-fn join_place(
-    img: &[u8],
-    list: List,
-    k: usize,
-    m: SpacetimeLocation,
-    scratch: &mut [u8],
-    p: Places,
-) -> Option<Places>
-    requires { Ascends img.now list × Valid scratch.old p }
-    ensures { Taken scratch.old scratch.new p (joins_each k (listed img.now list) (plain m ∷ [])) result }
-{
-    match m.address.0.checked_sub(k as u64) {
-        Some(key) => join_key(img, list, key, m, scratch, p),
-        None => Some(p),
-    }
-}
-
-// Joins l, of k bytes, to those of a sorted list that begin where it ends.
-fn join_location(
-    img: &[u8],
-    list: List,
-    k: usize,
-    l: SpacetimeLocation,
-    scratch: &mut [u8],
-    p: Places,
-) -> Option<Places>
-    requires { Ascends img.now list × Valid scratch.old p }
-    ensures { Taken scratch.old scratch.new p (joins (plain l) (l.address.0 + k) (listed img.now list)) result }
-{
-    match l.address.0.checked_add(k as u64) {
-        Some(key) => join_key(img, list, key, l, scratch, p),
-        None => Some(p),
-    }
 }
 
 // Joins a sorted list of locations of k bytes with the places of a span, which stands before the set.
@@ -135,7 +99,13 @@ pub fn filter_results(
     let mut r = p;
     for t in behind.from..behind.to {
         let m = location::location_at(scratch, t * LOCATION_SIZE);
-        r = join_place(img, list, k, m, scratch, r)?;
+        let Some(key) = m.address.0.checked_sub(k as u64) else {
+            continue;
+        };
+        let Some(first) = first_at(img, list, key) else {
+            continue;
+        };
+        r = join_from(img, list, first, m, scratch, r)?;
     }
     Some(r)
 }
@@ -156,7 +126,13 @@ pub fn filter_lists(
     let mut r = p;
     for u in 0..list.count {
         let l = location_in(img, list, u);
-        r = join_location(img, to, k, l, scratch, r)?;
+        let Some(key) = l.address.0.checked_add(k as u64) else {
+            continue;
+        };
+        let Some(first) = first_at(img, to, key) else {
+            continue;
+        };
+        r = join_from(img, to, first, l, scratch, r)?;
     }
     Some(r)
 }

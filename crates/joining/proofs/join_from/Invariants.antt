@@ -1,8 +1,8 @@
--- `joining::join_key` meets its contract: none of those below the key has it, those so far are joined, and behind one above the key none has it. Assumes nothing.
+-- `joining::join_from` meets its contract: those so far are joined, and behind one above the key none has it. Assumes nothing.
 use Rattle.std.specs.Prelude.{Some}
 use Rattle.location.specs.Plain.{plain}
 use Rattle.joining.proofs.Joining.{JoinedTo}
-use Rattle.joining.proofs.join_key.Given as goal
+use Rattle.joining.proofs.join_from.Given as goal
 
 abbrev pub invariant-loop-i : goal.invariant-loop-i
 invariant-loop-i l = JoinedTo l.img l.list.at l.key (plain l.x) l.initial.scratch l.scratch l.initial.r l.i (Some l.r)
