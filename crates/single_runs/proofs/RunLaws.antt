@@ -20,7 +20,7 @@ use Rattle.location_lists.specs.Lists.{held, Within, AreLists, lists_in}
 use Rattle.location_lists.specs.declared.List.{List as Listing}
 use Rattle.location_lists.specs.declared.Lists.{Lists as Walked}
 use Rattle.image_format.specs.Held.{Entry}
-pub use Rattle.fields.proofs.Singles.{by_test, not_so}
+pub use Rattle.fields.proofs.Singles.{by_test}
 use Rattle.fields.specs.Singles.{Bare, SingleWithoutLists}
 use Rattle.image_walk.specs.Parts.{list_in, parts_at}
 use Rattle.image_walk.specs.Tables.{slot_in}
@@ -164,19 +164,6 @@ goes_down s p q e f u v z x y d c g h m n =
     never : {v : ℕ} {w : Forest} → (w ≡ leaf → v ≡ 0) → v ≡ 1 → w ≡ leaf → ⊥
     never i j l = let u = i l in omega arith
 
-pub behind_none : (o : Option Entry) (due : ℕ) → none ≡ o → None ≡ byte_behind o due
-behind_none o due q = ap (λ (p : Option Entry). byte_behind p due) q
-
-pub behind_other : (o : Option Entry) (e : Entry) (due : ℕ) → some e ≡ o → (e.node ≡ due → ⊥) → None ≡ byte_behind o due
-behind_other o e due q n =
-    let z : cond (eqb e.node due) (Some e.byte) None ≡ None = rw (ne_eqb e.node due n) refl in
-    sym z ∙ ap (λ (p : Option Entry). byte_behind p due) q
-
-pub behind_here : (o : Option Entry) (e : Entry) (due : ℕ) → some e ≡ o → e.node ≡ due → Some e.byte ≡ byte_behind o due
-behind_here o e due q n =
-    let z : cond (eqb e.node due) (Some e.byte) None ≡ Some e.byte = rw (eq-eqb e.node due n) refl in
-    sym z ∙ ap (λ (p : Option Entry). byte_behind p due) q
-
 -- a byte of an entry whose node stands there is that of the entry
 behind_is : (o : Option Entry) (due r : ℕ) → Some r ≡ byte_behind o due → some (record { byte = r; node = due }) ≡ o
 behind_is none due r e = absurd (cc)
@@ -198,10 +185,6 @@ pub goes_behind : (s : List ℕ) (p q : Pair) (b c : ℕ) → Some b ≡ byte_be
     BareSingle (parts_at s (p.table + 10)) q.table × ((parts_at s (p.table + 10)).suffixes.count ≡ 0) → BareSingle (parts_at s (p.other + 10)) q.other → Down s p q
 goes_behind s p q b c e f z =
     goes_down s p q (record { byte = b; node = p.table + 10 }) (record { byte = c; node = p.other + 10 }) (behind s p.table b e) (behind s p.other c f) (sym z)
-
--- an entry of a table ends within the image
-pub table_room : (s : List ℕ) (table : ℕ) → HasTable s table 1 → table + 9 ≤ length s
-table_room s table h = let z : ◌≡◌ {A = ℕ} 1 256 → ⊥ = omega arith in let r = h.is.within.entries z in omega arith
 
 -- ── what the child in a table owes ──
 

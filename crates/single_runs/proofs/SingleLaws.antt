@@ -70,9 +70,6 @@ module _ (s : List ℕ) (table : ℕ) (e : Entry) (q : some e ≡ slot_in s tabl
           let y = single_at (table + 10) z x d g t (table + 35) (table + 67) (omega arith) (omega arith) in
           record { byte = y.0; lists = y.1; below = y.2; is = y.3; prefixes = y.4; chunks = y.5; suffixes = y.6; leads = y.7 }
 
-pub single_table : (s : List ℕ) (table : ℕ) → HasTable s table 1 → SingleIn s table → HasTable s (table + 67) 1
-single_table s table h x = let y = x.is h.depth h.forest h.is in record { depth = h.depth - 1; forest = y.below; is = y.leads }
-
 -- ── one level ──
 
 union_one : (l : Location) → is_union 0 (l ∷ []) ((l ∷ []) ∷ []) ≡ true

@@ -1,22 +1,13 @@
 -- `single_runs::both_down` meets its contract. Assumes nothing.
 use native.Mathlib.Omega.{arith}
-use Rattle.single_runs.proofs.RunLaws.{goes_behind, laid_behind, laid_room, table_room, without_lists}
+use Rattle.single_runs.proofs.RunLaws.{goes_behind, laid_behind, laid_room, without_lists}
 use Rattle.single_runs.proofs.both_down.Goals as goal
-
-pub overflow_add-due : goal.overflow_add-due
-overflow_add-due c = let r = table_room _ _ c.requires.0 in omega arith
-
-pub overflow_add-front_due : goal.overflow_add-front_due
-overflow_add-front_due c = let r = table_room _ _ c.requires.1 in omega arith
 
 pub is_single_without_lists-requires : goal.is_single_without_lists-requires
 is_single_without_lists-requires c = let r = laid_room _ _ (laid_behind c.args.s.now c.args.from.table _ c.in_ok-byte.ensures c.requires.0) in omega arith
 
 pub bare_single_table-requires : goal.bare_single_table-requires
 bare_single_table-requires c = laid_behind c.args.s.now c.args.from.other _ c.in_ok-front.ensures c.requires.1
-
-pub overflow_add-result : goal.overflow_add-result
-overflow_add-result c = let r = laid_room _ _ (laid_behind c.args.s.now c.args.from.table _ c.in_ok-byte.ensures c.requires.0) in omega arith
 
 pub returns : goal.returns
 returns c =

@@ -1,12 +1,8 @@
 -- `single_runs::has_single_with_suffix` meets its contract. Assumes nothing.
-use native.Mathlib.Omega.{arith}
 use mathlib.Core.Path.{refl}
-use Rattle.single_runs.proofs.RunLaws.{behind, laid_behind, table_room}
+use Rattle.single_runs.proofs.RunLaws.{behind, laid_behind}
 use Rattle.single_runs.proofs.SingleLaws.{behind_some, single_in}
 use Rattle.single_runs.proofs.has_single_with_suffix.Goals as goal
-
-pub overflow_add-table : goal.overflow_add-table
-overflow_add-table c = let r = table_room _ _ c.requires in omega arith
 
 pub is_single_with_suffix-requires : goal.is_single_with_suffix-requires
 is_single_with_suffix-requires c =
