@@ -210,3 +210,8 @@ module _ (o : Listed) (s : List ℕ) (work i at : ℕ) (held : work + 56 * (i + 
       → s₁ ≡ cond (takes o (tail_in s work i)) (sets s (at + 8 + 24 * 0) (location_bytes (tail_in s work i).entry.at)) s → Copied s s₁ at n (locations_of (taken o (tails_in s work i (i + 1))))
   single_copied s₁ n b₁ en es =
       copy_done o s work i (i + 1) at (omega arith) held (copy_turn o s work i (i + 1) at (omega arith) held room first (omega arith) s₁ n b₁ en es) (omega arith)
+
+-- one at most
+pub few_taken : (c : Bool) (n : ℕ) → n ≡ 0 + cond c 1 0 → n ≤ 1
+few_taken true n e = omega arith
+few_taken false n e = omega arith

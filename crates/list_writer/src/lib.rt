@@ -93,17 +93,28 @@ fn put_none(mem: &mut [u8], e: End) -> End
     behind_list(e, 0)
 }
 
-// Writes the list of the location of the single tail i, which is empty where that is not taken.
+// Writes the list of the location of the single tail i, which is empty where that is not taken: it needs no sort.
 fn put_single_list(mem: &mut [u8], work: usize, i: usize, listed: Listed, e: End) -> End
     requires { (work + 56 * (i + 1) ≤ length mem.old) × (e.at + 8 + 24 * length (taken listed (tails_in mem.old work i (i + 1))) ≤ work) × (e.entries ≤ e.at) }
     ensures { ListWritten mem.old mem.new (locations_of (taken listed (tails_in mem.old work i (i + 1)))) e result }
 {
     let n = put_taken(mem, work, i, listed, e.at, 0);
+    words::put64(mem, e.at, n as u64);
+    behind_list(e, n)
+}
+
+// Writes the list of the locations of a span's tails that are taken.
+fn put_long_list(mem: &mut [u8], s: Span, listed: Listed, e: End) -> End
+    requires { (s.lo ≤ s.hi) × (s.work + 56 * s.hi ≤ length mem.old) × (e.at + 8 + 24 * length (taken listed (tails_in mem.old s.work s.lo s.hi)) ≤ s.work) × (e.entries ≤ e.at) }
+    ensures { ListWritten mem.old mem.new (locations_of (taken listed (tails_in mem.old s.work s.lo s.hi))) e result }
+{
+    let n = put_run(mem, s, listed, e.at);
     let kept = list_closing::close_list(mem, e.at, n);
     behind_list(e, kept)
 }
 
-// Writes the list of the locations of a span's tails that are taken. Most spans have no tail or one, so these have no loop.
+// The same. Most spans have no tail or one, which is known where this is called: so it is made a part of its callers.
+#[inline(always)]
 pub fn put_list(mem: &mut [u8], s: Span, listed: Listed, e: End) -> End
     requires { (s.lo ≤ s.hi) × (s.work + 56 * s.hi ≤ length mem.old) × (e.at + 8 + 24 * length (taken listed (tails_in mem.old s.work s.lo s.hi)) ≤ s.work) × (e.entries ≤ e.at) }
     ensures { ListWritten mem.old mem.new (locations_of (taken listed (tails_in mem.old s.work s.lo s.hi))) e result }
@@ -114,7 +125,5 @@ pub fn put_list(mem: &mut [u8], s: Span, listed: Listed, e: End) -> End
     if s.hi - s.lo == 1 {
         return put_single_list(mem, s.work, s.lo, listed, e);
     }
-    let n = put_run(mem, s, listed, e.at);
-    let kept = list_closing::close_list(mem, e.at, n);
-    behind_list(e, kept)
+    put_long_list(mem, s, listed, e)
 }

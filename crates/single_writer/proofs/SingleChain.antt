@@ -5,6 +5,7 @@ use native.Mathlib.Nat.{le_refl}
 use native.Mathlib.Omega.{arith}
 use mathlib.Core.Path.{◌≡◌, refl, sym, ap, subst, ◌∙◌}
 use mathlib.Core.Bool.{Bool, true, false}
+use mir.Val.{bool_byte}
 use mathlib.Core.Logic.{inl, inr}
 use mathlib.Core.List.Memᴰ.{eq_of_singleton as only}
 use mathlib.Core.List.{List, [], ◌∷◌, ◌++◌, Memᴰ as Mem}
@@ -48,6 +49,11 @@ module _ (s : List ℕ) (work i k : ℕ) {b : Bool} (e : b ≡ ltb k (length (ta
 
 pub goes_run : (s : List ℕ) (work i d : ℕ) (w : Bool) → d < length (tail_in s work i).entry.path → i ≡ i + length (run (ends_as d w) (tails_in s work i (i + 1)))
 goes_run s work i d w long = omega (arith, run_stops s work (i + 1) (ends_as d w) i (omega arith) (not_ended d (tail_in s work i) long w))
+
+-- where the run of a single tail ends
+pub one_run : (s : List ℕ) (work i d n : ℕ) (w p : Bool) → p ≡ ends_as d w (tail_in s work i) → n ≡ bool_byte p → i + n ≡ i + length (run (ends_as d w) (tails_in s work i (i + 1)))
+one_run s work i d n w true e f = omega (arith, run_goes s work (i + 1) (ends_as d w) i (omega arith) (sym e), run_none s work (i + 1) (ends_as d w) (i + 1) (le_refl (i + 1)))
+one_run s work i d n w false e f = omega (arith, run_stops s work (i + 1) (ends_as d w) i (omega arith) (sym e))
 
 pub ends_run : (s : List ℕ) (work i d parts : ℕ) → length (tail_in s work i).entry.path ≡ d → parts ≡ i + length (run (ends_as d false) (tails_in s work i (i + 1)))
     → i + 1 ≡ parts + length (run (ends_as d true) (tails_in s work parts (i + 1)))

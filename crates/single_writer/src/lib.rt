@@ -17,7 +17,8 @@ pub struct Head {
     pub end: End,
 }
 
-// Writes the lists of a node: its tails end inside their pieces up to parts, with them up to below, and go on from there.
+// Writes the lists of a node, as a part of what calls it: its tails end inside their pieces up to parts, with them up to below, and go on from there.
+#[inline(always)]
 fn put_lists(mem: &mut [u8], s: Span, parts: usize, below: usize, e: End) -> End
     requires { ListsAsked mem.old s.work s.lo parts below s.hi e }
     ensures { ListsWritten mem.old mem.new s.work s.lo parts below s.hi e result }
@@ -46,7 +47,8 @@ fn behind_kind(e: End) -> End
     }
 }
 
-// Writes the kind of a node of n children, and its lists.
+// Writes the kind of a node of n children, and its lists; a part of its callers too, most of which have a single tail.
+#[inline(always)]
 pub fn put_front(mem: &mut [u8], s: Span, parts: usize, below: usize, n: usize, e: End) -> End
     requires { FrontAsked mem.old s.work s.lo s.hi s.depth parts below n e }
     ensures { Front mem.old mem.new s.work s.lo s.hi s.depth n e result }
@@ -90,8 +92,8 @@ fn put_leaf(mem: &mut [u8], work: usize, i: usize, d: usize, e: End) -> End
         hi: i + 1,
         depth: d,
     };
-    let parts = tail_groups::run_end(mem, s, false);
-    let front = put_front(mem, s, parts, i + 1, 0, e);
+    let inside = tail_groups::ends(mem, work, i, d, false);
+    let front = put_front(mem, s, i + usize::from(inside), i + 1, 0, e);
     let table = front.at;
     words::put64(mem, table, 0);
     End {

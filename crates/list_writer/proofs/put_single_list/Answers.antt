@@ -1,6 +1,7 @@
 -- `list_writer::put_single_list` meets its contract: at most one location is copied, and made a list. Assumes nothing.
 use native.Mathlib.Omega.{arith}
-use Rattle.list_writer.proofs.Copying.{single_asks, single_copied}
+use Rattle.list_writer.proofs.Copying.{single_asks, single_copied, few_taken}
+use Rattle.list_closing.proofs.Closing.{closed_few_places}
 use Rattle.list_writer.proofs.Closing.{written}
 use Rattle.list_writer.proofs.put_single_list.Goals as goal
 
@@ -9,17 +10,18 @@ put_taken-n-requires c =
     let asks = single_asks _ _ _ _ _ c.requires.0 (λ j. omega (arith, c.slice_known-1.given j)) c.requires.1 in
     (omega (arith, c.requires.0), omega (arith, c.requires.0))
 
-pub close_list-kept-requires : goal.close_list-kept-requires
-close_list-kept-requires c =
+pub put64-requires : goal.put64-requires
+put64-requires c =
     let asks = single_asks _ _ _ _ _ c.requires.0 (λ j. omega (arith, c.slice_known-1.given j)) c.requires.1 in
-    omega (arith, c.requires.0, c.put_taken-n.ensures.count, c.put_taken-n.auto.mem)
+    omega (arith, c.requires.0, c.put_taken-n.auto.mem)
 
 pub behind_list-requires : goal.behind_list-requires
 behind_list-requires c =
     let asks = single_asks _ _ _ _ _ c.requires.0 (λ j. omega (arith, c.slice_known-1.given j)) c.requires.1 in
-    (omega (arith, c.requires.0, c.put_taken-n.ensures.count, c.close_list-kept.ensures.few), c.requires.2)
+    (omega (arith, c.requires.0, c.put_taken-n.ensures.count), c.requires.2)
 
 pub returns : goal.returns
 returns c =
+    let asks = single_asks _ _ _ _ _ c.requires.0 (λ j. omega (arith, c.slice_known-1.given j)) c.requires.1 in
     let copied = single_copied _ _ _ _ _ c.requires.0 (λ j. omega (arith, c.slice_known-1.given j)) c.requires.1 _ _ (λ j. omega (arith, c.slice_known-2-1.given j)) c.put_taken-n.ensures.count c.put_taken-n.ensures.bytes in
-    written _ _ copied c.close_list-kept.ensures c.behind_list.ensures
+    written _ _ copied (closed_few_places _ _ _ c.put_taken-n.result (λ j. omega (arith, c.slice_known-2-1.given j)) (omega (arith, c.requires.0, c.put_taken-n.ensures.count, c.put_taken-n.auto.mem)) (few_taken _ _ c.put_taken-n.ensures.count) c.put64.ensures) c.behind_list.ensures

@@ -1,14 +1,17 @@
 -- `single_writer::put_leaf` meets its contract: a tail that ends is the one run, and its table has no child. Assumes nothing.
+use Prim.Native.Nat.{◌+◌}
 use native.Mathlib.Omega.{arith}
 use mathlib.Core.Path.{refl}
-use Rattle.single_writer.proofs.SingleChain.{ends_run, front_room, leaf_written}
+use mathlib.Core.Bool.{false}
+use Rattle.single_writer.proofs.SingleChain.{one_run, ends_run, front_room, leaf_written}
 use Rattle.single_writer.proofs.put_leaf.Goals as goal
 
 pub put_front-front-requires : goal.put_front-front-requires
 put_front-front-requires c =
     let a = c.args in
-    let e = ends_run a.mem.now a.work a.i a.d c.run_end-parts.result c.requires.1 c.run_end-parts.ensures in
-    record { asked = c.requires.0; first = c.run_end-parts.ensures; second = omega (arith, e, c.run_end-parts.ensures); few = omega arith }
+    let parts = one_run a.mem.now a.work a.i a.d c.from.result false c.ends-inside.result c.ends-inside.ensures c.from.ensures in
+    let e = ends_run a.mem.now a.work a.i a.d (a.i + c.from.result) c.requires.1 parts in
+    record { asked = c.requires.0; first = parts; second = omega (arith, e, parts); few = omega arith }
 
 pub put64-requires : goal.put64-requires
 put64-requires c = omega (arith, front_room c.put_front-front.ensures c.requires.0, c.put_front-front.ensures.long, c.requires.0.memory)
