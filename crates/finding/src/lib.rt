@@ -34,18 +34,12 @@ fn find_finished(
 }
 
 // Finds the rows of a query, where so many rows have room; they stand at the front of scratch. Answers how many they are.
-pub fn find(
-    mem: &[u8],
-    q: &[u8],
-    scratch: &mut [u8],
-    room: usize,
-) -> Result<usize, Refusal>
+pub fn find(mem: &[u8], q: &[u8], scratch: &mut [u8], room: usize) -> Result<usize, Refusal>
     ensures found { finding_in result ≡ finding_of (find_memory mem.now q.now (length scratch.old) room) }
     ensures rows { AtFront (find_memory mem.now q.now (length scratch.old) room).rows scratch.new }
     ensures scratch { ScratchAfter (find_memory mem.now q.now (length scratch.old) room).refusal scratch.old scratch.new }
 {
-    match inspecting::inspect(mem) {
-        Held::Broken => Err(Refusal::IndexRuleBroken),
+    match inspecting::inspect(mem)? {
         Held::Open(_) => Err(Refusal::BeforeFinish),
         Held::Finished(h) => find_finished(mem, h, q, scratch, room),
     }

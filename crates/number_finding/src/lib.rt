@@ -18,9 +18,9 @@ fn wrong_number(mem: &[u8]) -> Refusal
     ensures { number_of result ≡ refusal_of (first_cause (number_checks (standing_of (read_index mem.now)) false)) }
 {
     match inspecting::inspect(mem) {
-        Held::Broken => Refusal::IndexRuleBroken,
-        Held::Open(_) => Refusal::BeforeFinish,
-        Held::Finished(_) => Refusal::WrongNumber,
+        Ok(Held::Open(_)) => Refusal::BeforeFinish,
+        Ok(Held::Finished(_)) => Refusal::WrongNumber,
+        Err(r) => r,
     }
 }
 
