@@ -129,9 +129,6 @@ module _ (s : List ℕ) (b : Siblings) (old : List Front) (count : ℕ) where
     pub kept : KeptBelow ((b.depth + 1) * 256) old fronts
     pub each : (g : Forest) (fs : List Node) → TableOf s b.left b.table.at b.table.count g → FrontsHere s (b.left - 1) old (b.depth * 256) count fs → RightAhead j g fs
 
-  pub turning_start : Turning 0 old
-  turning_start = record { kept = kept_none ((b.depth + 1) * 256) old; each = λ g fs h w. record { rest = g; ahead = h.leads; says = refl } }
-
   -- the fronts are on the stack still
   fronts_still : (j : ℕ) (fronts : List Front) → Turning j fronts → (fs : List Node) → FrontsHere s (b.left - 1) old (b.depth * 256) count fs → FrontsHere s (b.left - 1) fronts (b.depth * 256) count fs
   fronts_still j fronts i fs w =

@@ -19,12 +19,6 @@ module _ (at : ℕ → Location) (n m : ℕ) (s : List ℕ) (base count : ℕ) w
   abbrev pub clear_from : ℕ → Bool
   clear_from j = all_clear at n m (locations_in s (count - j) (base + j * 24))
 
-  pub clear_start : clear_from 0 ≡ all_clear at n m (locations_in s count base)
-  clear_start =
-      let e : count - 0 ≡ count = omega arith in
-      let f : base + 0 * 24 ≡ base = omega arith in
-      rw (e, f) refl
-
   pub clear_next : (j : ℕ) → j < count → clear_from j ≡ (not (lives_inside at n m (location_at s (base + j * 24))) && clear_from (j + 1))
   unfolding all_clear locations_in
   clear_next j h =

@@ -16,7 +16,7 @@ use Rattle.image_format.specs.Held.{Entry}
 use Rattle.image_walk.specs.declared.Node.{Node as Parts}
 use Rattle.image_walk.specs.Parts.{parts_at}
 use Rattle.image_walk.specs.Tables.{slot_in}
-use Rattle.image_walk.specs.Here.{NodeHere, Laid}
+use Rattle.image_walk.specs.Here.{NodeHere}
 use Rattle.lined_locations.specs.declared.Line.{Line}
 use Rattle.lined_locations.specs.Line.{location_of}
 use Rattle.node_rule.specs.Parts.{Ahead, PartsOf}
@@ -26,10 +26,6 @@ use Rattle.image_conflicts.specs.Due.{Ending, AllEnding, chunks_due, then_due, f
 use Rattle.image_conflicts.specs.Cited.{NodeAsked, NodeSays, ChildrenAsked, ChildrenSays}
 
 -- ── one node ──
-
-module _ (s : List ℕ) (at m left : ℕ) (a : NodeAsked s at m left) where
-  pub asked_laid : Laid s at
-  asked_laid = record { depth = left; node = a.node; here = a.here }
 
 module _ (s : List ℕ) (at left : ℕ) (p : Parts) (g : p ≡ parts_at s at) where
   parts_here : (x : Node) → NodeHere s left at x → PartsOf s left p x
@@ -103,9 +99,6 @@ module _ (s : List ℕ) (v : Line) (p : Parts) (m left due : ℕ) where
   pub record Passing (j k : ℕ) : Type 0 where
     pub within : j ≤ p.table.count
     pub each : (x : Node) → PartsOf s left p x → Passed j k x
-
-  pub passing_start : Passing 0 due
-  passing_start = record { within = omega arith; each = λ x h. record { rest = x.children; ahead = h.table.leads; ending = λ e. e; says = refl } }
 
   module _ (j k : ℕ) (i : Passing j k) where
     pub passing_done : p.table.count ≤ j → ChildrenSays s v p m left due (Some k)

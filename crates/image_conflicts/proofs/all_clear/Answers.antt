@@ -6,18 +6,13 @@ use Rattle.location_lists.specs.Lists.{held}
 use Rattle.location.specs.Plain.{plain}
 use Rattle.lined_locations.specs.Line.{location_of}
 use Rattle.image_conflicts.proofs.Inside.{short_clear}
-use Rattle.image_conflicts.proofs.Chunks.{clear_start, clear_end, clear_not, clear_on, ending_at}
+use Rattle.image_conflicts.proofs.Chunks.{clear_end, clear_not, clear_on, ending_at}
 use Rattle.image_conflicts.proofs.all_clear.Goals as goal
 
 pub returns-then-m-lt2 : goal.returns-then-m-lt2
 returns-then-m-lt2 c =
     let a = c.args in
     sym (short_clear a.v.count (location_of a.s.now a.v) a.m c.requires.0.lined c.if-m-lt2.true (held a.s.now a.list))
-
-pub loop-j-init : goal.loop-j-init
-loop-j-init c =
-    let a = c.args in
-    clear_start (location_of a.s.now a.v) a.v.count a.m a.s.now a.list.at a.list.count
 
 pub is_clear-requires : goal.is_clear-requires
 is_clear-requires c =
