@@ -1,7 +1,7 @@
 // Conflicts among the pieces of an image, found in place: its chunks against the root's suffixes, where all of them stand.
 #![tactic(auto)]
 
-ghost use Rattle.std.specs.Prelude.{◌≡◌, true, not, ◌+◌, ◌*◌, ◌≤◌, length};
+ghost use Rattle.std.specs.Prelude.{◌≡◌, true, not, ◌+◌, ◌≤◌};
 ghost use Rattle.definitions.specs.Calls.{last_number};
 ghost use Rattle.definitions.specs.Conflicts.{free};
 ghost use Rattle.location.specs.Plain.{plain};
