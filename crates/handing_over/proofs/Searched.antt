@@ -1,19 +1,28 @@
--- What a call hands over is what was found: the answer, the rows put over the first ones, and scratch. Assumes nothing.
+-- What a call hands over is what was found: the refusal, the count, the rows put over the first ones, and scratch. Assumes nothing.
 use Prim.Native.Nat.{ℕ, ◌*◌, ◌≤◌}
+use Rattle.std.specs.Prelude.{Result, Ok, Err, IfOk}
 use native.Mathlib.Omega.{arith}
 use mathlib.Core.Path.{◌≡◌, sym, ap, ◌∙◌, subst}
 use mathlib.Core.List.{List}
 use lib.ListN.{length}
 use Rattle.definitions.specs.Location.{locations_in}
 use Rattle.definitions.specs.Causes.{ScratchAfter}
+use Rattle.definitions.specs.declared.refusal.Refusal.{Refusal}
+use Rattle.definitions.specs.Refusals.{number_in}
 use Rattle.rows.specs.declared.Row.{Row}
-use Rattle.rows.specs.Rows.{rows_over}
-use Rattle.row_buffer.specs.declared.Finding.{Finding}
+use Rattle.rows.specs.Rows.{rows_of, rows_over}
+use Rattle.row_buffer.specs.Answer.{Finding, finding_in}
 use Rattle.finding.specs.Find.{RowsFound}
 use Rattle.handing_over.specs.Search.{Found}
-use Rattle.handing_over.specs.Answers.{answer_as, answer_to}
 use Rattle.handing_over.proofs.Finding.{handed_over}
 use Rattle.finding.proofs.FindCall.{Finds}
+
+-- the answer r, the rows rs, and scratch x, which is s afterwards, are those of what was found
+pub record Hands (g : Found) (r : Result ℕ Refusal) (rs : List Row) (x s : List ℕ) : Type 0 where
+  pub number : number_in r ≡ g.refusal
+  pub count : IfOk r (λ n. n ≡ g.count)
+  pub rows : rs ≡ g.rows
+  pub scratch : ScratchAfter g.refusal x s
 
 -- o was found: f says so, and x is scratch before, s afterwards
 module _ (o : RowsFound) (x : List ℕ) (rows : List Row) {s : List ℕ} {f : Finding} (found : Finds o x s f) where
@@ -31,14 +40,21 @@ module _ (o : RowsFound) (x : List ℕ) (rows : List Row) {s : List ℕ} {f : Fi
   handed = ap (λ (n : ℕ). locations_in s n 0) counted ∙ found.1.0.stand
 
   module _ {g : Found} (is : g ≡ handed_over o rows) where
-    told : g ≡ record { refusal = f.refusal; count = f.count; rows = rows_over (locations_in s f.count 0) rows }
-    told = is ∙ (λ i. record { refusal = sym refused i; count = sym counted i; rows = rows_over (sym handed i) rows })
+    told : record { refusal = f.refusal; count = f.count; rows = rows_over (locations_in s f.count 0) rows } ≡ g
+    told = sym (is ∙ (λ i. record { refusal = sym refused i; count = sym counted i; rows = rows_over (sym handed i) rows }))
 
-    pub answered : answer_as f.refusal f.count ≡ answer_to g
-    answered = ap answer_to (sym told)
+    scratch_left : ScratchAfter g.refusal x s
+    scratch_left = subst (λ (n : ℕ). ScratchAfter n x s) (sym refused ∙ ap (λ (h : Found). h.refusal) told) found.1.1
 
-    pub left : rows_over (locations_in s f.count 0) rows ≡ g.rows
-    left = ap (λ (h : Found). h.rows) (sym told)
+module _ (o : RowsFound) (x : List ℕ) (rows : List Row) {s : List ℕ} {g : Found} (is : g ≡ handed_over o rows) where
+  pub hands_rows : (n : ℕ) → Finds o x s (finding_in (Ok n)) → (rs : List Row) → rs ≡ rows_over (locations_in s n 0) rows → Hands g (Ok n) rs x s
+  hands_rows n found rs e =
+      let t = told o x rows found is in
+      record { number = ap (λ (h : Found). h.refusal) t; count = ap (λ (h : Found). h.count) t; rows = e ∙ ap (λ (h : Found). h.rows) t; scratch = scratch_left o x rows found is }
 
-    pub scratch_left : ScratchAfter g.refusal x s
-    scratch_left = subst (λ (n : ℕ). ScratchAfter n x s) (sym refused ∙ ap (λ (h : Found). h.refusal) (sym told)) found.1.1
+  -- a refusal has no rows, so that those that are lent stay
+  pub hands_none : (r : Refusal) → Finds o x s (finding_in (Err r)) → Hands g (Err r) rows x s
+  unfolding locations_in rows_of
+  hands_none r found =
+      let t = told o x rows found is in
+      record { number = ap (λ (h : Found). h.refusal) t; count = tt; rows = ap (λ (h : Found). h.rows) t; scratch = scratch_left o x rows found is }
