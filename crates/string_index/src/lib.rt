@@ -37,7 +37,7 @@ pub fn record_stream(mem: &mut [u8], stream: &[u8]) -> Result<u64, Stopped>
 {
     match inspecting::inspect(mem)? {
         Held::Open(h) => stream_recording::record_blocks(mem, h, stream),
-        Held::Finished(_) => Err(Refusal::RecordAfterFinish.into()),
+        Held::Finished(_) => Err(Stopped::from(Refusal::RecordAfterFinish)),
     }
 }
 

@@ -21,4 +21,4 @@ returns-in-Finished c =
     let w = rw c.in-Finished.is at c.in_ok-h.ensures in
     let a = c.args in
     let e = stream_as a.mem.now a.stream.now _ w.holds in
-    record { answer = rw c.into.ensures (ap (λ (d : StreamDone). d.refusal) e); taken = rw c.into.ensures (ap (λ (d : StreamDone). d.taken) e); memory = ap (λ (d : StreamDone). d.memory) e }
+    record { answer = rw c.from.ensures (ap (λ (d : StreamDone). d.refusal) e); taken = rw c.from.ensures (ap (λ (d : StreamDone). d.taken) e); memory = ap (λ (d : StreamDone). d.memory) e }
