@@ -5,7 +5,7 @@ ghost use Rattle.std.specs.Prelude.{ℕ, Bool, ◌≤◌, ◌<◌};
 ghost use Rattle.halving.specs.Halving.{Tests, Parts, PointOf};
 
 // The first of the numbers from `from` on and below `upto` at which a test no longer holds, or `upto`.
-// It is asked as many times for each length, and what it answers picks a number alone, so that no branch is guessed wrong.
+// How often it is asked depends on how many they are alone.
 pub fn partition_point<F: Fn(usize) -> bool>(from: usize, upto: usize, before: F) -> usize
     requires order { from ≤ upto }
     requires callable { (i : ℕ) → from ≤ i → i < upto → F.pre before i }

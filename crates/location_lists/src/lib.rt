@@ -116,12 +116,14 @@ pub fn are_sound(s: &[u8], list: List, depth: usize) -> bool
     true
 }
 
-// Whether the location at index p is key.
+// Whether the location at index p is key. Most differ in the address, so that the other numbers are read behind it.
 pub fn is_at(s: &[u8], p: usize, key: SpacetimeLocation) -> bool
     requires { p + 24 ≤ length s.now }
     ensures { result ≡ compare_is_eq (order (location_at s.now p) (plain key)) }
 {
-    location::location_at(s, p) == key
+    words::get64(s, p) == key.address.0
+        && words::get64(s, p + 8) == key.created_at.0
+        && words::get64(s, p + 16) == key.destroyed_at.0
 }
 
 // Steps over key in list number i, if that has it next, and says whether.
