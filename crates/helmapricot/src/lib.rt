@@ -1,10 +1,11 @@
 // The calls for programs in other languages. Each answers the number of its refusal, 0 where there is none.
 #![tactic(auto)]
 
-ghost use Rattle.std.specs.Prelude.{◌≡◌, ◌-◌, ◌≤◌, length, set, [], ◌∷◌};
+ghost use Rattle.std.specs.Prelude.{◌≡◌, length, set, [], ◌∷◌};
 ghost use Rattle.std.proofs.lemmas.List.Edits.{sets};
 ghost use Rattle.definitions.specs.BlockStream.{read_block};
 ghost use Rattle.definitions.specs.Causes.{ScratchAfter};
+ghost use Rattle.definitions.specs.SpaceKinds.{kind_number};
 ghost use Rattle.memory_header.specs.Opening.{open_memory};
 ghost use Rattle.recording.specs.Record.{record_memory};
 ghost use Rattle.stream_recording.specs.Stream.{record_stream};
@@ -14,10 +15,9 @@ ghost use Rattle.saving.specs.Saving.{save_memory, load_memory};
 ghost use Rattle.answer_numbers.specs.Counts.{put_unless_refused};
 ghost use Rattle.helmapricot.specs.Stream.{stream_number, with_fields};
 
-use block_stream::{Block, Read};
+use block_stream::Block;
 use location::SpacetimeLocation;
 use rows::Row;
-use saving::Saved;
 
 // Opens an index of a capacity in the lent memory.
 #[unsafe(no_mangle)]
@@ -25,7 +25,7 @@ pub extern "C" fn helmapricot_open(mem: &mut [u8], nodes: u64, entries: u64) -> 
     ensures answer { result ≡ (open_memory mem.old (record { nodes = nodes; entries = entries })).refusal }
     ensures memory { mem.new ≡ (open_memory mem.old (record { nodes = nodes; entries = entries })).memory }
 {
-    answer_numbers::outcome_number(memory_header::open(mem, nodes, entries))
+    answer_numbers::number_of(memory_header::open(mem, nodes, entries))
 }
 
 // Records a block.
@@ -42,7 +42,7 @@ pub extern "C" fn helmapricot_record(
     ensures memory { mem.new ≡ (record_memory mem.old kind (record { bytes = «data».now; at = record { address = address; created = created_at; destroyed = destroyed_at } })).memory }
 {
     let l = SpacetimeLocation::new(address, created_at, destroyed_at);
-    answer_numbers::recorded_number(string_index::record(mem, kind, l, data))
+    answer_numbers::number_of(string_index::record(mem, kind, l, data))
 }
 
 // Records the blocks of a stream, up to the first that is refused; how many were taken goes into taken, 0 for refusals 1 and 2 too.
@@ -65,7 +65,7 @@ pub extern "C" fn helmapricot_finish(mem: &mut [u8]) -> u64
     ensures answer { result ≡ (finish_memory mem.old).refusal }
     ensures memory { mem.new ≡ (finish_memory mem.old).memory }
 {
-    answer_numbers::outcome_number(string_index::finish(mem))
+    answer_numbers::number_of(string_index::finish(mem))
 }
 
 // How many rows there are goes into count; a search that is refused leaves it.
@@ -111,13 +111,7 @@ pub extern "C" fn helmapricot_save(mem: &[u8], out: &mut [u8], size: &mut [u64; 
     ensures out { out.new ≡ (save_memory mem.now out.old).buffer }
     ensures size { size.new ≡ put_unless_refused (save_memory mem.now out.old).refusal (save_memory mem.now out.old).size size.old }
 {
-    match string_index::save(mem, out) {
-        Saved::Bytes(n) => {
-            size[0] = n as u64;
-            0
-        }
-        Saved::Refused(n) => n,
-    }
+    answer_numbers::put_count(size, string_index::save(mem, out))
 }
 
 // Loads an image in place of what the index holds.
@@ -126,21 +120,22 @@ pub extern "C" fn helmapricot_load(mem: &mut [u8], img: &[u8]) -> u64
     ensures answer { result ≡ (load_memory mem.old img.now).refusal }
     ensures memory { mem.new ≡ (load_memory mem.old img.now).memory }
 {
-    answer_numbers::outcome_number(string_index::load(mem, img))
+    answer_numbers::number_of(string_index::load(mem, img))
 }
 
 // Writes what is known of a block, with the length of its data.
-fn put_fields(fields: &mut [u64; 7], b: Block)
-    requires { b.start ≤ b.next }
-    ensures { fields.new ≡ sets fields.old 0 (1 ∷ b.kind ∷ b.address ∷ (b.next - b.start) ∷ b.created_at ∷ b.destroyed_at ∷ b.next ∷ []) }
+fn put_fields(fields: &mut [u64; 7], b: Block<'_>)
+    ensures { fields.new ≡ sets fields.old 0 (1 ∷ kind_number b.entry.kind ∷ b.entry.address ∷ length b.entry.«data».now ∷ b.entry.created_at ∷ b.entry.destroyed_at ∷ b.entry.next ∷ []) }
 {
-    fields[0] = 1;
-    fields[1] = b.kind as u64;
-    fields[2] = b.address;
-    fields[3] = (b.next - b.start) as u64;
-    fields[4] = b.created_at;
-    fields[5] = b.destroyed_at;
-    fields[6] = b.next as u64;
+    *fields = [
+        1,
+        b.kind.number(),
+        b.address,
+        b.data.len() as u64,
+        b.created_at,
+        b.destroyed_at,
+        b.next as u64,
+    ];
 }
 
 // The block of a stream at a cursor: 1, its kind, address, length, ticks, and the cursor behind it go into fields.
@@ -150,15 +145,11 @@ pub extern "C" fn helmapricot_read_block(s: &[u8], at: usize, fields: &mut [u64;
     ensures answer { result ≡ stream_number (read_block s.now at) }
     ensures fields { fields.new ≡ with_fields (read_block s.now at) fields.old }
 {
-    match block_stream::read_block(s, at) {
-        Read::Block(b) => {
-            put_fields(fields, b);
-            0
-        }
-        Read::End => {
-            fields[0] = 0;
-            0
-        }
-        Read::Refused(n) => n,
+    let read = block_stream::read_block(s, at);
+    match read {
+        Ok(Some(b)) => put_fields(fields, b),
+        Ok(None) => fields[0] = 0,
+        Err(_) => {}
     }
+    answer_numbers::number_of(read)
 }
