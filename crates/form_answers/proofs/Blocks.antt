@@ -1,39 +1,32 @@
--- The form that a line is, from its numbers and from as many bytes as the buffer has. Assumes nothing.
-use Prim.Native.Nat.{ℕ, ◌≤◌, ◌<◌, min}
+-- The form that a line is, from its numbers and the bytes in the buffer. Assumes nothing.
+use Prim.Native.Nat.{ℕ, ◌≤◌}
 use native.Mathlib.Omega.{arith}
-use mathlib.Core.Path.{◌≡◌, ap, sym, ◌∙◌}
-use mathlib.Core.Logic.{◌⊎◌, inl, inr}
+use mathlib.Core.Path.{◌≡◌, ap, subst}
 use mathlib.Core.List.{List}
-use mathlib.Core.Option.{some}
-use lib.ListN.{length, take}
-use lib.Seq.{take_all}
-use Rattle.words.proofs.Parts.{lt_or_ge}
+use mathlib.Core.Option as M
+use lib.ListN.{length, take, replicate, length-replicate}
+use lib.Seq.{length-sets}
+use Rattle.std.specs.Prelude.{Option, Some}
 use Rattle.definitions.specs.Location.{Location}
 use Rattle.definitions.specs.Program as P
+use Rattle.forms.specs.ReadLine.{read_line}
+use Rattle.forms.specs.declared.Form.{Form}
 use Rattle.forms.specs.declared.Form.TheVariants as F
-use Rattle.forms.specs.Answers.{form_in}
+use Rattle.forms.specs.Answers.{Reads, bytes_of, form_in, answer_count}
 
--- as many as there are
-pub take_limit : (n k : ℕ) (xs : List ℕ) → length xs ≡ k → take (min n k) xs ≡ take n xs
-take_limit n k xs e = go (lt_or_ge n k)
-  where
-    go : (n < k) ⊎ (k ≤ n) → take (min n k) xs ≡ take n xs
-    go (inl l) =
-        let m : min n k ≡ n = omega arith in
-        ap (λ (i : ℕ). take i xs) m
-    go (inr l) =
-        let m : min n k ≡ k = omega arith in
-        ap (λ (i : ℕ). take i xs) m ∙ take_all k xs (omega arith) ∙ sym (take_all n xs (omega arith))
+-- a line was read as v into a buffer of 512 bytes
+pub record ReadAs (l after : List ℕ) (v : Option Form) : Type 0 where
+  pub room : length after ≡ 512
+  pub few : answer_count v ≤ 511
+  pub form : form_in v after ≡ read_line l
 
-module _ (bytes : List ℕ) (n k : ℕ) (e : k ≡ min n 512) (h : length bytes ≡ 512) where
-  bytes_taken : take k bytes ≡ take n bytes
-  bytes_taken = ap (λ (j : ℕ). take j bytes) e ∙ take_limit n 512 bytes h
+pub read_as : (l after : List ℕ) {r v : Option Form} → Reads l (replicate 512 0) r after → r ≡ v → ReadAs l after v
+read_as l after {r} {v} f e = record {
+  room = omega (arith, ap length f.decoded, length-sets (replicate 512 0) 0 (bytes_of (read_line l)), length-replicate {A = ℕ} 512 0);
+  few = subst (λ (x : Option Form). answer_count x ≤ 511) e f.few;
+  form = subst (λ (x : Option Form). form_in x after ≡ read_line l) e (f.means (omega (arith, length-replicate {A = ℕ} 512 0)));
+}
 
-  pub find_form : some (P.find (take k bytes)) ≡ form_in (F.Find n) bytes
-  find_form = ap (λ (bs : List ℕ). some (P.find bs)) bytes_taken
-
-  pub block_form : (kind address created destroyed : ℕ) (p : Location) → p ≡ record { address = address; created = created; destroyed = destroyed }
-      → some (P.block kind (record { bytes = take k bytes; at = p })) ≡ form_in (F.Block kind address created destroyed n) bytes
-  block_form kind address created destroyed p g =
-      ap (λ (bs : List ℕ). some (P.block kind (record { bytes = bs; at = p }))) bytes_taken
-      ∙ ap (λ (l : Location). some (P.block kind (record { bytes = take n bytes; at = l }))) g
+pub block_form : (bytes : List ℕ) (n kind address created destroyed : ℕ) (p : Location) → p ≡ record { address = address; created = created; destroyed = destroyed }
+    → M.some (P.block kind (record { bytes = take n bytes; at = p })) ≡ form_in (Some (F.Block kind address created destroyed n)) bytes
+block_form bytes n kind address created destroyed p g = ap (λ (l : Location). M.some (P.block kind (record { bytes = take n bytes; at = l }))) g

@@ -7,3 +7,7 @@ use Rattle.replies.specs.declared.Output.{Output}
 pub record Writes (o : Output) (bytes : List ℕ) (o' : Output) : Type 0 where
   pub same_reference : o'.bytes.ghost_name ≡ o.bytes.ghost_name
   pub written : Written o.bytes.now o.at bytes o'.bytes.now o'.at
+
+-- the same output, written anew from its start
+abbrev pub emptied : Output → Output
+emptied o = record o { at = 0 }

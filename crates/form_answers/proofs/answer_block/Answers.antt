@@ -1,21 +1,17 @@
 -- `form_answers::answer_block` meets its contract. Assumes nothing.
-use mathlib.Core.List.{[], ◌∷◌}
-use Rattle.location.specs.Plain.{plain}
-use Rattle.recording.specs.Record.{record_memory}
 use native.Mathlib.Omega.{arith}
-use mathlib.Core.Path.{sym, ◌∙◌}
+use mathlib.Core.List.{[], ◌∷◌}
 use Rattle.definitions.specs.Program.{taken}
-use Rattle.form_answers.proofs.Replying.{answered_one, answered_refused, was_taken, was_refused}
+use Rattle.definitions.specs.Refusals.{number_of}
+use Rattle.form_answers.proofs.Replying.{answered_one, answered_refused, was_done, was_refused}
 use Rattle.form_answers.proofs.answer_block.Goals as goal
 
-pub returns-in-Taken : goal.returns-in-Taken
-returns-in-Taken c =
-    let k = c.«record» in
-    let a = c.args in
-    answered_one taken (was_taken (record_memory a.mem.now a.kind (record { bytes = a.bytes.now; at = plain a.l })).refusal (taken ∷ []) (sym c.in-Taken.is ∙ k.ensures.answer)) (omega arith) c.put_taken.ensures k.ensures.memory
+pub returns-in-Ok : goal.returns-in-Ok
+returns-in-Ok c =
+    let k = c.in-Ok.ensures in
+    answered_one taken (was_done (taken ∷ []) k.answer) (omega arith) c.put_taken.ensures k.memory
 
-pub returns-in-Refused : goal.returns-in-Refused
-returns-in-Refused c =
-    let k = c.«record» in
-    let a = c.args in
-    answered_refused _ (was_refused (record_memory a.mem.now a.kind (record { bytes = a.bytes.now; at = plain a.l })).refusal _ (taken ∷ []) (sym c.in-Refused.is ∙ k.ensures.answer)) c.put_refused.ensures k.ensures.memory
+pub returns-in-Err : goal.returns-in-Err
+returns-in-Err c =
+    let k = c.in-Err.ensures in
+    answered_refused (number_of c.in-Err.refusal) (was_refused c.in-Err.refusal (taken ∷ []) k.answer) c.put_refused.ensures k.memory

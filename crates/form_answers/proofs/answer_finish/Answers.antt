@@ -1,20 +1,17 @@
 -- `form_answers::answer_finish` meets its contract. Assumes nothing.
-use mathlib.Core.List.{[], ◌∷◌}
-use Rattle.string_index.specs.Finish.{finish_memory}
 use native.Mathlib.Omega.{arith}
-use mathlib.Core.Path.{sym, ◌∙◌}
+use mathlib.Core.List.{[], ◌∷◌}
 use Rattle.definitions.specs.Program.{finished}
-use Rattle.form_answers.proofs.Replying.{answered_one, answered_refused, was_finished, not_finished}
+use Rattle.definitions.specs.Refusals.{number_of}
+use Rattle.form_answers.proofs.Replying.{answered_one, answered_refused, was_done, was_refused}
 use Rattle.form_answers.proofs.answer_finish.Goals as goal
 
-pub returns-in-Done : goal.returns-in-Done
-returns-in-Done c =
-    let k = c.finish in
-    let a = c.args in
-    answered_one finished (was_finished (finish_memory a.mem.now).refusal (finished ∷ []) (sym c.in-Done.is ∙ k.ensures.answer)) (omega arith) c.put_finished.ensures k.ensures.memory
+pub returns-in-Ok : goal.returns-in-Ok
+returns-in-Ok c =
+    let k = c.in-Ok.ensures in
+    answered_one finished (was_done (finished ∷ []) k.answer) (omega arith) c.put_finished.ensures k.memory
 
-pub returns-in-Refused : goal.returns-in-Refused
-returns-in-Refused c =
-    let k = c.finish in
-    let a = c.args in
-    answered_refused _ (not_finished (finish_memory a.mem.now).refusal _ (finished ∷ []) (sym c.in-Refused.is ∙ k.ensures.answer)) c.put_refused.ensures k.ensures.memory
+pub returns-in-Err : goal.returns-in-Err
+returns-in-Err c =
+    let k = c.in-Err.ensures in
+    answered_refused (number_of c.in-Err.refusal) (was_refused c.in-Err.refusal (finished ∷ []) k.answer) c.put_refused.ensures k.memory
