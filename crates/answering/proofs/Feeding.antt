@@ -10,11 +10,12 @@ use lib.Seq.{drop-cons, drop-drop, get_or-drop, get_or-take, take-append-add, ta
 use lib.Dec.{ltb}
 use borrow.Author.Tests.{lt-ltb, le-ltb, ne_eqb}
 use Rattle.lines.specs.Cut.{Ends}
-use Rattle.replies.proofs.Writing.{written_both, written_same}
-use Rattle.lines.specs.Kept.{Kept, keeps, keeps_byte, kept_in, KeepsBehind}
-use Rattle.answering.specs.Parts.{kept_answer, kept_memory, State, line_ended, still_kept, after_bytes, used}
-use Rattle.lines.proofs.Keeping.{few_kept}
-use Rattle.answering.specs.Cited.{begun, used_part, HoldsState, AnswersLines}
+use Rattle.replies.specs.declared.Output.{Output}
+use Rattle.replies.specs.Outputs.{emptied}
+use Rattle.replies.proofs.Writing.{writes_none, writes_both, writes_same, writes_long}
+use Rattle.lines.specs.Kept.{Kept, part, keeps, keeps_byte}
+use Rattle.answering.specs.Parts.{kept_answer, kept_memory, State, at_start, line_ended, still_kept, after_bytes, used}
+use Rattle.answering.specs.Cited.{used_part, HoldsState, AnswersLines}
 use Rattle.form_answers.specs.Answered.{AnsweredBy}
 
 -- ── bytes without a newline ──
@@ -104,43 +105,50 @@ module _ (input : List ℕ) (p e : ℕ) (w : Ends input p e) where
 -- ── the loop ──
 
 -- what holds when a line begins at index next: answering on from there ends as answering from the start does
-pub record Going (start : State) (input : List ℕ) (p : ℕ) (out memory line : List ℕ) (kept : ℕ) (out' : List ℕ) (at next : ℕ) : Type 0 where
+pub record Going (start : State) (input : List ℕ) (p : ℕ) (out : Output) (memory : List ℕ) (line : Kept) (out' : Output) (next : ℕ) : Type 0 where
   pub state : State
-  pub holds : HoldsState state out memory line kept out' at
-  pub room : at + 4571 ≤ length out
-  pub same_end : next + used (length out) state (drop next input) ≡ p + used (length out) start (drop p input)
-  pub same_state : after_bytes state (used_part (length out) state input next) ≡ after_bytes start (used_part (length out) start input p)
+  pub holds : HoldsState state (emptied out) memory line out'
+  pub room : out'.at + 4571 ≤ length out.bytes.now
+  pub same_end : next + used (length out.bytes.now) state (drop next input) ≡ p + used (length out.bytes.now) start (drop p input)
+  pub same_state : after_bytes state (used_part (length out.bytes.now) state input next) ≡ after_bytes start (used_part (length out.bytes.now) start input p)
 
-pub going_start : (memory line : List ℕ) (n : ℕ) (input : List ℕ) (p : ℕ) (out : List ℕ) → n ≤ 1025 → 4571 ≤ length out → Going (begun memory line n) input p out memory line n out 0 p
-going_start memory line n input p out h k = record {
-  state = begun memory line n;
-  holds = record { memory_is = refl; kept_is = refl; counted = h; written = record { out = refl; next = refl }; within = omega arith };
+pub going_start : (memory : List ℕ) (line : Kept) (input : List ℕ) (p : ℕ) (out : Output) → 4571 ≤ length out.bytes.now → Going (at_start memory line) input p out memory line (emptied out) p
+going_start memory line input p out k = record {
+  state = at_start memory line;
+  holds = record { memory_is = refl; kept_is = refl; written = writes_none (emptied out); within = omega arith };
   room = k;
   same_end = refl;
   same_state = refl;
 }
 
 -- it ends in a state where nothing more is used
-ends : (m line : List ℕ) (n : ℕ) {input out m' line' out' : List ℕ} {p n' at next : ℕ} (s : State)
-    → HoldsState s out m' line' n' out' at
-    → next ≡ p + used (length out) (begun m line n) (drop p input)
-    → s ≡ after_bytes (begun m line n) (used_part (length out) (begun m line n) input p)
-    → AnswersLines m line n input p out m' line' n' out' at next
-ends m line n {input} {out} {m'} {line'} {out'} {p} {n'} {at} {next} s h e f = record {
+ends : (m : List ℕ) (line : Kept) {input m' : List ℕ} {out out' : Output} {line' : Kept} {p next : ℕ} (s : State)
+    → HoldsState s (emptied out) m' line' out'
+    → next ≡ p + used (length out.bytes.now) (at_start m line) (drop p input)
+    → s ≡ after_bytes (at_start m line) (used_part (length out.bytes.now) (at_start m line) input p)
+    → AnswersLines m line input p out m' line' out' next
+ends m line {input} {m'} {out} {out'} {line'} {p} {next} s h e f = record {
   goes_to = e;
-  holds = subst (λ (x : State). HoldsState x out m' line' n' out' at) f h;
-  goes_on = λ k. omega (arith, e, used_some (length out) (begun m line n) (drop p input) (omega (arith, length-drop p input)));
+  holds = subst (λ (x : State). HoldsState x (emptied out) m' line' out') f h;
+  goes_on = λ k. omega (arith, e, used_some (length out.bytes.now) (at_start m line) (drop p input) (omega (arith, length-drop p input)));
 }
 
-module _ (m line₀ : List ℕ) (n : ℕ) {input out mem line out' : List ℕ} {p kept at next : ℕ} (g : Going (begun m line₀ n) input p out mem line kept out' at next) where
+module _ (m : List ℕ) (line₀ : Kept) {input mem : List ℕ} {line : Kept} {out out' : Output} {p next : ℕ} (g : Going (at_start m line₀) input p out mem line out' next) where
+  -- the output keeps its length
+  pub going_long : length out'.bytes.now ≡ length out.bytes.now
+  going_long = writes_long g.holds.written
+
+  pub going_room : out'.at + 4571 ≤ length out'.bytes.now
+  going_room = omega (arith, g.room, going_long)
+
   -- at the input's end
-  pub going_done : length input ≤ next → AnswersLines m line₀ n input p out mem line kept out' at next
+  pub going_done : length input ≤ next → AnswersLines m line₀ input p out mem line out' next
   unfolding used after_bytes
   going_done h =
       let d : drop next input ≡ [] = drop_of_length-le input h in
-      let u : used (length out) g.state (drop next input) ≡ 0 = ap (used (length out) g.state) d in
-      let f : after_bytes g.state (used_part (length out) g.state input next) ≡ g.state = ap (λ (t : List ℕ). after_bytes g.state (take (used (length out) g.state t) t)) d in
-      ends m line₀ n g.state g.holds (omega (arith, u, g.same_end)) (sym f ∙ g.same_state)
+      let u : used (length out.bytes.now) g.state (drop next input) ≡ 0 = ap (used (length out.bytes.now) g.state) d in
+      let f : after_bytes g.state (used_part (length out.bytes.now) g.state input next) ≡ g.state = ap (λ (t : List ℕ). after_bytes g.state (take (used (length out.bytes.now) g.state t) t)) d in
+      ends m line₀ g.state g.holds (omega (arith, u, g.same_end)) (sym f ∙ g.same_state)
 
   module _ (e : ℕ) (inside : next < length input) (w : Ends input next e) where
     abbrev xs : List ℕ
@@ -149,46 +157,43 @@ module _ (m line₀ : List ℕ) (n : ℕ) {input out mem line out' : List ℕ} {
     abbrev with_part : State
     with_part = still_kept g.state (keeps g.state.kept xs)
 
-    kept_same : keeps (kept_in line kept) xs ≡ keeps g.state.kept xs
+    kept_same : keeps line xs ≡ keeps g.state.kept xs
     kept_same = ap (λ (k : Kept). keeps k xs) g.holds.kept_is
 
     -- a line that doesn't end is kept
-    pub going_kept : e ≡ length input → {line' : List ℕ} {k : ℕ} → KeepsBehind line kept (take (length input - next) (drop next input)) line' k → AnswersLines m line₀ n input p out mem line' k out' at e
-    going_kept h {line'} {k} b₀ =
+    pub going_kept : e ≡ length input → {line' : Kept} → line' ≡ keeps line (take (length input - next) (drop next input)) → AnswersLines m line₀ input p out mem line' out' e
+    going_kept h {line'} b =
         let t : List ℕ = drop next input in
-        let b : KeepsBehind line kept t line' k = subst (λ (x : List ℕ). KeepsBehind line kept x line' k) (take_all (length input - next) t (omega (arith, length-drop next input))) b₀ in
         let same : t ≡ xs = part_behind input next e w ∙ ap (λ (l : List ℕ). xs ++ l) (drop_of_length-le input {i = e} (omega arith)) ∙ append-nil xs in
         let plain : Plain t = subst Plain (sym same) (part_plain input next e w) in
-        let a : used (length out) g.state t ≡ length t = all_used (length out) g.state t plain in
-        ends m line₀ n (still_kept g.state (keeps g.state.kept t))
+        let a : used (length out.bytes.now) g.state t ≡ length t = all_used (length out.bytes.now) g.state t plain in
+        ends m line₀ (still_kept g.state (keeps g.state.kept t))
         (record {
           memory_is = g.holds.memory_is;
-          kept_is = b.keeps_them ∙ ap (λ (x : Kept). keeps x t) g.holds.kept_is;
-          counted = few_kept b;
+          kept_is = b ∙ ap (keeps line) (take_all (length input - next) t (omega (arith, length-drop next input))) ∙ ap (λ (x : Kept). keeps x t) g.holds.kept_is;
           written = g.holds.written;
           within = g.holds.within;
         })
         (omega (arith, a, length-drop next input, g.same_end))
-        (sym (all_after (length out) g.state t plain) ∙ g.same_state)
+        (sym (all_after (length out.bytes.now) g.state t plain) ∙ g.same_state)
 
     -- a line that ends is answered
-    module _ {mem' : List ℕ} (line' : List ℕ) {out'' : List ℕ} {r : ℕ} (h : e < length input)
-        (b : AnsweredBy out' at (kept_answer mem (keeps (kept_in line kept) xs)) (kept_memory mem (keeps (kept_in line kept) xs)) out'' mem' r) where
+    module _ {mem' : List ℕ} {line' : Kept} {out'' : Output} (h : e < length input) (begun : line' ≡ part [])
+        (b : AnsweredBy out' (kept_answer mem (keeps line xs)) (kept_memory mem (keeps line xs)) out'' mem') where
       abbrev then : State
       then = line_ended with_part
 
       abbrev behind : List ℕ
       behind = drop (e + 1) input
 
-      answer_same : kept_answer mem (keeps (kept_in line kept) xs) ≡ kept_answer g.state.memory (keeps g.state.kept xs)
-      answer_same = ap (λ (x : List ℕ). kept_answer x (keeps (kept_in line kept) xs)) g.holds.memory_is ∙ ap (kept_answer g.state.memory) kept_same
+      answer_same : kept_answer mem (keeps line xs) ≡ kept_answer g.state.memory (keeps g.state.kept xs)
+      answer_same = ap (λ (x : List ℕ). kept_answer x (keeps line xs)) g.holds.memory_is ∙ ap (kept_answer g.state.memory) kept_same
 
-      then_holds : HoldsState then out mem' line' 0 out'' r
+      then_holds : HoldsState then (emptied out) mem' line' out''
       then_holds = record {
-        memory_is = b.leaves ∙ ap (λ (x : List ℕ). kept_memory x (keeps (kept_in line kept) xs)) g.holds.memory_is ∙ ap (kept_memory g.state.memory) kept_same;
-        kept_is = refl;
-        counted = omega arith;
-        written = written_both g.holds.written (written_same answer_same b.written);
+        memory_is = b.leaves ∙ ap (λ (x : List ℕ). kept_memory x (keeps line xs)) g.holds.memory_is ∙ ap (kept_memory g.state.memory) kept_same;
+        kept_is = begun;
+        written = writes_both g.holds.written (writes_same answer_same b.written);
         within = omega (arith, b.short, g.room);
       }
 
@@ -196,29 +201,32 @@ module _ (m line₀ : List ℕ) (n : ℕ) {input out mem line out' : List ℕ} {
       cut = part_newline input next e w h
 
       -- with u bytes used behind its newline
-      turned : (u : ℕ) → cond (ltb (length out) (length then.answers + 4571)) 0 (used (length out) then behind) ≡ u
-          → (e + 1 + u ≡ p + used (length out) (begun m line₀ n) (drop p input)) × (after_bytes then (take u behind) ≡ after_bytes (begun m line₀ n) (used_part (length out) (begun m line₀ n) input p))
+      turned : (u : ℕ) → cond (ltb (length out.bytes.now) (length then.answers + 4571)) 0 (used (length out.bytes.now) then behind) ≡ u
+          → (e + 1 + u ≡ p + used (length out.bytes.now) (at_start m line₀) (drop p input)) × (after_bytes then (take u behind) ≡ after_bytes (at_start m line₀) (used_part (length out.bytes.now) (at_start m line₀) input p))
       turned u f =
-          let a : used (length out) g.state (xs ++ 10 ∷ behind) ≡ length xs + suc u = line_used (length out) g.state xs behind (part_plain input next e w) ∙ ap (λ (x : ℕ). length xs + suc x) f in
-          let c : used (length out) g.state (drop next input) ≡ length xs + suc u = ap (used (length out) g.state) cut ∙ a in (
+          let a : used (length out.bytes.now) g.state (xs ++ 10 ∷ behind) ≡ length xs + suc u = line_used (length out.bytes.now) g.state xs behind (part_plain input next e w) ∙ ap (λ (x : ℕ). length xs + suc x) f in
+          let c : used (length out.bytes.now) g.state (drop next input) ≡ length xs + suc u = ap (used (length out.bytes.now) g.state) cut ∙ a in (
             omega (arith, c, part_length input next e w, w.from, g.same_end),
-            sym (line_after (length out) g.state xs behind (part_plain input next e w) u a)
-                ∙ ap (λ (t : List ℕ). after_bytes g.state (take (used (length out) g.state t) t)) (sym cut)
+            sym (line_after (length out.bytes.now) g.state xs behind (part_plain input next e w) u a)
+                ∙ ap (λ (t : List ℕ). after_bytes g.state (take (used (length out.bytes.now) g.state t) t)) (sym cut)
                 ∙ g.same_state,
           )
 
-      reached : r ≡ length then.answers
-      reached = then_holds.written.next ∙ omega arith
+      reached : out''.at ≡ length then.answers
+      reached = then_holds.written.written.next ∙ omega arith
+
+      answer_long : length out''.bytes.now ≡ length out.bytes.now
+      answer_long = writes_long then_holds.written
 
       -- and the next has room
-      pub going_on : r + 4571 ≤ length out → Going (begun m line₀ n) input p out mem' line' 0 out'' r (e + 1)
+      pub going_on : 4571 ≤ length out''.bytes.now - out''.at → Going (at_start m line₀) input p out mem' line' out'' (e + 1)
       going_on k =
-          let t = turned (used (length out) then behind) (rw (le-ltb (length out) (length then.answers + 4571) (omega (arith, reached)))) in
-          record { state = then; holds = then_holds; room = k; same_end = t.0; same_state = t.1 }
+          let t = turned (used (length out.bytes.now) then behind) (rw (le-ltb (length out.bytes.now) (length then.answers + 4571) (omega (arith, reached, answer_long)))) in
+          record { state = then; holds = then_holds; room = omega (arith, answer_long, b.short); same_end = t.0; same_state = t.1 }
 
       -- or has none
-      pub going_full : length out < r + 4571 → AnswersLines m line₀ n input p out mem' line' 0 out'' r (e + 1)
+      pub going_full : length out''.bytes.now - out''.at < 4571 → AnswersLines m line₀ input p out mem' line' out'' (e + 1)
       unfolding after_bytes
       going_full k =
-          let t = turned 0 (rw (lt-ltb (length out) (length then.answers + 4571) (omega (arith, reached)))) in
-          ends m line₀ n then then_holds (omega (arith, t.0)) t.1
+          let t = turned 0 (rw (lt-ltb (length out.bytes.now) (length then.answers + 4571) (omega (arith, reached, answer_long)))) in
+          ends m line₀ then then_holds (omega (arith, t.0)) t.1

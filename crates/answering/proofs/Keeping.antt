@@ -4,12 +4,12 @@ use native.Mathlib.Omega.{arith}
 use mathlib.Core.Path.{◌≡◌, refl, ap, ◌∙◌}
 use mathlib.Core.Logic.{◌⊎◌, inl, inr}
 use mathlib.Core.List.{List, [], ◌∷◌}
-use lib.ListN.{length, take, length-take}
-use borrow.Author.Tests.{lt-ltb, le-ltb}
+use lib.ListN.{length}
+use borrow.Author.Tests.{lt-ltb}
 use Rattle.definitions.proofs.Views.{lt_or_le}
 use Rattle.forms.specs.ReadLine.{read_line}
 use Rattle.form_answers.specs.Memory.{line_answer, memory_after_line}
-use Rattle.lines.specs.Kept.{part, keeps, kept_in}
+use Rattle.lines.specs.Kept.{Kept, part, too_long, keeps}
 use Rattle.lines.proofs.Keeping.{keeps_fit, keeps_over}
 use Rattle.answering.specs.Parts.{kept_answer, kept_memory, end_answer, end_memory}
 
@@ -35,15 +35,8 @@ module _ (m l : List ℕ) where
 
 -- ── the last line ──
 
--- some bytes are kept: the end of the input ends their line
-end_some : (m : List ℕ) (l : List ℕ) → 0 < length l → (end_answer m (part l) ≡ kept_answer m (part l)) × (end_memory m (part l) ≡ kept_memory m (part l))
-end_some m [] h = absurd (omega arith)
-end_some m (b ∷ l) h = (refl, refl)
-
-pub end_kept : (m line : List ℕ) (n : ℕ) → 1024 ≤ length line → 0 < n
-    → (end_answer m (kept_in line n) ≡ kept_answer m (kept_in line n)) × (end_memory m (kept_in line n) ≡ kept_memory m (kept_in line n))
-end_kept m line n h k = go (lt_or_le 1024 n)
-  where
-    go : (1024 < n) ⊎ (n ≤ 1024) → (end_answer m (kept_in line n) ≡ kept_answer m (kept_in line n)) × (end_memory m (kept_in line n) ≡ kept_memory m (kept_in line n))
-    go (inl f) = rw (lt-ltb 1024 n f) (refl, refl)
-    go (inr f) = rw (le-ltb 1024 n f) (end_some m (take n line) (omega (arith, length-take n line)))
+-- some bytes are kept, or the line is too long: the end of the input ends it
+pub end_kept : (m : List ℕ) (k : Kept) → (k ≡ part [] → ⊥) → (end_answer m k ≡ kept_answer m k) × (end_memory m k ≡ kept_memory m k)
+end_kept m (part []) n = absurd (n refl)
+end_kept m (part (b ∷ l)) n = (refl, refl)
+end_kept m too_long n = (refl, refl)

@@ -4,9 +4,10 @@ use mathlib.Core.Path.{◌≡◌, refl, sym, ap, ◌∙◌}
 use mathlib.Core.List.{List, [], append-nil}
 use lib.ListN.{length, take, drop, take-append-drop, drop_of_length-le}
 use lib.Seq.{drop-drop}
-use Rattle.lines.specs.Kept.{Kept, kept_in}
+use Rattle.lines.specs.Kept.{Kept}
+use Rattle.replies.specs.declared.Output.{Output}
 use Rattle.answering.specs.Parts.{State, at_start, after_bytes, used}
-use Rattle.answering.specs.Cited.{begun, AnswersLines, TakesPart}
+use Rattle.answering.specs.Cited.{AnswersLines, TakesPart}
 use Rattle.answering.proofs.Cutting.{after_append, behind, after_behind}
 
 -- two states are the same but for what was answered
@@ -27,37 +28,34 @@ alike_after bs s m k e f =
     }
 
 -- answering on from index p ends as answering the whole part does
-pub record Reached (memory line : List ℕ) (n : ℕ) (input : List ℕ) (p : ℕ) (memory' line' : List ℕ) (n' : ℕ) : Type 0 where
-  pub alike : Alike (after_bytes (begun memory' line' n') (drop p input)) (after_bytes (begun memory line n) input)
-  pub counted : n' ≤ 1025
+pub record Reached (memory : List ℕ) (line : Kept) (input : List ℕ) (p : ℕ) (memory' : List ℕ) (line' : Kept) : Type 0 where
+  pub alike : Alike (after_bytes (at_start memory' line') (drop p input)) (after_bytes (at_start memory line) input)
 
-module _ (m line : List ℕ) (n : ℕ) (input : List ℕ) where
-  pub reached_start : n ≤ 1025 → Reached m line n input 0 m line n
-  reached_start h = record { alike = record { memory = refl; kept = refl }; counted = h }
+module _ (m : List ℕ) (line : Kept) (input : List ℕ) where
+  pub reached_start : Reached m line input 0 m line
+  reached_start = record { alike = record { memory = refl; kept = refl } }
 
-  pub reached_on : (p : ℕ) (m' line' : List ℕ) (n' : ℕ) {out m'' line'' out' : List ℕ} {n'' at next : ℕ} → Reached m line n input p m' line' n' → AnswersLines m' line' n' input p out m'' line'' n'' out' at next → Reached m line n input next m'' line'' n''
-  reached_on p m' line' n' {out} {m''} {line''} {out'} {n''} {at} {next} r a =
-      let s : State = begun m' line' n' in
+  pub reached_on : (p : ℕ) (m' : List ℕ) (line' : Kept) {o o' : Output} {m'' : List ℕ} {line'' : Kept} {next : ℕ} → Reached m line input p m' line' → AnswersLines m' line' input p o m'' line'' o' next → Reached m line input next m'' line''
+  reached_on p m' line' {o} {o'} {m''} {line''} {next} r a =
+      let s : State = at_start m' line' in
       let t : List ℕ = drop p input in
-      let u : ℕ = used (length out) s t in
+      let u : ℕ = used (length o.bytes.now) s t in
       let x : State = after_bytes s (take u t) in
       let e : drop next input ≡ drop u t = ap (λ (k : ℕ). drop k input) a.goes_to ∙ sym (drop-drop u p input) in
       let f : after_bytes x (drop u t) ≡ after_bytes s t = sym (after_append (take u t) (drop u t) s) ∙ ap (after_bytes s) (take-append-drop u t) in
-      let g : Alike (after_bytes (begun m'' line'' n'') (drop u t)) (after_bytes x (drop u t)) = alike_after (drop u t) x m'' (kept_in line'' n'') a.holds.memory_is a.holds.kept_is in
+      let g : Alike (after_bytes (at_start m'' line'') (drop u t)) (after_bytes x (drop u t)) = alike_after (drop u t) x m'' line'' a.holds.memory_is a.holds.kept_is in
       record {
         alike = record {
-          memory = ap (λ (k : List ℕ). (after_bytes (begun m'' line'' n'') k).memory) e ∙ g.memory ∙ ap (λ (k : State). k.memory) f ∙ r.alike.memory;
-          kept = ap (λ (k : List ℕ). (after_bytes (begun m'' line'' n'') k).kept) e ∙ g.kept ∙ ap (λ (k : State). k.kept) f ∙ r.alike.kept;
+          memory = ap (λ (k : List ℕ). (after_bytes (at_start m'' line'') k).memory) e ∙ g.memory ∙ ap (λ (k : State). k.memory) f ∙ r.alike.memory;
+          kept = ap (λ (k : List ℕ). (after_bytes (at_start m'' line'') k).kept) e ∙ g.kept ∙ ap (λ (k : State). k.kept) f ∙ r.alike.kept;
         };
-        counted = a.holds.counted;
       }
 
-  pub reached_end : (p : ℕ) (m' line' : List ℕ) (n' : ℕ) → length input ≤ p → Reached m line n input p m' line' n' → TakesPart m line n input m' line' n'
+  pub reached_end : (p : ℕ) (m' : List ℕ) (line' : Kept) → length input ≤ p → Reached m line input p m' line' → TakesPart m line input m' line'
   unfolding after_bytes
-  reached_end p m' line' n' h r =
+  reached_end p m' line' h r =
       let d : drop p input ≡ [] = drop_of_length-le input h in
       record {
-        memory_is = sym (ap (λ (t : List ℕ). (after_bytes (begun m' line' n') t).memory) d) ∙ r.alike.memory;
-        kept_is = sym (ap (λ (t : List ℕ). (after_bytes (begun m' line' n') t).kept) d) ∙ r.alike.kept;
-        counted = r.counted;
+        memory_is = sym (ap (λ (t : List ℕ). (after_bytes (at_start m' line') t).memory) d) ∙ r.alike.memory;
+        kept_is = sym (ap (λ (t : List ℕ). (after_bytes (at_start m' line') t).kept) d) ∙ r.alike.kept;
       }

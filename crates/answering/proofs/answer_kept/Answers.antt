@@ -1,18 +1,8 @@
--- `answering::answer_kept` meets its contract. Assumes nothing.
-use native.Mathlib.Omega.{arith}
-use lib.ListN.{length-take}
-use Rattle.answering.proofs.KeptLines.{kept_line, kept_long}
+-- `answering::answer_kept` meets its contract: a text, or a line that is too long. Assumes nothing.
+use mathlib.Core.Path.{sym, ap, ◌∙◌}
+use Rattle.lines.specs.Kept.{kept_text}
+use Rattle.answering.proofs.KeptLines.{kept_same, too_long_refused}
 use Rattle.answering.proofs.answer_kept.Goals as goal
 
-pub returns-then-n-gt-LINE_LIMIT : goal.returns-then-n-gt-LINE_LIMIT
-returns-then-n-gt-LINE_LIMIT c =
-    let a = c.args in
-    kept_long a.line.now a.n (omega arith) c.put_refused.ensures
-
-pub slice_bounds-answer-end : goal.slice_bounds-answer-end
-slice_bounds-answer-end c = simp length-take (omega arith)
-
-pub returns : goal.returns
-returns c =
-    let a = c.args in
-    kept_line a.mem.now a.line.now a.n (omega arith) c.answer.ensures
+pub returns-in-None : goal.returns-in-None
+returns-in-None c = kept_same c.args.mem.now (sym (ap kept_text c.in-None.is) ∙ c.text.ensures) (too_long_refused c.put_refused.ensures)

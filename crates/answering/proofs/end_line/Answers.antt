@@ -1,14 +1,9 @@
--- `answering::end_line` meets its contract. Assumes nothing.
-use native.Mathlib.Omega.{arith}
-use Rattle.answering.proofs.KeptLines.{line_at_hand, kept_same}
+-- `answering::end_line` meets its contract: all of the line is at hand, or its last bytes are kept, too. Assumes nothing.
+use Rattle.answering.proofs.KeptLines.{nothing_kept, line_at_hand}
 use Rattle.answering.proofs.end_line.Goals as goal
 
-pub returns-then-n-eq0 : goal.returns-then-n-eq0
-returns-then-n-eq0 c =
+pub returns-in-Some-empty-clause-answered : goal.returns-in-Some-empty-clause-answered
+returns-in-Some-empty-clause-answered c =
     let a = c.args in
-    line_at_hand a.mem.now a.line.now a.part.now a.n (omega arith) c.answer.ensures
-
-pub returns : goal.returns
-returns c =
-    let a = c.args in
-    kept_same a.mem.now c.keep-k.ensures.keeps_them c.answer_kept.ensures
+    let t = c.in-Some-empty in
+    line_at_hand a.mem.now a.line.now a.last.now (nothing_kept t.field-0.now t.len_below t.ensures) c.answer.ensures

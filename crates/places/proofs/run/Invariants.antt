@@ -1,6 +1,7 @@
 -- `places::run` is safe and ends. Assumes nothing.
-use Prim.Native.Nat.{◌≤◌}
+use mathlib.Core.Path.{◌≡◌}
+use lib.ListN.{length}
 use Rattle.places.proofs.run.Given as goal
 
 abbrev pub invariant-loop : goal.invariant-loop
-invariant-loop g l = l.kept ≤ 1025
+invariant-loop g l = length l.out.bytes.now ≡ length l.initial.out.bytes.now
