@@ -1,12 +1,13 @@
 -- What a line is answered where recordings are replayed: (new) opens a fresh index, (save) prints its image. Assumes nothing.
 use Rattle.std.specs.Prelude.{ℕ, ◌+◌, ◌-◌, ◌≤◌, ◌≡◌, Bool, false, cond, List, [], ◌∷◌, ◌++◌, length, take, drop, replicate, eqb}
-use Rattle.std.proofs.lemmas.List.Edits.{sets}
 use Rattle.definitions.specs.Program.{text, hex, refused, program_capacity}
 use Rattle.memory_header.specs.Opening.{open_memory}
 use Rattle.saving.specs.Saving.{Saving, save_memory}
 use Rattle.numerals.specs.Numerals.{starts}
 use Rattle.lines.specs.Cut.{line_end}
-use Rattle.replies.specs.Written.{Written, reply_bytes}
+use Rattle.replies.specs.declared.Output.{Output}
+use Rattle.replies.specs.Outputs.{Writes, emptied}
+use Rattle.replies.specs.Written.{reply_bytes}
 use Rattle.form_answers.specs.Memory.{line_answer, memory_after_line}
 
 -- whether a line is a word
@@ -34,9 +35,9 @@ abbrev pub replay_memory : List ℕ → List ℕ → List ℕ
 replay_memory m l = cond (is_word (text "(new)") l) (open_memory m program_capacity).memory (cond (is_word (text "(save)") l) m (memory_after_line m l))
 
 -- a line was answered from the start of an output, which holds all of the answer
-pub record Replays (m l out m' out' : List ℕ) (r : ℕ) : Type 0 where
-  pub written : Written out 0 (replay_answer m l) out' r
-  pub within : r ≤ length out
+pub record Replays (m l : List ℕ) (out : Output) (m' : List ℕ) (out' : Output) : Type 0 where
+  pub written : Writes (emptied out) (replay_answer m l) out'
+  pub within : out'.at ≤ length out.bytes.now
   pub leaves : m' ≡ replay_memory m l
 
 -- the line that begins at an index
@@ -48,8 +49,8 @@ abbrev pub next_line : List ℕ → ℕ → Bool → ℕ
 next_line s p taken = cond taken (line_end s p + 1) (length s)
 
 -- the line from an index on was answered, and r is where the next one begins; no contract says whether an output takes bytes
-pub record ReplaysNext (m s : List ℕ) (p : ℕ) (out m' out' : List ℕ) (r : ℕ) : Type 0 where
+pub record ReplaysNext (m s : List ℕ) (p : ℕ) (out : Output) (m' : List ℕ) (out' : Output) (r : ℕ) : Type 0 where
   pub taken : Bool
   pub next : r ≡ next_line s p taken
-  pub answer : out' ≡ sets out 0 (replay_answer m (line_from s p))
+  pub answer : Writes (emptied out) (replay_answer m (line_from s p)) out'
   pub leaves : m' ≡ replay_memory m (line_from s p)
