@@ -1,6 +1,6 @@
 -- A part of the input that is answered in turns, an output at a time, is answered whole. Assumes nothing.
 use Prim.Native.Nat.{ℕ, ◌≤◌}
-use mathlib.Core.Path.{◌≡◌, refl, sym, ap, ◌∙◌}
+use mathlib.Core.Path.{◌≡◌, sym, ap, ◌∙◌}
 use mathlib.Core.List.{List, [], append-nil}
 use lib.ListN.{length, take, drop, take-append-drop, drop_of_length-le}
 use lib.Seq.{drop-drop}
@@ -32,9 +32,6 @@ pub record Reached (memory : List ℕ) (line : Kept) (input : List ℕ) (p : ℕ
   pub alike : Alike (after_bytes (at_start memory' line') (drop p input)) (after_bytes (at_start memory line) input)
 
 module _ (m : List ℕ) (line : Kept) (input : List ℕ) where
-  pub reached_start : Reached m line input 0 m line
-  reached_start = record { alike = record { memory = refl; kept = refl } }
-
   pub reached_on : (p : ℕ) (m' : List ℕ) (line' : Kept) {o o' : Output} {m'' : List ℕ} {line'' : Kept} {next : ℕ} → Reached m line input p m' line' → AnswersLines m' line' input p o m'' line'' o' next → Reached m line input next m'' line''
   reached_on p m' line' {o} {o'} {m''} {line''} {next} r a =
       let s : State = at_start m' line' in

@@ -14,9 +14,8 @@ use borrow.Author.Tests.{eq-eqb, ne_eqb}
 use Rattle.std.specs.Bool.{Decides}
 use Rattle.std.proofs.lemmas.Slice.Eq.{slice_eq-Decides}
 use Rattle.std.proofs.lemmas.Bool.Decides.{Decides-eqb}
-use Rattle.definitions.specs.Program.{text, hex, hex_digit, refused, program_capacity}
+use Rattle.definitions.specs.Program.{text, hex, hex_digit, refused}
 use Rattle.definitions.proofs.Views.{Eq, eq, lt_or_le}
-use Rattle.memory_header.specs.Opening.{open_memory}
 use Rattle.saving.specs.Saving.{Saving}
 use Rattle.definitions.specs.declared.refusal.Refusal.{Refusal}
 use Rattle.definitions.specs.Refusals.{cause_of, number_of}
@@ -27,11 +26,8 @@ use Rattle.forms.proofs.Bytes.{length_hex}
 use Rattle.forms.proofs.Lines.{starts_tells}
 use Rattle.lines.specs.Cut.{line_end}
 use Rattle.replies.specs.declared.Output.{Output}
-use Rattle.replies.specs.Outputs.{Writes, emptied}
 use Rattle.replies.specs.Written.{reply_bytes}
-use Rattle.form_answers.specs.Memory.{line_answer, memory_after_line}
-use Rattle.form_answers.specs.Answered.{AnsweredBy}
-use Rattle.test_replay.specs.Replay.{is_word, image_line, save_line, save_answer, Replays, line_from, ReplaysNext}
+use Rattle.test_replay.specs.Replay.{is_word, image_line, save_line, Replays, line_from, ReplaysNext}
 
 -- ── digits ──
 
@@ -115,16 +111,6 @@ word_is w l = as_one (pointwise eqb l w) (is_word w l) (λ e. forth (same.0 e)) 
         let k : length l ≤ length w = omega arith in
         starts_tells w l e ∙ ap (λ (t : List ℕ). w ++ t) (drop_of_length-le l k) ∙ append-nil w
     back false n e = absurd (cc)
-
-module _ {m l m' : List ℕ} {out out' : Output} (within : out'.at ≤ length out.bytes.now) where
-  pub replays_new : true ≡ is_word (text "(new)") l → m' ≡ (open_memory m program_capacity).memory → Writes (emptied out) [] out' → Replays m l out m' out'
-  replays_new e f w = record { written = rw (sym e) w; within = within; leaves = rw (sym e) f }
-
-  pub replays_save : false ≡ is_word (text "(new)") l → true ≡ is_word (text "(save)") l → m' ≡ m → Writes (emptied out) (save_answer m) out' → Replays m l out m' out'
-  replays_save d e f w = record { written = rw (sym d, sym e) w; within = within; leaves = rw (sym d, sym e) f }
-
-  pub replays_form : false ≡ is_word (text "(new)") l → false ≡ is_word (text "(save)") l → AnsweredBy (emptied out) (line_answer m l) (memory_after_line m l) out' m' → Replays m l out m' out'
-  replays_form d e w = record { written = rw (sym d, sym e) w.written; within = within; leaves = rw (sym d, sym e) w.leaves }
 
 -- ── the next line ──
 

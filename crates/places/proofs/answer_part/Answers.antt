@@ -1,7 +1,7 @@
 -- `places::answer_part` meets its contract: from each turn on, the part ends as it does from its first byte. Assumes nothing.
 use native.Mathlib.Omega.{arith}
 use Rattle.replies.proofs.Writing.{writes_long}
-use Rattle.answering.proofs.Turns.{reached_start, reached_on, reached_end}
+use Rattle.answering.proofs.Turns.{reached_on, reached_end}
 use Rattle.places.proofs.answer_part.Goals as goal
 
 pub write_part-requires : goal.write_part-requires
