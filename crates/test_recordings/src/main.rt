@@ -4,19 +4,34 @@
 #![tactic(auto)]
 
 ghost use Rattle.std.specs.Prelude.{◌≡◌, ◌+◌, ◌*◌, ◌<◌, ◌≤◌, length, replicate};
+ghost use Rattle.std.specs.Option.{ForSome};
+ghost use Rattle.std.specs.Result.{ForOk};
 ghost use Rattle.handing_over.specs.Search.{search_memory};
 ghost use Rattle.test_recordings.specs.Counting.{counting_up};
-ghost use Rattle.test_recordings.specs.Handed.{before, handed};
+ghost use Rattle.test_recordings.specs.Handed.{before, IsHanded};
 
 use location::SpacetimeLocation;
-use row_buffer::Finding;
 use std::io;
-use string_index::{Answer, Outcome, Recorded, Row, Saved};
+use string_index::{Refusal, Row};
+
+// What was refused, where it was.
+fn print_refused<P: Print>(rt: &P, what: &str, answer: Result<(), Refusal>) -> io::Result<()> {
+    match answer {
+        Ok(()) => Ok(()),
+        Err(r) => println!(rt; "  {what} refused {}", r.number()),
+    }
+}
 
 fn open<P: Print>(rt: &P, mem: &mut [u8], nodes: u64, entries: u64) -> io::Result<()> {
-    match string_index::open(mem, nodes, entries) {
-        Outcome::Done => Ok(()),
-        Outcome::Refused(n) => println!(rt; "  opening refused {n}"),
+    let opened = string_index::open(mem, nodes, entries);
+    print_refused(rt, "opening", opened)
+}
+
+// That a call was done, or the number of its refusal.
+fn print_done<P: Print>(rt: &P, done: &str, answer: Result<(), Refusal>) -> io::Result<()> {
+    match answer {
+        Ok(()) => println!(rt; " {done}"),
+        Err(r) => println!(rt; " refused {}", r.number()),
     }
 }
 
@@ -27,10 +42,8 @@ fn record_at<P: Print>(
     data: &[u8],
 ) -> io::Result<()> {
     print!(rt; "  block of {}", data.len())?;
-    match string_index::record(mem, 1, l, data) {
-        Recorded::Taken => println!(rt; " taken"),
-        Recorded::Refused(n) => println!(rt; " refused {n}"),
-    }
+    let recorded = string_index::record(mem, 1, l, data);
+    print_done(rt, "taken", recorded)
 }
 
 // Records a block at an address, from tick 1 to 2.
@@ -39,17 +52,26 @@ fn record<P: Print>(rt: &P, mem: &mut [u8], address: u64, data: &[u8]) -> io::Re
 }
 
 fn finish<P: Print>(rt: &P, mem: &mut [u8]) -> io::Result<()> {
-    match string_index::finish(mem) {
-        Outcome::Done => Ok(()),
-        Outcome::Refused(n) => println!(rt; "  finish refused {n}"),
+    let finished = string_index::finish(mem);
+    print_refused(rt, "finish", finished)
+}
+
+// How many rows there are, or the number of the refusal.
+fn print_rows<P: Print>(rt: &P, answer: Result<usize, Refusal>) -> io::Result<()> {
+    match answer {
+        Ok(n) => print!(rt; " has rows {n}"),
+        Err(r) => print!(rt; " refused {}", r.number()),
     }
 }
 
-// Prints the first of the n rows at the front of scratch, where there is one.
-fn print_first<P: Print>(rt: &P, scratch: &[u8], n: usize) -> io::Result<()>
-    requires { n * 24 ≤ length scratch.now }
+// The same, and the first of the rows at the front of scratch, where there is one.
+fn print_found<P: Print>(rt: &P, found: Result<usize, Refusal>, scratch: &[u8]) -> io::Result<()>
+    requires { ForOk found (λ n. n * 24 ≤ length scratch.now) }
 {
-    if 0 < n {
+    print_rows(rt, found)?;
+    if let Ok(n) = found
+        && 0 < n
+    {
         let l = location::location_at(scratch, 0);
         print!(rt;
             " the first at {} {} {}",
@@ -57,17 +79,6 @@ fn print_first<P: Print>(rt: &P, scratch: &[u8], n: usize) -> io::Result<()>
         )?;
     }
     println!(rt)
-}
-
-// The number of the refusal, or how many rows there are and the first.
-fn print_found<P: Print>(rt: &P, found: Finding, scratch: &[u8]) -> io::Result<()>
-    requires { found.count * 24 ≤ length scratch.now }
-{
-    if found.refusal != 0 {
-        return println!(rt; " refused {}", found.refusal);
-    }
-    print!(rt; " has rows {}", found.count)?;
-    print_first(rt, scratch, found.count)
 }
 
 fn find<P: Print>(rt: &P, mem: &[u8], q: &[u8]) -> io::Result<()> {
@@ -85,50 +96,51 @@ fn find_number<P: Print>(rt: &P, mem: &[u8], typed: &[u8]) -> io::Result<()> {
     print_found(rt, found, &scratch)
 }
 
-// The image: its size, its first byte, and the number at an index.
-fn save<P: Print>(rt: &P, mem: &[u8], at: usize) -> io::Result<()> {
+// The image: its size, its first byte, and the number at an index where one is asked for.
+fn save<P: Print>(rt: &P, mem: &[u8], at: Option<usize>) -> io::Result<()>
+    requires { ForSome at (λ a. a ≤ 39992) }
+{
     let mut out = [0u8; 40000];
     match string_index::save(mem, &mut out) {
-        Saved::Bytes(n) => {
+        Ok(n) => {
             print!(rt; "  image of {n} of kind {}", out[0])?;
-            if at < 39992 {
+            if let Some(at) = at {
                 print!(rt; " with {}", words::get64(&out, at))?;
             }
             println!(rt)
         }
-        Saved::Refused(n) => println!(rt; "  saving refused {n}"),
+        Err(r) => println!(rt; "  saving refused {}", r.number()),
     }
 }
 
-// Loads an image, the first n bytes of a buffer.
-fn load<P: Print>(rt: &P, mem: &mut [u8], out: &[u8], n: usize) -> io::Result<()> {
-    if out.len() < n {
-        return Ok(());
-    }
-    print!(rt; "  image of {n}")?;
-    match string_index::load(mem, &out[0..n]) {
-        Outcome::Done => println!(rt; " loaded"),
-        Outcome::Refused(n) => println!(rt; " refused {n}"),
-    }
+fn load<P: Print>(rt: &P, mem: &mut [u8], image: &[u8]) -> io::Result<()> {
+    print!(rt; "  image of {}", image.len())?;
+    let loaded = string_index::load(mem, image);
+    print_done(rt, "loaded", loaded)
 }
 
 // Loads an image without its last byte.
-fn load_cut<P: Print>(rt: &P, mem: &mut [u8], out: &[u8], n: usize) -> io::Result<()> {
-    if n == 0 {
+fn load_cut<P: Print>(rt: &P, mem: &mut [u8], image: &[u8]) -> io::Result<()> {
+    let Some((_, front)) = image.split_last() else {
         return Ok(());
-    }
-    load(rt, mem, out, n - 1)
+    };
+    load(rt, mem, front)
 }
 
 // Saves an index, opens another in its memory, and loads the image there.
-fn reload<P: Print>(rt: &P, mem: &mut [u8], at: usize, q: &[u8]) -> io::Result<()> {
+fn reload<P: Print>(rt: &P, mem: &mut [u8], at: Option<usize>, q: &[u8]) -> io::Result<()>
+    requires { ForSome at (λ a. a ≤ 39992) }
+{
     let mut out = [0u8; 40000];
-    let Saved::Bytes(n) = string_index::save(mem, &mut out) else {
+    let Ok(n) = string_index::save(mem, &mut out) else {
+        return Ok(());
+    };
+    let Some(image) = out.get(..n) else {
         return Ok(());
     };
     open(rt, mem, 300, 600)?;
-    load_cut(rt, mem, &out, n)?;
-    load(rt, mem, &out, n)?;
+    load_cut(rt, mem, image)?;
+    load(rt, mem, image)?;
     save(rt, mem, at)?;
     find(rt, mem, q)
 }
@@ -136,14 +148,14 @@ fn reload<P: Print>(rt: &P, mem: &mut [u8], at: usize, q: &[u8]) -> io::Result<(
 // What a search answers, and one of the rows that were lent to it.
 #[derive(Clone, Copy)]
 struct Handed {
-    answer: Answer,
+    answer: Result<usize, Refusal>,
     row: Row,
 }
 
 // A search with four rows lent, whose numbers are 7 before: its answer, and the row at an index afterwards.
 fn search(mem: &[u8], q: &[u8], scratch: &mut [u8], at: usize) -> Handed
     requires { at < 4 }
-    ensures { result ≡ handed (search_memory mem.now q.now (length scratch.old) (replicate 4 before)) at }
+    ensures { IsHanded (search_memory mem.now q.now (length scratch.old) (replicate 4 before)) at result }
 {
     let before = Row {
         address: 7,
@@ -153,7 +165,7 @@ fn search(mem: &[u8], q: &[u8], scratch: &mut [u8], at: usize) -> Handed
     let mut rows = [before; 4];
     let answer = string_index::search(mem, q, scratch, &mut rows);
     Handed {
-        answer: answer,
+        answer,
         row: rows[at],
     }
 }
@@ -170,20 +182,13 @@ fn print_row<P: Print>(rt: &P, mem: &[u8], q: &[u8], at: usize) -> io::Result<()
     )
 }
 
-fn print_answer<P: Print>(rt: &P, a: Answer) -> io::Result<()> {
-    match a {
-        Answer::Rows(n) => println!(rt; " has rows {n}"),
-        Answer::Refused(n) => println!(rt; " refused {n}"),
-    }
-}
-
 // The answer of a search, and the first three of the rows lent to it.
 fn show<P: Print>(rt: &P, mem: &[u8], q: &[u8]) -> io::Result<()> {
     let mut scratch = [0u8; 2400];
     print!(rt; "  search for {}", q.len())?;
     let h = search(mem, q, &mut scratch, 0);
-    let answer = h.answer;
-    print_answer(rt, answer)?;
+    print_rows(rt, h.answer)?;
+    println!(rt)?;
     print_row(rt, mem, q, 0)?;
     print_row(rt, mem, q, 1)?;
     print_row(rt, mem, q, 2)
@@ -219,10 +224,8 @@ fn six<P: Print>(rt: &P, mem: &mut [u8]) -> io::Result<()> {
 fn count_up(data: &mut [u8])
     ensures { «data».new ≡ counting_up (length «data».old) }
 {
-    let mut i = 0;
-    while i < data.len() {
+    for i in 0..data.len() {
         data[i] = (i % 251) as u8;
-        i += 1;
     }
 }
 
@@ -244,15 +247,13 @@ fn eleven<P: Print>(rt: &P, mem: &mut [u8]) -> io::Result<()> {
 fn root<P: Print>(rt: &P, mem: &mut [u8], n: usize) -> io::Result<()> {
     let mut byte = [0u8; 1];
     open(rt, mem, 300, 600)?;
-    let mut i = 0;
-    while i < n {
+    for i in 0..n {
         byte[0] = (i % 256) as u8;
         let l = SpacetimeLocation::new(i as u64, 1, 2);
-        string_index::record(mem, 1, l, &byte);
-        i += 1;
+        let _ = string_index::record(mem, 1, l, &byte);
     }
     finish(rt, mem)?;
-    save(rt, mem, 40000)?;
+    save(rt, mem, None)?;
     find(rt, mem, &byte)
 }
 
@@ -263,7 +264,7 @@ fn twelve<P: Print>(rt: &P, mem: &mut [u8]) -> io::Result<()> {
     root(rt, mem, 9)?;
     root(rt, mem, 96)?;
     root(rt, mem, 97)?;
-    reload(rt, mem, 40000, b"`")?;
+    reload(rt, mem, None, b"`")?;
     root(rt, mem, 256)
 }
 
@@ -273,8 +274,8 @@ fn thirteen<P: Print>(rt: &P, mem: &mut [u8]) -> io::Result<()> {
     open(rt, mem, 10, 10)?;
     record(rt, mem, 5, b"a")?;
     finish(rt, mem)?;
-    save(rt, mem, 58)?;
-    reload(rt, mem, 58, b"a")
+    save(rt, mem, Some(58))?;
+    reload(rt, mem, Some(58), b"a")
 }
 
 // Opens an index and loads an image there.
@@ -286,7 +287,7 @@ fn load_into<P: Print>(
     img: &[u8],
 ) -> io::Result<()> {
     open(rt, mem, nodes, entries)?;
-    load(rt, mem, img, img.len())
+    load(rt, mem, img)
 }
 
 // Loads an image where there is room for it, where there are too few nodes, and where there are too few entries.
@@ -307,7 +308,7 @@ fn record_conflicting<P: Print>(rt: &P, mem: &mut [u8]) -> io::Result<()> {
 // breaks the index rule, and in both lists, which is a conflict.
 fn load_moved<P: Print>(rt: &P, mem: &mut [u8]) -> io::Result<()> {
     let mut out = [0u8; 172];
-    string_index::save(mem, &mut out);
+    let _ = string_index::save(mem, &mut out);
     load_each(rt, mem, &out)?;
     out[57] = 1;
     load_each(rt, mem, &out)?;

@@ -1,8 +1,0 @@
--- `test_recordings::find` is safe and ends. Assumes nothing.
-use Rattle.row_buffer.proofs.Answering.{rows_within}
-use Rattle.test_recordings.proofs.find.Goals as goal
-
-pub print_found-requires : goal.print_found-requires
-print_found-requires g c =
-    let d = c.find-found in
-    rows_within d.ensures.found d.ensures.rows
