@@ -1,9 +1,9 @@
 -- Where a step through a stream leads. Assumes nothing.
-use Rattle.std.specs.Prelude.{ℕ, ◌≤◌, ◌<◌, List, length}
-use Rattle.test_streams.specs.declared.Step.{Step}
-use Rattle.test_streams.specs.declared.Step.TheVariants.{On, Stopped}
+use Rattle.std.specs.Prelude.{ℕ, ◌≤◌, ◌<◌, List, length, Option, Some, None, Result, Ok, Err}
+use Rattle.definitions.specs.declared.refusal.Refusal.{Refusal}
 
 -- behind the cursor, and within the stream
-abbrev pub Onward : List ℕ → ℕ → Step → Type 0
-Onward s at (On next) = (at < next) × (next ≤ length s)
-Onward s at (Stopped n) = Unit {0}
+abbrev pub Onward : List ℕ → ℕ → Result (Option ℕ) Refusal → Type 0
+Onward s at (Ok (Some next)) = (at < next) × (next ≤ length s)
+Onward s at (Ok None) = Unit {0}
+Onward s at (Err r) = Unit {0}

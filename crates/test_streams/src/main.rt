@@ -4,11 +4,10 @@
 
 ghost use Rattle.test_streams.specs.Step.{Onward};
 
-use block_stream::Read;
 use location::SpacetimeLocation;
 use std::io;
 use std::rt::Files;
-use string_index::{Recorded, Saved, Streamed};
+use string_index::{Refusal, Stopped};
 
 // The capacity of an index, the memory that it needs, and its longest image.
 const NODES: u64 = 8000;
@@ -37,20 +36,6 @@ const STREAMS: [&str; 14] = [
     "empty",
 ];
 
-// How a recording ended: how many blocks were taken, and the number of what stopped it, 0 at the stream's end.
-#[derive(Clone, Copy)]
-struct Ended {
-    taken: u64,
-    number: u64,
-}
-
-// Where the next block stands, behind one that is taken; or the number of what stopped the recording, 0 at the stream's end.
-#[derive(Clone, Copy)]
-enum Step {
-    On(usize),
-    Stopped(u64),
-}
-
 // Prints a number of the recording by one call and of that block by block.
 fn print_both<P: Print>(rt: &P, what: &str, n: u64, m: u64) -> io::Result<()> {
     print!(rt; "{what}{n} and {m}")?;
@@ -65,56 +50,61 @@ fn print_same<P: Print>(rt: &P, what: &str, a: &[u8], b: &[u8]) -> io::Result<()
     println!(rt; "{what}{said}")
 }
 
-// Opens an index and records a stream by one call.
-fn record_stream(mem: &mut [u8], stream: &[u8]) -> Ended {
-    string_index::open(mem, NODES, ENTRIES);
-    match string_index::record_stream(mem, stream) {
-        Streamed::All(taken) => Ended { taken, number: 0 },
-        Streamed::Stopped(taken, number) => Ended { taken, number },
+// How many blocks were taken before a recording ended.
+fn taken(ended: Result<u64, Stopped>) -> u64 {
+    match ended {
+        Ok(taken) => taken,
+        Err(stopped) => stopped.taken,
     }
 }
 
-// Reads the block at a cursor and records it.
-fn record_next(mem: &mut [u8], stream: &[u8], at: usize) -> Step
+// The number of what stopped it, 0 at the stream's end.
+fn number(ended: Result<u64, Stopped>) -> u64 {
+    match ended {
+        Ok(_) => 0,
+        Err(stopped) => stopped.refusal.number(),
+    }
+}
+
+// Opens an index and records a stream by one call.
+fn record_stream(mem: &mut [u8], stream: &[u8]) -> Result<u64, Stopped> {
+    string_index::open(mem, NODES, ENTRIES)?;
+    string_index::record_stream(mem, stream)
+}
+
+// Reads the block at a cursor and records it. Where the next one stands, none at the stream's end.
+fn record_next(mem: &mut [u8], stream: &[u8], at: usize) -> Result<Option<usize>, Refusal>
     ensures { Onward stream.now at result }
 {
-    match block_stream::read_block(stream, at) {
-        Read::Block(b) => {
-            let l = SpacetimeLocation::new(b.address, b.created_at, b.destroyed_at);
-            let data = block_stream::block_data(stream, at);
-            match string_index::record(mem, b.kind as u64, l, data) {
-                Recorded::Taken => Step::On(b.next),
-                Recorded::Refused(n) => Step::Stopped(n),
-            }
-        }
-        Read::End => Step::Stopped(0),
-        Read::Refused(n) => Step::Stopped(n),
-    }
+    let Some(b) = block_stream::read_block(stream, at)? else {
+        return Ok(None);
+    };
+    let l = SpacetimeLocation::new(b.address, b.created_at, b.destroyed_at);
+    string_index::record(mem, b.kind.number(), l, b.data)?;
+    Ok(Some(b.next))
 }
 
 // Opens an index and records a stream block by block.
-fn record_singly(mem: &mut [u8], stream: &[u8]) -> Ended {
-    string_index::open(mem, NODES, ENTRIES);
+fn record_singly(mem: &mut [u8], stream: &[u8]) -> Result<u64, Stopped> {
+    string_index::open(mem, NODES, ENTRIES)?;
     let mut taken = 0;
     let mut at = 0;
     loop {
         match record_next(mem, stream, at) {
-            Step::On(next) => {
+            Ok(Some(next)) => {
                 taken += 1;
                 at = next;
             }
-            Step::Stopped(number) => return Ended { taken, number },
+            Ok(None) => return Ok(taken),
+            Err(refusal) => return Err(Stopped { taken, refusal }),
         }
     }
 }
 
-// Finishes an index and saves it: how many bytes its image has, 0 where that is refused.
-fn save(mem: &mut [u8], image: &mut [u8]) -> u64 {
-    string_index::finish(mem);
-    match string_index::save(mem, image) {
-        Saved::Bytes(n) => n as u64,
-        Saved::Refused(_) => 0,
-    }
+// Finishes an index and saves it: how many bytes its image has.
+fn save(mem: &mut [u8], image: &mut [u8]) -> Result<usize, Refusal> {
+    string_index::finish(mem)?;
+    string_index::save(mem, image)
 }
 
 // Both buffers have zeros behind the image, so they are the same where the images are.
@@ -125,9 +115,9 @@ fn compare_images<P: Print>(
     image: &mut [u8],
     other_image: &mut [u8],
 ) -> io::Result<()> {
-    let n = save(mem, image);
-    let m = save(other, other_image);
-    print_both(rt, "  image bytes: ", n, m)?;
+    let n = save(mem, image).unwrap_or(0);
+    let m = save(other, other_image).unwrap_or(0);
+    print_both(rt, "  image bytes: ", n as u64, m as u64)?;
     print_same(rt, "  images: ", image, other_image)
 }
 
@@ -142,8 +132,8 @@ fn compare<P: Print>(
 ) -> io::Result<()> {
     let a = record_stream(mem, stream);
     let b = record_singly(other, stream);
-    print_both(rt, "  taken: ", a.taken, b.taken)?;
-    print_both(rt, "  stopped by: ", a.number, b.number)?;
+    print_both(rt, "  taken: ", taken(a), taken(b))?;
+    print_both(rt, "  stopped by: ", number(a), number(b))?;
     print_same(rt, "  memories: ", mem, other)?;
     compare_images(rt, mem, other, image, other_image)
 }
