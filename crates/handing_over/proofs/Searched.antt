@@ -1,6 +1,7 @@
 -- What a call hands over is what was found: the refusal, the count, the rows put over the first ones, and scratch. Assumes nothing.
 use Prim.Native.Nat.{ℕ, ◌*◌, ◌≤◌}
 use Rattle.std.specs.Prelude.{Result, Ok, Err, IfOk}
+use Rattle.std.specs.Result.{ForOk}
 use native.Mathlib.Omega.{arith}
 use mathlib.Core.Path.{◌≡◌, sym, ap, ◌∙◌, subst}
 use mathlib.Core.List.{List}
@@ -13,6 +14,7 @@ use Rattle.rows.specs.declared.Row.{Row}
 use Rattle.rows.specs.Rows.{rows_of, rows_over}
 use Rattle.row_buffer.specs.Answer.{Finding, finding_in}
 use Rattle.finding.specs.Find.{RowsFound}
+use Rattle.handing_over.specs.Lent.{put_over}
 use Rattle.handing_over.specs.Search.{Found}
 use Rattle.handing_over.proofs.Finding.{handed_over}
 use Rattle.finding.proofs.FindCall.{Finds}
@@ -46,15 +48,17 @@ module _ (o : RowsFound) (x : List ℕ) (rows : List Row) {s : List ℕ} {f : Fi
     scratch_left : ScratchAfter g.refusal x s
     scratch_left = subst (λ (n : ℕ). ScratchAfter n x s) (sym refused ∙ ap (λ (h : Found). h.refusal) told) found.1.1
 
-module _ (o : RowsFound) (x : List ℕ) (rows : List Row) {s : List ℕ} {g : Found} (is : g ≡ handed_over o rows) where
-  pub hands_rows : (n : ℕ) → Finds o x s (finding_in (Ok n)) → (rs : List Row) → rs ≡ rows_over (locations_in s n 0) rows → Hands g (Ok n) rs x s
-  hands_rows n found rs e =
-      let t = told o x rows found is in
-      record { number = ap (λ (h : Found). h.refusal) t; count = ap (λ (h : Found). h.count) t; rows = e ∙ ap (λ (h : Found). h.rows) t; scratch = scratch_left o x rows found is }
+-- a refusal has no rows, so that those that are lent stay
+pub hands : (o : RowsFound) (x : List ℕ) (rows : List Row) {s : List ℕ} {g : Found} → g ≡ handed_over o rows → (r : Result ℕ Refusal) → Finds o x s (finding_in r)
+    → (rs : List Row) → rs ≡ put_over r s rows → Hands g r rs x s
+unfolding locations_in rows_of
+hands o x rows is (Ok n) found rs e =
+    let t = told o x rows found is in
+    record { number = ap (λ (h : Found). h.refusal) t; count = ap (λ (h : Found). h.count) t; rows = e ∙ ap (λ (h : Found). h.rows) t; scratch = scratch_left o x rows found is }
+hands o x rows is (Err r) found rs e =
+    let t = told o x rows found is in
+    record { number = ap (λ (h : Found). h.refusal) t; count = tt; rows = e ∙ ap (λ (h : Found). h.rows) t; scratch = scratch_left o x rows found is }
 
-  -- a refusal has no rows, so that those that are lent stay
-  pub hands_none : (r : Refusal) → Finds o x s (finding_in (Err r)) → Hands g (Err r) rows x s
-  unfolding locations_in rows_of
-  hands_none r found =
-      let t = told o x rows found is in
-      record { number = ap (λ (h : Found). h.refusal) t; count = tt; rows = ap (λ (h : Found). h.rows) t; scratch = scratch_left o x rows found is }
+-- what handing over asks
+pub asked : (o : RowsFound) (x : List ℕ) (rows : List Row) {s : List ℕ} (r : Result ℕ Refusal) → Finds o x s (finding_in r) → length o.rows ≤ length rows → ForOk r (λ n. (n ≤ length rows) × (n * 24 ≤ length s))
+asked o x rows {s} r found fit n e = able o x rows (subst (λ (y : Result ℕ Refusal). Finds o x s (finding_in y)) e found) fit
