@@ -13,24 +13,15 @@ ghost use Rattle.row_buffer.specs.Answer.{finding_of, finding_in};
 ghost use Rattle.searching.specs.Search.{search_answer};
 ghost use Rattle.bench_parts.specs.Parts.{but_conflicts, query_size, last_query, last_of, query_search, counted, image_search, image_counted, ScratchIn};
 
+use answer_numbers::number_of;
 use definitions::{QUERY_LIMIT, Refusal};
-
-// The number of what refuses a call, 0 where nothing does.
-fn number<T: Drop>(answer: Result<T, Refusal>) -> u64
-    ensures { result ≡ number_in answer }
-{
-    match answer {
-        Ok(_) => 0,
-        Err(r) => r.number(),
-    }
-}
 
 // The whole test: layout, bytes left over, index rule, conflicts.
 #[unsafe(no_mangle)]
 pub extern "C" fn helmapricot_judge(img: &[u8]) -> u64
     ensures { result ≡ fault_of (check_image img.now) }
 {
-    number(index_rule::check(img))
+    number_of(index_rule::check(img))
 }
 
 // All of it but conflicts.
@@ -45,11 +36,12 @@ fn check_but_conflicts(img: &[u8]) -> Result<(), Refusal>
     }
 }
 
+// The same as a number.
 #[unsafe(no_mangle)]
 pub extern "C" fn helmapricot_check(img: &[u8]) -> u64
     ensures { result ≡ fault_of (but_conflicts img.now) }
 {
-    number(check_but_conflicts(img))
+    number_of(check_but_conflicts(img))
 }
 
 // Layout and bytes left over alone.
@@ -57,7 +49,7 @@ pub extern "C" fn helmapricot_check(img: &[u8]) -> u64
 pub extern "C" fn helmapricot_layout(img: &[u8]) -> u64
     ensures { result ≡ fault_of (read_image img.now) }
 {
-    number(image::read_image(img))
+    number_of(image::read_image(img))
 }
 
 // How many bytes each query has; all are one query where they can't have so many.
@@ -143,5 +135,5 @@ pub extern "C" fn helmapricot_search_image(
     ensures count { count.new ≡ image_counted img.now (last_of queries.now size) (length scratch.old) room count.old }
     ensures scratch { ScratchIn (check_image img.now) (image_search img.now (last_of queries.now size) (length scratch.old) room) scratch.old scratch.new }
 {
-    number(test_and_search(img, queries, size, scratch, room, count))
+    number_of(test_and_search(img, queries, size, scratch, room, count))
 }
