@@ -14,4 +14,4 @@ kind_number K.Other = 4
 -- a number is that of the kind, or over the last and no kind's
 abbrev pub Decodes : ℕ → Result SpaceKind UnknownKind → Type 0
 Decodes n (Ok k) = kind_number k ≡ n
-Decodes n (Err e) = 4 < n
+Decodes n (Err e) = (e.0 ≡ n) × (4 < n)

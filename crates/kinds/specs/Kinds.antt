@@ -16,10 +16,10 @@ abbrev pub kind_in : Option NodeKind → ℕ
 kind_in None = 0
 kind_in (Some k) = kind_number k
 
--- a number is that of the kind, or no kind's
+-- a number is that of the kind, or no kind's: then it is given back with the error
 abbrev pub Decodes : ℕ → Result NodeKind UnknownNodeKind → Type 0
 Decodes n (Ok k) = kind_number k ≡ n
-Decodes n (Err e) = (n ≡ 0) ⊎ (3 < n)
+Decodes n (Err e) = (e.0 ≡ n) × ((n ≡ 0) ⊎ (3 < n))
 
 -- kind 3 for 0 to 8, 2 for 9 to 96, 1 for 97 to 256
 abbrev pub kinds : List KindRange

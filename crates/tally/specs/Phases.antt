@@ -9,7 +9,7 @@ abbrev pub phase_number : Phase → ℕ
 phase_number P.Open = 0
 phase_number P.Finished = 1
 
--- a number is that of the phase, or over the last and no phase's
+-- a number is that of the phase, or over the last: then it is given back with the error
 abbrev pub Decodes : ℕ → Result Phase UnknownPhase → Type 0
 Decodes n (Ok p) = phase_number p ≡ n
-Decodes n (Err e) = 1 < n
+Decodes n (Err e) = (e.0 ≡ n) × (1 < n)
