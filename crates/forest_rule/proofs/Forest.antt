@@ -5,6 +5,8 @@ use native.Mathlib.Numerals.{add-one}
 use mathlib.Core.Path.{◌≡◌, refl, sym, ap, subst, ◌∙◌}
 use mathlib.Core.Bool.{Bool, true, false, ◌&&◌}
 use mathlib.Core.List.{List, [], ◌∷◌}
+use lib.ListN.{length}
+use borrow.Rule.Slice.PartMut.{mid_of}
 use mathlib.Core.Option.{none, some}
 use Rattle.definitions.specs.Location.{Location}
 use Rattle.trie.specs.Trie.{Forest, Node}
@@ -27,7 +29,7 @@ use Rattle.node_rule.specs.OneNode.{SaysNode}
 use Rattle.node_rule.proofs.Tables.{Next, slot_taken, slot_empty, slots_end}
 use Rattle.node_rule.proofs.Parts.{parts_of}
 use Rattle.node_rule.proofs.Owed.{and_first, and_last, and_not, and_so}
-use Rattle.fronts.proofs.Fronts.{fronts_same, kept_none, kept_then}
+use Rattle.fronts.proofs.Fronts.{fronts_part, fronts_same, kept_none, kept_then}
 use Rattle.image_walk.specs.declared.Node.{Node as Parts}
 
 -- ── one child ──
@@ -194,12 +196,12 @@ module _ (s : List ℕ) (b : Siblings) (old : List Front) (count : ℕ) where
                 let y = met g fs h x in
                 record { rest = y.later; ahead = y.ahead; says = ap (λ (v : Bool). v && forest_right fs (suc b.depth) y.later) (sym z) ∙ one_more g fs h x }
 
-  pub turning_done : (j : ℕ) (fronts : List Front) → Turning j fronts → b.table.count ≤ j → (w : Bool) → SaysFronts s b.table.at b.table.count fronts (b.depth * 256) count w →
-      ChildrenSays s b old count fronts w
+  pub turning_done : (j : ℕ) (fronts : List Front) → Turning j fronts → b.table.count ≤ j → (n : ℕ) → n ≡ count → b.depth * 256 + count ≤ length fronts
+      → (w : Bool) → SaysFronts s b.table.at b.table.count (mid_of (b.depth * 256) n fronts) w → ChildrenSays s b old count fronts w
   unfolding children_right
-  turning_done j fronts i l w f = record {
+  turning_done j fronts i l n z r w f = record {
     kept = i.kept;
-    says = λ g fs h x. and_first (fronts_within fs g) (forest_right fs (suc b.depth) g) w (f b.left (b.left - 1) g fs h (fronts_still j fronts i fs x)) (end g fs h x);
+    says = λ g fs h x. and_first (fronts_within fs g) (forest_right fs (suc b.depth) g) w (f b.left (b.left - 1) g fs h (fronts_part s fronts (b.depth * 256) count n z r (b.left - 1) fs (fronts_still j fronts i fs x))) (end g fs h x);
   }
     where
       end : (g : Forest) (fs : List Node) → TableOf s b.left b.table.at b.table.count g → FrontsHere s (b.left - 1) old (b.depth * 256) count fs → true ≡ forest_right fs (suc b.depth) g

@@ -24,7 +24,7 @@ fn owes_none(s: &[u8], table: usize, lists: &mut Lists) -> bool
         count: 1,
     };
     node_rule::child_lists(s, only, lists);
-    location_lists::is_union(s, NO_LIST, 0, lists)
+    lists.is_union(s, NO_LIST, 0)
 }
 
 // Whether the children in two tables of one entry, of a node and of its front, are right, if they are leaves by the same byte.
@@ -55,7 +55,7 @@ fn leaf_right(s: &[u8], tables: Pair, lists: &mut Lists) -> Option<bool>
     }
     lists.clear();
     node_rule::add_front(lists, f);
-    Some(location_lists::is_union(s, c.prefixes, 1, lists))
+    Some(lists.is_union(s, c.prefixes, 1))
 }
 
 // The children in the table of a node at depth, where left levels are left below the node.
@@ -151,7 +151,7 @@ fn child_right(
 {
     let c = image_walk::node_at(s, child.at);
     let met = fronts::next_fronts(s, child, fronts, count, lists);
-    if !location_lists::is_union(s, c.prefixes, 1, lists) {
+    if !lists.is_union(s, c.prefixes, 1) {
         return false;
     }
     let below = Siblings {
@@ -193,7 +193,8 @@ fn each_right(
             }
         }
     }
-    fronts::fronts_within(s, here.table, fronts, here.depth * LEVEL_SIZE, count)
+    let from = here.depth * LEVEL_SIZE;
+    fronts::fronts_within(s, here.table, &fronts[from..from + count])
 }
 
 // The children of a node, after the run below it.

@@ -34,10 +34,10 @@ module _ (s : List ℕ) (table children : ℕ) where
   pub record Putting (j : ℕ) (fronts : List Front) (count : ℕ) : Type 0 where
     pub few : count ≤ j
     pub in_table : j ≤ children
-    pub size : length fronts ≡ 4352
+    pub size : 256 ≤ length fronts
     pub each : (d : ℕ) (f : Forest) → TableOf s d table children f → Put d j fronts count f
 
-  pub putting_start : (fronts : List Front) → length fronts ≡ 4352 → Putting 0 fronts 0
+  pub putting_start : (fronts : List Front) → 256 ≤ length fronts → Putting 0 fronts 0
   putting_start fronts z = record { few = omega arith; in_table = omega arith; size = z; each = λ d f t. record { rest = f; ahead = t.leads; gone = []; found = tt; many = refl; nodes = refl } }
 
   module _ (j : ℕ) (fronts : List Front) (count : ℕ) (i : Putting j fronts count) (l : j < children) where
@@ -60,7 +60,7 @@ module _ (s : List ℕ) (table children : ℕ) where
       putting_table h c g = let x = met h.depth h.forest h.is in record { depth = h.depth - 1; forest = x.below; is = (next_parts c g x).table }
 
       pub putting_add : (c : Parts) → c ≡ parts_at s e.node → (y : Front) → y.table ≡ c.table → SaysMask s y.table.at y.table.count y.mask → HasTable s table children → Putting (j + 1) (set fronts count y) (count + 1)
-      putting_add c g y w says h = record { few = omega (arith, i.few); in_table = omega arith; size = front_length fronts count y ∙ i.size; each = step }
+      putting_add c g y w says h = record { few = omega (arith, i.few); in_table = omega arith; size = omega (arith, front_length fronts count y, i.size); each = step }
         where
           step : (d : ℕ) (f : Forest) → TableOf s d table children f → Put d (j + 1) (set fronts count y) (count + 1) f
           step d f t =

@@ -1,5 +1,5 @@
 -- What the functions of the rule say of fronts, whatever fronts stand there. Assumes nothing.
-use Rattle.std.specs.Prelude.{ℕ, ◌+◌, ◌*◌, ◌-◌, ◌≡◌, Bool, List}
+use Rattle.std.specs.Prelude.{ℕ, ◌+◌, ◌*◌, ◌-◌, ◌≡◌, Bool, List, length}
 use Rattle.trie.specs.Trie.{Forest, Node}
 use Rattle.trie.specs.Test.{next_fronts, front_lists, fronts_within, siblings}
 use Rattle.location_lists.specs.declared.Lists.{Lists}
@@ -9,9 +9,9 @@ use Rattle.fronts.specs.declared.Front.{Front}
 use Rattle.fronts.specs.Fronts.{FrontsHere, KeptBelow}
 
 -- the table leads to siblings among whose bytes are those of each front
-abbrev pub SaysFronts : List ℕ → ℕ → ℕ → List Front → ℕ → ℕ → Bool → Type 0
-SaysFronts s table children fronts from count r =
-    (d e : ℕ) (g : Forest) (fs : List Node) → TableOf s d table children g → FrontsHere s e fronts from count fs → r ≡ fronts_within fs g
+abbrev pub SaysFronts : List ℕ → ℕ → ℕ → List Front → Bool → Type 0
+SaysFronts s table children fronts r =
+    (d e : ℕ) (g : Forest) (fs : List Node) → TableOf s d table children g → FrontsHere s e fronts 0 (length fronts) fs → r ≡ fronts_within fs g
 
 -- the fronts of the root
 pub record RootFronts (s : List ℕ) (table children : ℕ) (fronts : List Front) (count : ℕ) : Type 0 where

@@ -51,8 +51,8 @@ fn front_of(s: &[u8], table: Table) -> Front
 }
 
 // The fronts of the root, which are its children in a table; how many.
-pub fn root_fronts(s: &[u8], table: Table, fronts: &mut [Front; STACK_SIZE]) -> usize
-    requires { HasTable s.now table.at table.count }
+pub fn root_fronts(s: &[u8], table: Table, fronts: &mut [Front]) -> usize
+    requires { HasTable s.now table.at table.count × (256 ≤ length fronts.old) }
     ensures { RootFronts s.now table.at table.count fronts.new result }
 {
     let mut count = 0;
@@ -248,18 +248,11 @@ fn marks_of(s: &[u8], table: Table) -> [bool; 256]
 // The most entries of a table in which bytes are looked for.
 const FEW: usize = 8;
 
-// Whether a table has a child for each byte for which one of the fronts from an index on has one.
-pub fn fronts_within(
-    s: &[u8],
-    table: Table,
-    fronts: &[Front; STACK_SIZE],
-    from: usize,
-    count: usize,
-) -> bool
-    requires { HasTable s.now table.at table.count × HasFronts s.now fronts.now from count × (from + count ≤ 4352) }
-    ensures { SaysFronts s.now table.at table.count fronts.now from count result }
+// Whether a table has a child for each byte for which one of the fronts has one.
+pub fn fronts_within(s: &[u8], table: Table, fronts: &[Front]) -> bool
+    requires { HasTable s.now table.at table.count × HasFronts s.now fronts.now 0 (length fronts.now) }
+    ensures { SaysFronts s.now table.at table.count fronts.now result }
 {
-    let fronts = &fronts[from..from + count];
     if table.count <= FEW {
         return has_each_front(s, fronts, &|byte| has_child(s, table, byte));
     }

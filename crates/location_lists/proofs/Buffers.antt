@@ -6,10 +6,11 @@ use mathlib.Core.Path.{◌≡◌, refl, sym, ap, ◌∙◌}
 use mathlib.Core.Bool.{Bool, true, false, cond}
 use mathlib.Core.Logic.{◌⊎◌, inl, inr}
 use mathlib.Core.List.{List, [], ◌∷◌, ◌++◌, append-nil, append_assoc}
-use lib.ListN.{length, set, length-set}
+use lib.ListN.{length, set, length-set, take}
 use lib.Seq.{get_or-set_same, get_or-set_other}
 use lib.Dec.{eqb}
 use borrow.Author.Tests.{eqb-true, eqb-false}
+use Rattle.std.proofs.lemmas.List.{length-take-le, get_or-take}
 use Rattle.definitions.specs.Location.{Location}
 use Rattle.definitions.proofs.Views.{lt_or_le}
 use Rattle.trie.specs.Test.{and_list}
@@ -17,7 +18,7 @@ use Rattle.definitions.specs.Location.{locations_in}
 use Rattle.location_lists.specs.declared.List.{List as Listing}
 use Rattle.location_lists.specs.declared.Span.{Span}
 use Rattle.location_lists.specs.declared.Lists.{Lists}
-use Rattle.location_lists.specs.Lists.{held, Within, list_from, span_of, lists_from, lists_in, IsList, AreLists, with_list}
+use Rattle.location_lists.specs.Lists.{held, Within, list_from, span_of, lists_from, spans_in, lists_in, IsList, AreLists, with_list}
 use Rattle.location_lists.proofs.Single.{locations_none, locations_first}
 
 -- ── lists and spans ──
@@ -35,6 +36,12 @@ pub lists_last : (s : List ℕ) (each : List Span) (n k m : ℕ) → m ≡ k + n
 lists_last s each zero k m e = let f : m ≡ k = omega arith in rw f
 lists_last s each (suc n) k m e =
     ap (λ (x : List (List Location)). list_from s (span_of each k) ∷ x) (lists_last s each n (k + 1) m (omega arith))
+
+-- those that count are the lists of their own spans
+pub counted : (s : List ℕ) (lists : Lists) → lists.count ≤ length lists.each → spans_in s (take lists.count lists.each) ≡ lists_in s lists
+counted s lists h =
+    rw (length-take-le lists.count lists.each h)
+    (lists_ext s (take lists.count lists.each) lists.each lists.count 0 (λ j p q. get_or-take lists.count lists.each j (record { at = 0; end = 0 }) (omega arith)))
 
 -- ── adding a list ──
 

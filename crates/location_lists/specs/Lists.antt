@@ -28,6 +28,10 @@ lists_from s each zero k = []
 lists_from s each (suc n) k = list_from s (span_of each k) ∷ lists_from s each n (k + 1)
 
 -- all of them
+abbrev pub spans_in : List ℕ → List Span → List (List Location)
+spans_in s each = lists_from s each (length each) 0
+
+-- those that count
 abbrev pub lists_in : List ℕ → Lists → List (List Location)
 lists_in s lists = lists_from s lists.each lists.count 0
 
@@ -38,6 +42,10 @@ pub record IsList (s : List ℕ) (p : Span) : Type 0 where
   pub whole : (p.end - p.at) % 24 ≡ 0
 
 -- each of them is a list of s
+abbrev pub AreSpans : List ℕ → List Span → Type 0
+AreSpans s each = (k : ℕ) → k < length each → IsList s (span_of each k)
+
+-- each of those that count is
 pub record AreLists (s : List ℕ) (lists : Lists) : Type 0 where
   pub room : lists.count ≤ length lists.each
   pub each : (k : ℕ) → k < lists.count → IsList s (span_of lists.each k)

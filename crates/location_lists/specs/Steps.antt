@@ -1,9 +1,8 @@
 -- A step of the walk over lists: those that have a location next go on behind it. Assumes nothing.
-use Rattle.std.specs.Prelude.{ℕ, zero, suc, ◌+◌, Bool, true, false, ◌&&◌, ◌||◌, cond, List, set, ltb, eqb}
+use Rattle.std.specs.Prelude.{ℕ, zero, suc, ◌+◌, Bool, true, false, ◌&&◌, ◌||◌, cond, List, length, set, ltb, eqb}
 use Rattle.std.proofs.Math.Dec.{compare_is_eq}
 use Rattle.definitions.specs.Location.{Location, order, location_at}
 use Rattle.location_lists.specs.declared.Span.{Span}
-use Rattle.location_lists.specs.declared.Lists.{Lists}
 use Rattle.location_lists.specs.Lists.{span_of}
 
 -- a list goes on, and with key
@@ -20,8 +19,8 @@ stepped_from s key each zero k = each
 stepped_from s key each (suc n) k = stepped_from s key (stepped s key each k) n (k + 1)
 
 -- in all of them
-abbrev pub stepped_all : List ℕ → Location → Lists → Lists
-stepped_all s key lists = record { each = stepped_from s key lists.each lists.count 0; count = lists.count; ahead = lists.ahead }
+abbrev pub stepped_all : List ℕ → Location → List Span → List Span
+stepped_all s key each = stepped_from s key each (length each) 0
 
 -- one of n lists from number k on has key next
 abbrev pub any_next : List ℕ → Location → List Span → ℕ → ℕ → Bool

@@ -6,7 +6,7 @@ ghost use Rattle.std.proofs.Math.Dec.{compare_is_eq};
 ghost use Rattle.definitions.specs.Location.{order, location_at};
 ghost use Rattle.location.specs.Plain.{plain};
 ghost use Rattle.trie.specs.Test.{is_ascending, all_pass, is_union};
-ghost use Rattle.location_lists.specs.Lists.{held, Within, span_of, lists_in, IsList, AreLists, with_list, Kept};
+ghost use Rattle.location_lists.specs.Lists.{held, Within, span_of, spans_in, lists_in, IsList, AreSpans, AreLists, with_list, Kept};
 ghost use Rattle.location_lists.specs.Steps.{has_next, stepped, stepped_all, any_next, ended_from};
 
 use definitions::LOCATION_SIZE;
@@ -26,6 +26,17 @@ impl List {
         ensures { result ≡ self.at + self.count * 24 }
     {
         self.at + self.count * LOCATION_SIZE
+    }
+
+    // All of it, to be walked over.
+    pub fn span(self) -> Span
+        requires { self.at + self.count * 24 < 2 ^ 64 }
+        ensures { result ≡ record { at = self.at; end = self.at + self.count * 24 } }
+    {
+        Span {
+            at: self.at,
+            end: self.end(),
+        }
     }
 }
 
@@ -74,11 +85,18 @@ impl Lists {
         if list.count == 0 {
             return;
         }
-        self.each[self.count] = Span {
-            at: list.at,
-            end: list.end(),
-        };
+        self.each[self.count] = list.span();
         self.count += 1;
+    }
+
+    // Whether the locations of a list, each back by so many addresses, are those of these, which are used up.
+    pub fn is_union(&mut self, s: &[u8], list: List, back: u64) -> bool
+        requires { Within s.now list × AreLists s.now self.old }
+        ensures says { result ≡ is_union back (held s.now list) (lists_in s.now self.old) }
+        ensures keeps { Kept self.old self.new }
+    {
+        let count = self.count;
+        is_union(s, list, back, &mut self.each[..count])
     }
 }
 
@@ -127,28 +145,28 @@ pub fn is_at(s: &[u8], p: usize, key: SpacetimeLocation) -> bool
 }
 
 // Steps over key in list number i, if that has it next, and says whether.
-fn step_one(s: &[u8], key: SpacetimeLocation, lists: &mut Lists, i: usize) -> bool
-    requires { (i < 512) × IsList s.now (span_of lists.old.each i) }
-    ensures { (lists.new ≡ record { each = stepped s.now (plain key) lists.old.each i; count = lists.old.count; ahead = lists.old.ahead }) × (result ≡ has_next s.now (plain key) (span_of lists.old.each i)) }
+fn step_one(s: &[u8], key: SpacetimeLocation, lists: &mut [Span], i: usize) -> bool
+    requires { (i < length lists.old) × IsList s.now (span_of lists.old i) }
+    ensures { (lists.new ≡ stepped s.now (plain key) lists.old i) × (result ≡ has_next s.now (plain key) (span_of lists.old i)) }
 {
-    let list = lists.each[i];
+    let list = lists[i];
     if list.end <= list.at {
         return false;
     }
     if !is_at(s, list.at, key) {
         return false;
     }
-    lists.each[i].at = list.at + LOCATION_SIZE;
+    lists[i].at = list.at + LOCATION_SIZE;
     true
 }
 
 // Steps over key in each list that has it next, and says whether any has.
-fn step_over(s: &[u8], key: SpacetimeLocation, lists: &mut Lists) -> bool
-    requires { AreLists s.now lists.old }
-    ensures { (lists.new ≡ stepped_all s.now (plain key) lists.old) × (result ≡ any_next s.now (plain key) lists.old.each lists.old.count 0) }
+fn step_over(s: &[u8], key: SpacetimeLocation, lists: &mut [Span]) -> bool
+    requires { AreSpans s.now lists.old }
+    ensures { (lists.new ≡ stepped_all s.now (plain key) lists.old) × (result ≡ any_next s.now (plain key) lists.old (length lists.old) 0) }
 {
     let mut met = false;
-    for i in 0..lists.count {
+    for i in 0..lists.len() {
         if step_one(s, key, lists, i) {
             met = true;
         }
@@ -157,12 +175,11 @@ fn step_over(s: &[u8], key: SpacetimeLocation, lists: &mut Lists) -> bool
 }
 
 // Whether each list is at its end.
-fn all_ended(lists: &Lists) -> bool
-    requires { lists.now.count ≤ length lists.now.each }
-    ensures { result ≡ ended_from lists.now.each lists.now.count 0 }
+fn all_ended(lists: &[Span]) -> bool
+    ensures { result ≡ ended_from lists.now (length lists.now) 0 }
 {
-    for k in 0..lists.count {
-        if lists.each[k].at != lists.each[k].end {
+    for k in 0..lists.len() {
+        if lists[k].at != lists[k].end {
             return false;
         }
     }
@@ -171,10 +188,10 @@ fn all_ended(lists: &Lists) -> bool
 
 // Whether the locations of a list, each back by so many addresses, are those of the others.
 // It walks over all of them at once, and uses the others up.
-pub fn is_union(s: &[u8], list: List, back: u64, lists: &mut Lists) -> bool
-    requires { Within s.now list × AreLists s.now lists.old }
-    ensures says { result ≡ is_union back (held s.now list) (lists_in s.now lists.old) }
-    ensures keeps { Kept lists.old lists.new }
+pub fn is_union(s: &[u8], list: List, back: u64, lists: &mut [Span]) -> bool
+    requires { Within s.now list × AreSpans s.now lists.old }
+    ensures says { result ≡ is_union back (held s.now list) (spans_in s.now lists.old) }
+    ensures keeps { length lists.new ≡ length lists.old }
 {
     for i in 0..list.count {
         let l = location::location_at(s, list.at + i * LOCATION_SIZE);

@@ -67,7 +67,7 @@ fn suffixes_right(s: &[u8], n: Node, lists: &mut Lists) -> bool
     ensures { SaysSuffixes s.now n result }
 {
     child_lists(s, n.table, lists);
-    location_lists::is_union(s, n.suffixes, 0, lists)
+    lists.is_union(s, n.suffixes, 0)
 }
 
 // What the rule says of one node and the lists of its children.

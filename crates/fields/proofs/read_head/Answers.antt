@@ -35,7 +35,7 @@ pub returns-then-at-s : goal.returns-then-at-s
 returns-then-at-s c = head_end _ _ (omega arith)
 
 pub returns-in_default : goal.returns-in_default
-returns-in_default c = unknown _ _ (omega arith) c.in_default.ensures
+returns-in_default c = unknown _ _ (omega arith) c.in_default.ensures.1
 
 pub read_list-requires-2 : goal.read_list-requires-2
 read_list-requires-2 c = (list_bound _ _ _ _ c.in_ok-prefixes.ensures.list).1

@@ -1,7 +1,8 @@
 -- `forest_rule::child_right`, `forest_rule::each_right` and `forest_rule::children_right` meet their contracts. Assumes nothing.
-use Prim.Native.Nat.{◌+◌}
+use Prim.Native.Nat.{◌+◌, ◌*◌}
 use native.Mathlib.Omega.{arith}
 use mathlib.Core.Path.{sym, subst}
+use Rattle.fronts.proofs.Fronts.{has_part}
 use Rattle.forest_rule.proofs.Forest.{child_asked, child_by_node, child_not_children, child_not_union, child_parts, children_asked, children_none, has_fronts, turning_done, turning_lost, turning_on, turning_skip, Turning}
 use Rattle.forest_rule.proofs.RunBelow.{below_asked, below_then}
 use Rattle.forest_rule.proofs.+rule.Goals as goal
@@ -88,14 +89,15 @@ each_right-fronts_within-requires t c =
     let a = c.args in
     let k = c.requires in
     let o = c.loop-j in
-    (record { depth = a.here.left; forest = k.forest; is = k.is }, has_fronts a.s.now a.here a.fronts.now a.count o.j o.fronts o.invariant k, omega (arith, k.levels, k.fronts_here.few))
+    (record { depth = a.here.left; forest = k.forest; is = k.is }, has_part a.s.now o.fronts (a.here.depth * 256) a.count _ (omega arith) (omega (arith, k.levels, k.fronts_here.few)) (has_fronts a.s.now a.here a.fronts.now a.count o.j o.fronts o.invariant k))
 
 pub each_right-returns : goal.each_right-returns
 each_right-returns t c =
     let a = c.args in
     let o = c.loop-j in
+    let k = c.requires in
     let w = c.fronts_within in
-    turning_done a.s.now a.here a.fronts.now a.count o.j o.fronts o.invariant (omega (arith, c.loop-j-test.false)) w.result w.ensures
+    turning_done a.s.now a.here a.fronts.now a.count o.j o.fronts o.invariant (omega (arith, c.loop-j-test.false)) _ (omega arith) (omega (arith, k.levels, k.fronts_here.few)) w.result w.ensures
 
 pub children_right-each_right-requires : goal.children_right-each_right-requires
 children_right-each_right-requires t c =

@@ -11,14 +11,14 @@ pub node_at-child-requires : goal.node_at-child-requires
 node_at-child-requires c =
     let a = c.args in
     let o = c.loop-j in
-    putting_laid a.s.now a.table.at a.table.count o.j o.fronts o.count o.invariant c.loop-j-test.true _ c.in-Some.ensures c.requires
+    putting_laid a.s.now a.table.at a.table.count o.j o.fronts o.count o.invariant c.loop-j-test.true _ c.in-Some.ensures c.requires.0
 
 pub front_of-requires : goal.front_of-requires
 front_of-requires c =
     let a = c.args in
     let o = c.loop-j in
     let n = c.node_at-child in
-    putting_table a.s.now a.table.at a.table.count o.j o.fronts o.count o.invariant c.loop-j-test.true _ c.in-Some.ensures c.requires n.result n.ensures
+    putting_table a.s.now a.table.at a.table.count o.j o.fronts o.count o.invariant c.loop-j-test.true _ c.in-Some.ensures c.requires.0 n.result n.ensures
 
 pub loop-j-preserved : goal.loop-j-preserved
 loop-j-preserved c =
@@ -29,7 +29,7 @@ loop-j-preserved c =
       | in-Some w ↦
           let n = w.node_at-child in
           let f = w.front_of in
-          rw (w.fronts-is, w.count-is) (putting_add a.s.now a.table.at a.table.count o.j o.fronts o.count o.invariant l _ w.in-Some.ensures n.result n.ensures f.result f.ensures.0 f.ensures.1 c.requires)
+          rw (w.fronts-is, w.count-is) (putting_add a.s.now a.table.at a.table.count o.j o.fronts o.count o.invariant l _ w.in-Some.ensures n.result n.ensures f.result f.ensures.0 f.ensures.1 c.requires.0)
       | in_default w ↦ rw (w.fronts-is, w.count-is) (putting_skip a.s.now a.table.at a.table.count o.j o.fronts o.count o.invariant l w.in_default.ensures)
     ]
 

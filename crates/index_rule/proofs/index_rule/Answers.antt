@@ -39,7 +39,7 @@ root_fronts-count-requires c =
     let a = c.args in
     let h = root_found a.s.now c.type_inv.s (omega arith) c.requires _ c.is_empty.ensures c.if-is_empty.false in
     let n = c.node_at-root in
-    root_table a.s.now h n.result n.ensures
+    (root_table a.s.now h n.result n.ensures, omega arith)
 
 pub children_right-requires : goal.children_right-requires
 children_right-requires c =

@@ -19,7 +19,7 @@ pub loop-i-init : goal.loop-i-init
 loop-i-init c = let a = c.args in stepping_start a.s.now (plain a.key) a.lists.now c.requires
 
 pub step_one-requires : goal.step_one-requires
-step_one-requires c = let v = c.loop-i.invariant in (omega (arith, v.valid.room), v.valid.each c.loop-i.i (omega arith))
+step_one-requires c = let v = c.loop-i.invariant in (omega (arith, v.same_length), v.valid c.loop-i.i (omega (arith, v.same_length)))
 
 pub loop-i-preserved : goal.loop-i-preserved
 loop-i-preserved c =
