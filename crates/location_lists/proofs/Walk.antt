@@ -2,11 +2,12 @@
 use Prim.Native.Nat.{ℕ, suc, ◌+◌, ◌-◌, ◌*◌, ◌≤◌, ◌<◌}
 use native.Mathlib.Omega.{arith}
 use mathlib.Core.Path.{◌≡◌, refl, sym, ap, ◌∙◌}
-use mathlib.Core.Bool.{Bool, true, false, ◌||◌}
+use mathlib.Core.Bool.{Bool, true, false, ◌&&◌, ◌||◌, cond}
 use mathlib.Core.List.{List, ◌∷◌}
-use lib.ListN.{length}
-use borrow.Author.Tests.{le-leb, lt-leb, eq-eqb, ne_eqb}
-use Rattle.definitions.specs.Location.{Location, location_at}
+use lib.ListN.{length, set}
+use lib.Dec.{ltb, compare_is_eq}
+use borrow.Author.Tests.{le-leb, lt-leb, lt-ltb, le-ltb, eq-eqb, ne_eqb}
+use Rattle.definitions.specs.Location.{Location, order, location_at}
 use Rattle.trie.specs.Test.{any_begins, all_ended, moved_back, is_union}
 use Rattle.location_lists.specs.declared.List.{List as Listing}
 use Rattle.location_lists.specs.declared.Span.{Span}
@@ -28,6 +29,21 @@ module _ (each : List Span) (count i : ℕ) where
   ended_on h k = let e : count - i ≡ suc (count - (i + 1)) = omega arith in rw (e, eq-eqb (span_of each i).at (span_of each i).end k)
 
 -- ── stepping over a location in each list ──
+
+-- a list at its end has nothing next, and another location is not key
+pub next_ended : (s : List ℕ) (key : Location) (p : Span) → p.end ≤ p.at → has_next s key p ≡ false
+next_ended s key p h = rw (le-ltb p.at p.end h) refl
+
+pub next_other : (s : List ℕ) (key : Location) (p : Span) → compare_is_eq (order (location_at s p.at) key) ≡ false → has_next s key p ≡ false
+next_other s key p h = ap (λ (o : Bool). ltb p.at p.end && o) h ∙ and_false (ltb p.at p.end)
+  where
+    and_false : (a : Bool) → (a && false) ≡ false
+    and_false true = refl
+    and_false false = refl
+
+or_false : (a : Bool) → a ≡ (a || false)
+or_false true = refl
+or_false false = refl
 
 pub record Stepping (s : List ℕ) (key : Location) (each₀ each : List Span) (met : Bool) (i : ℕ) : Type 0 where
   pub valid : AreSpans s each
@@ -61,15 +77,27 @@ module _ (s : List ℕ) (key : Location) (each₀ : List Span) where
         or_assoc true b c = refl
         or_assoc false b c = refl
 
+    -- a list that has key next goes on behind it
+    pub stepping_over : i < length each₀ → (span_of each i).at < (span_of each i).end → compare_is_eq (order (location_at s (span_of each i).at) key) ≡ true
+        → Stepping s key each₀ (set each i (record { at = (span_of each i).at + 24; end = (span_of each i).end })) true (i + 1)
+    stepping_over h k q =
+        let n : has_next s key (span_of each i) ≡ true = rw (lt-ltb (span_of each i).at (span_of each i).end k, q) refl in
+        stepping_again h _ (sym (ap (λ (o : Bool). cond o (set each i (record { at = (span_of each i).at + 24; end = (span_of each i).end })) each) n)) true true (sym n) (or_true met)
+      where
+        or_true : (a : Bool) → true ≡ (a || true)
+        or_true true = refl
+        or_true false = refl
+
+    -- any other stays
+    pub stepping_past : i < length each₀ → has_next s key (span_of each i) ≡ false → Stepping s key each₀ each met (i + 1)
+    stepping_past h n =
+        stepping_again h each (sym (ap (λ (o : Bool). cond o (set each i (record { at = (span_of each i).at + 24; end = (span_of each i).end })) each) n)) false met (sym n) (or_false met)
+
     pub stepping_done : length each₀ ≤ i → (each ≡ stepped_all s key each₀) × (met ≡ any_next s key each₀ (length each₀) 0)
     stepping_done h =
         let n : length each₀ - i ≡ 0 = omega arith in
         let a : (met || false) ≡ any_next s key each₀ (length each₀) 0 = rw n at v.any in
         (rw n at v.steps, or_false met ∙ a)
-      where
-        or_false : (a : Bool) → a ≡ (a || false)
-        or_false true = refl
-        or_false false = refl
 
 -- ── the walk ──
 

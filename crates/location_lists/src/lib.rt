@@ -144,30 +144,15 @@ pub fn is_at(s: &[u8], p: usize, key: SpacetimeLocation) -> bool
         && words::get64(s, p + 16) == key.destroyed_at.0
 }
 
-// Steps over key in list number i, if that has it next, and says whether.
-fn step_one(s: &[u8], key: SpacetimeLocation, lists: &mut [Span], i: usize) -> bool
-    requires { (i < length lists.old) × IsList s.now (span_of lists.old i) }
-    ensures { (lists.new ≡ stepped s.now (plain key) lists.old i) × (result ≡ has_next s.now (plain key) (span_of lists.old i)) }
-{
-    let list = lists[i];
-    if list.end <= list.at {
-        return false;
-    }
-    if !is_at(s, list.at, key) {
-        return false;
-    }
-    lists[i].at = list.at + LOCATION_SIZE;
-    true
-}
-
 // Steps over key in each list that has it next, and says whether any has.
 fn step_over(s: &[u8], key: SpacetimeLocation, lists: &mut [Span]) -> bool
     requires { AreSpans s.now lists.old }
     ensures { (lists.new ≡ stepped_all s.now (plain key) lists.old) × (result ≡ any_next s.now (plain key) lists.old (length lists.old) 0) }
 {
     let mut met = false;
-    for i in 0..lists.len() {
-        if step_one(s, key, lists, i) {
+    for list in lists.iter_mut() {
+        if list.at < list.end && is_at(s, list.at, key) {
+            list.at += LOCATION_SIZE;
             met = true;
         }
     }
@@ -178,8 +163,8 @@ fn step_over(s: &[u8], key: SpacetimeLocation, lists: &mut [Span]) -> bool
 fn all_ended(lists: &[Span]) -> bool
     ensures { result ≡ ended_from lists.now (length lists.now) 0 }
 {
-    for k in 0..lists.len() {
-        if lists[k].at != lists[k].end {
+    for list in lists {
+        if list.at != list.end {
             return false;
         }
     }

@@ -3,11 +3,11 @@ use mathlib.Core.Path.{◌∙◌}
 use Rattle.location_lists.proofs.Walk.{ended_end, ended_not, ended_on}
 use Rattle.location_lists.proofs.all_ended.Goals as goal
 
-pub returns-then-lists-k : goal.returns-then-lists-k
-returns-then-lists-k c = ended_not _ _ _ c.loop-k-test.true c.if-lists-k.true ∙ c.loop-k.invariant
+pub returns-then-list : goal.returns-then-list
+returns-then-list c = ended_not _ _ _ c.loop-list-test.true c.if-list.true ∙ c.loop-list.invariant
 
-pub loop-k-preserved : goal.loop-k-preserved
-loop-k-preserved c = ended_on _ _ _ c.loop-k-test.true c.if-lists-k.false ∙ c.loop-k.invariant
+pub loop-list-preserved : goal.loop-list-preserved
+loop-list-preserved c = ended_on _ _ _ c.loop-list-test.true c.if-list.false ∙ c.loop-list.invariant
 
 pub returns : goal.returns
-returns c = ended_end _ _ _ c.loop-k-test.false ∙ c.loop-k.invariant
+returns c = ended_end _ _ _ c.loop-list-test.false ∙ c.loop-list.invariant

@@ -5,5 +5,5 @@ use mathlib.Core.Path.{◌≡◌}
 use Rattle.location_lists.specs.Steps.{ended_from}
 use Rattle.location_lists.proofs.all_ended.Given as goal
 
-abbrev pub invariant-loop-k : goal.invariant-loop-k
-invariant-loop-k l = ended_from l.lists (length l.lists - l.k) l.k ≡ ended_from l.lists (length l.lists) 0
+abbrev pub invariant-loop-list : goal.invariant-loop-list
+invariant-loop-list l = ended_from l.lists (length l.lists - l.list-index) l.list-index ≡ ended_from l.lists (length l.lists) 0

@@ -1,39 +1,24 @@
 -- `location_lists::step_over` meets its contract: stepping over the key in what is left of the lists gives what it gives in all. Assumes nothing.
-use native.Mathlib.Omega.{arith}
-use mathlib.Core.Path.{◌≡◌, refl, sym, ◌∙◌}
-use mathlib.Core.Bool.{Bool, true, false, ◌||◌}
+use Rattle.std.proofs.Common.{◌∙◌, sym, arith}
+use Rattle.std.proofs.lemmas.List.{set-get_or}
 use Rattle.location.specs.Plain.{plain}
-use Rattle.location_lists.proofs.Walk.{stepping_start, stepping_again, stepping_done}
+use Rattle.location_lists.proofs.Walk.{next_ended, next_other, stepping_over, stepping_past}
 use Rattle.location_lists.proofs.step_over.Goals as goal
-use Rattle.location_lists.proofs.step_over.Goals.{then-step_one, else-step_one}
+use Rattle.location_lists.proofs.step_over.Goals.{then-list+then-is_at, else-list, else-list-via-then-list+else-is_at, else-list-via-else-list}
 
-met_now : (a r : Bool) → r ≡ true → true ≡ (a || r)
-met_now true r h = refl
-met_now false r h = sym h
-
-met_before : (a r : Bool) → r ≡ false → a ≡ (a || r)
-met_before true r h = refl
-met_before false r h = sym h
-
-pub loop-i-init : goal.loop-i-init
-loop-i-init c = let a = c.args in stepping_start a.s.now (plain a.key) a.lists.now c.requires
-
-pub step_one-requires : goal.step_one-requires
-step_one-requires c = let v = c.loop-i.invariant in (omega (arith, v.same_length), v.valid c.loop-i.i (omega (arith, v.same_length)))
-
-pub loop-i-preserved : goal.loop-i-preserved
-loop-i-preserved c =
+pub loop-list-preserved : goal.loop-list-preserved
+loop-list-preserved c =
     let a = c.args in
-    let o = c.loop-i in
-    let f = c.step_one in
-    let again = stepping_again a.s.now (plain a.key) a.lists.now o.lists o.met o.i o.invariant c.loop-i-test.true f.new.lists f.ensures.0 f.result c.if-step_one.met f.ensures.1 in
-    elim c.if-step_one.branch [
-      | then-step_one w ↦ again (w.met-is ∙ met_now o.met f.result w.if-step_one.true)
-      | else-step_one w ↦ again (w.met-is ∙ met_before o.met f.result w.if-step_one.false)
+    let o = c.loop-list in
+    let key = plain a.key in
+    let past = stepping_past a.s.now key a.lists.now o.lists o.met o.list-index o.invariant c.loop-list-test.true in
+    elim c.if-list.branch [
+      | then-list+then-is_at w ↦
+          rw (w.lists-is, w.met-is) (stepping_over a.s.now key a.lists.now o.lists o.met o.list-index o.invariant c.loop-list-test.true w.if-list.true (sym w.is_at.ensures ∙ w.if-is_at.true))
+      | else-list w ↦
+          rw (w.lists-is, w.met-is)
+          elim w.else-list.branch [
+            | else-list-via-then-list+else-is_at v ↦ rw (v.lists-is, set-get_or) (past (next_other _ _ _ (sym v.is_at.ensures ∙ v.if-is_at.false)))
+            | else-list-via-else-list v ↦ rw (v.lists-is, set-get_or) (past (next_ended _ _ _ (omega (arith, v.if-list.false))))
+          ]
     ]
-
-pub returns : goal.returns
-returns c =
-    let a = c.args in
-    let o = c.loop-i in
-    stepping_done a.s.now (plain a.key) a.lists.now o.lists o.met o.i o.invariant c.loop-i-test.false

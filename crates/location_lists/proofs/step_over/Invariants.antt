@@ -3,5 +3,5 @@ use Rattle.location.specs.Plain.{plain}
 use Rattle.location_lists.proofs.Walk.{Stepping}
 use Rattle.location_lists.proofs.step_over.Given as goal
 
-abbrev pub invariant-loop-i : goal.invariant-loop-i
-invariant-loop-i l = Stepping l.s (plain l.key) l.initial.lists l.lists l.met l.i
+abbrev pub invariant-loop-list : goal.invariant-loop-list
+invariant-loop-list l = Stepping l.s (plain l.key) l.initial.lists l.lists l.met l.list-index
