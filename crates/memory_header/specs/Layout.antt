@@ -1,6 +1,6 @@
 -- The lent memory of an index: a header of eight numbers, then the payload (a log of pieces, or an image), then room to work in.
 -- Here are the sizes, and the header. Assumes nothing.
-use Rattle.std.specs.Prelude.{ℕ, ◌+◌, ◌*◌, ◌≤◌, Bool, ◌&&◌, not, cond, List, ◌++◌, length, leb, eqb}
+use Rattle.std.specs.Prelude.{ℕ, ◌+◌, ◌*◌, ◌≤◌, Bool, ◌&&◌, not, cond, List, ◌++◌, length, get_or, leb, eqb}
 use Rattle.std.proofs.lemmas.List.Edits.{sets}
 use Rattle.words.specs.Words.{le64, bytes64}
 use Rattle.definitions.specs.Calls.{Capacity, header_size, node_size, needed, out_of_range}
@@ -39,6 +39,10 @@ pub record Header : Type 0 where
   pub entries : ℕ
   -- open: pieces in the log; finished: bytes of the image
   pub payload : ℕ
+
+-- the header that says these six numbers
+abbrev pub header_from : List ℕ → Header
+header_from ns = record { capacity = record { nodes = get_or ns 0 0; entries = get_or ns 1 0 }; phase = get_or ns 2 0; nodes = get_or ns 3 0; entries = get_or ns 4 0; payload = get_or ns 5 0 }
 
 -- the header in the first 64 bytes
 abbrev pub header_at : List ℕ → Header

@@ -3,7 +3,7 @@
 
 ghost use Rattle.std.specs.Prelude.{◌≡◌, ◌↔◌, ◌≤◌, IsTrue, length};
 ghost use Rattle.definitions.specs.Refusals.{number_in};
-ghost use Rattle.memory_header.specs.Layout.{payload_limit, with_header};
+ghost use Rattle.memory_header.specs.Layout.{payload_limit, header_from, with_header};
 ghost use Rattle.memory_header.specs.Opening.{open_memory};
 ghost use Rattle.memory_header.specs.Answers.{header_of, heading_of, heading_at, Within, IsRoomFor};
 
@@ -68,6 +68,20 @@ impl Header {
         }
     }
 
+    // What it says, in the order in which the numbers stand.
+    fn numbers(self) -> [u64; 6]
+        ensures { header_from result ≡ header_of self }
+    {
+        [
+            self.capacity.nodes as u64,
+            self.capacity.entries as u64,
+            self.tally.phase.number(),
+            self.tally.nodes as u64,
+            self.tally.entries as u64,
+            self.payload as u64,
+        ]
+    }
+
     // Whether the tally and the payload are within the capacity.
     fn is_within(self) -> bool
         ensures { IsTrue result ↔ Within (header_of self) }
@@ -102,19 +116,27 @@ pub fn header_in(mem: &[u8]) -> Option<Header>
     if h.is_within() { Some(h) } else { None }
 }
 
-// Writes a header; its last two numbers are zero.
+// Writes the numbers that a header says, whatever they are; its last two are zero.
+pub fn put_numbers(mem: &mut [u8], numbers: [u64; 6])
+    requires { 64 ≤ length mem.old }
+    ensures { mem.new ≡ with_header mem.old (header_from numbers) }
+{
+    words::put64(mem, 0, numbers[0]);
+    words::put64(mem, 8, numbers[1]);
+    words::put64(mem, 16, numbers[2]);
+    words::put64(mem, 24, numbers[3]);
+    words::put64(mem, 32, numbers[4]);
+    words::put64(mem, 40, numbers[5]);
+    words::put64(mem, 48, 0);
+    words::put64(mem, 56, 0);
+}
+
+// Writes a header.
 pub fn put_header(mem: &mut [u8], h: Header)
     requires { 64 ≤ length mem.old }
     ensures { mem.new ≡ with_header mem.old (header_of h) }
 {
-    words::put64(mem, 0, h.capacity.nodes as u64);
-    words::put64(mem, 8, h.capacity.entries as u64);
-    words::put64(mem, 16, h.tally.phase.number());
-    words::put64(mem, 24, h.tally.nodes as u64);
-    words::put64(mem, 32, h.tally.entries as u64);
-    words::put64(mem, 40, h.payload as u64);
-    words::put64(mem, 48, 0);
-    words::put64(mem, 56, 0);
+    put_numbers(mem, h.numbers());
 }
 
 // ── opening ──
