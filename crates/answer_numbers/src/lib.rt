@@ -29,18 +29,30 @@ pub fn put_count(count: &mut [u64; 1], answer: Result<usize, Refusal>) -> u64
     number_of(answer)
 }
 
-// Writes how many blocks of a stream were taken, whether all were or not, and answers the refusal's number.
+// How many blocks of a stream were taken, whether all were or not.
+pub fn taken_of(answer: Result<u64, Stopped>) -> u64
+    ensures { result ≡ streamed_taken answer }
+{
+    match answer {
+        Ok(taken) => taken,
+        Err(stopped) => stopped.taken,
+    }
+}
+
+// The number of the refusal that stopped a stream, 0 at its end.
+pub fn stopped_by(answer: Result<u64, Stopped>) -> u64
+    ensures { result ≡ streamed_number answer }
+{
+    match answer {
+        Ok(_) => 0,
+        Err(stopped) => stopped.refusal.number(),
+    }
+}
+
+// Writes how many blocks of a stream were taken, and answers the refusal's number.
 pub fn put_taken(taken: &mut [u64; 1], answer: Result<u64, Stopped>) -> u64
     ensures { (result ≡ streamed_number answer) × (taken.new ≡ set taken.old 0 (streamed_taken answer)) }
 {
-    match answer {
-        Ok(all) => {
-            taken[0] = all;
-            0
-        }
-        Err(stopped) => {
-            taken[0] = stopped.taken;
-            stopped.refusal.number()
-        }
-    }
+    taken[0] = taken_of(answer);
+    stopped_by(answer)
 }

@@ -18,6 +18,7 @@ pub enum SpaceKind {
 pub struct UnknownKind(pub u64);
 
 impl SpaceKind {
+    // Its number, as it stands in a stream and in a form.
     pub fn number(self) -> u64
         ensures { result ≡ kind_number self }
     {

@@ -18,6 +18,7 @@ pub enum NodeKind {
 pub struct UnknownNodeKind(pub u8);
 
 impl NodeKind {
+    // Its number in the image.
     pub fn number(self) -> u8
         ensures { result ≡ kind_number self }
     {

@@ -38,6 +38,7 @@ impl Model for KeptLine {
 }
 
 impl KeptLine {
+    // Nothing is kept yet.
     pub fn new() -> Self
         ensures { result ≡ part [] }
     {

@@ -7,11 +7,6 @@ use Rattle.definitions.specs.Location.{Location, order, is_lt, Sorted, Less}
 abbrev pub Ascending : List Location → Type 0
 Ascending ls = Sorted Less ls
 
--- whether they do
-abbrev pub Ascend : Bool → List Location → Type 0
-Ascend true ls = Ascending ls
-Ascend false ls = Ascending ls → ⊥
-
 -- how many places at the front come before l
 unfoldable pub before_count : Location → List Location → ℕ
 before_count l [] = 0

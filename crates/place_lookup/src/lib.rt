@@ -4,7 +4,7 @@
 ghost use Rattle.std.specs.Prelude.{◌≡◌, ◌+◌, ◌*◌, ◌≤◌, ◌++◌, length};
 ghost use Rattle.definitions.specs.Location.{normal, locations_in};
 ghost use Rattle.location.specs.Plain.{plain};
-ghost use Rattle.place_lookup.specs.Lookup.{Ascending, Ascend, before_count, There};
+ghost use Rattle.place_lookup.specs.Lookup.{Ascending, before_count, There};
 
 use definitions::LOCATION_SIZE;
 use location::SpacetimeLocation;
@@ -26,21 +26,6 @@ pub fn is_there(scratch: &[u8], at: usize, n: usize, l: SpacetimeLocation) -> bo
 {
     let i = places_before(scratch, at, n, l);
     i < n && !l.before(location::location_at(scratch, at + i * LOCATION_SIZE))
-}
-
-// Whether the n places from byte at on ascend, each once.
-pub fn ascends(s: &[u8], at: usize, n: usize) -> bool
-    requires { at + n * 24 ≤ length s.now }
-    ensures { Ascend result (locations_in s.now n at) }
-{
-    for i in 1..n {
-        let l = location::location_at(s, at + (i - 1) * LOCATION_SIZE);
-        let m = location::location_at(s, at + i * LOCATION_SIZE);
-        if !l.before(m) {
-            return false;
-        }
-    }
-    true
 }
 
 // How many places two ascending lists have together: the n locations from byte a of img on, and the m from byte b on.

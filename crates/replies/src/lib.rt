@@ -34,6 +34,7 @@ impl Output<'_> {
         self.at += 1;
     }
 
+    // Writes these bytes.
     pub fn put_text(&mut self, text: &[u8])
         requires { self.old.at + length text.now ≤ length self.old.bytes.now }
         ensures { Writes self.old text.now self.new }

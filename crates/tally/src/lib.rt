@@ -18,6 +18,7 @@ pub enum Phase {
 pub struct UnknownPhase(pub u64);
 
 impl Phase {
+    // Its number in the header.
     pub fn number(self) -> u64
         ensures { result ≡ phase_number self }
     {

@@ -37,6 +37,7 @@ pub struct Page<'a, P> {
 }
 
 impl<'a, P: Print> Page<'a, P> {
+    // Nothing is said or printed yet.
     pub fn new(rt: &'a P) -> Page<'a, P>
         ensures { result.last ≡ None }
     {

@@ -4,6 +4,7 @@
 
 ghost use Rattle.test_streams.specs.Step.{Onward};
 
+use answer_numbers::{stopped_by, taken_of};
 use location::SpacetimeLocation;
 use std::io;
 use std::rt::Files;
@@ -48,22 +49,6 @@ fn print_both<P: Print>(rt: &P, what: &str, n: u64, m: u64) -> io::Result<()> {
 fn print_same<P: Print>(rt: &P, what: &str, a: &[u8], b: &[u8]) -> io::Result<()> {
     let said = if a == b { "the same" } else { "they differ" };
     println!(rt; "{what}{said}")
-}
-
-// How many blocks were taken before a recording ended.
-fn taken(ended: Result<u64, Stopped>) -> u64 {
-    match ended {
-        Ok(taken) => taken,
-        Err(stopped) => stopped.taken,
-    }
-}
-
-// The number of what stopped it, 0 at the stream's end.
-fn number(ended: Result<u64, Stopped>) -> u64 {
-    match ended {
-        Ok(_) => 0,
-        Err(stopped) => stopped.refusal.number(),
-    }
 }
 
 // Opens an index and records a stream by one call.
@@ -132,8 +117,8 @@ fn compare<P: Print>(
 ) -> io::Result<()> {
     let a = record_stream(mem, stream);
     let b = record_singly(other, stream);
-    print_both(rt, "  taken: ", taken(a), taken(b))?;
-    print_both(rt, "  stopped by: ", number(a), number(b))?;
+    print_both(rt, "  taken: ", taken_of(a), taken_of(b))?;
+    print_both(rt, "  stopped by: ", stopped_by(a), stopped_by(b))?;
     print_same(rt, "  memories: ", mem, other)?;
     compare_images(rt, mem, other, image, other_image)
 }
