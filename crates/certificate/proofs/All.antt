@@ -34,7 +34,3 @@ module _ (f : ℕ → Bool) where
   -- one that fails is enough
   pub all_fails : (k i : ℕ) → i < k → f i ≡ false → all f k ≡ false
   all_fails k i h e = is_false (all f k) (λ a. not_both e (each k a i h))
-
-  -- all have been looked at
-  pub all_done : (i k : ℕ) → i ≡ k → all f i ≡ true → true ≡ all f k
-  all_done i k e a = sym (subst (λ (n : ℕ). all f n ≡ true) e a)

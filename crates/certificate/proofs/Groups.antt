@@ -3,7 +3,6 @@ use Prim.Native.Nat.{ℕ, ◌+◌, ◌-◌, ◌≤◌, ◌<◌}
 use native.Mathlib.Omega.{arith}
 use mathlib.Core.Path.{◌≡◌, sym, ap, subst, ◌∙◌}
 use mathlib.Core.Bool.{Bool, true, false, not, ◌&&◌}
-use mathlib.Core.List.{List}
 use mathlib.Core.Logic.{◌⊎◌, inl, inr}
 use lib.Dec.{ltb}
 use borrow.Author.Tests.{ltb-true, lt-ltb}
@@ -14,9 +13,7 @@ use Rattle.conflicts.specs.Lined.{Lined}
 use Rattle.conflicts.specs.Promises.{LivesAmong}
 use Rattle.conflicts.proofs.Together.{Together, meets_is}
 use Rattle.conflicts.proofs.Line.{upto, lives_among_is}
-use Rattle.lined_locations.specs.declared.Line.{Line}
-use Rattle.lined_locations.specs.Line.{location_of}
-use Rattle.certificate.specs.Entries.{all, piece_end, lives_inside, Inside}
+use Rattle.certificate.specs.Entries.{all, lives_inside}
 use Rattle.certificate.specs.Groups.{Group, NoneBeyond, CreatedBefore, Meeting}
 use Rattle.certificate.proofs.All.{each, all_each, all_fails}
 
@@ -124,62 +121,45 @@ module _ (n : ℕ) (at : ℕ → Location) (s : Lined n at) (end : ℕ → ℕ) 
 
   -- ── one address and all behind it ──
 
-  module _ (i e g : ℕ) (z : Meeting at end i e e g → ⊥) where
-    split : (h : ℕ) (m : Meeting at end i e e h) → ((g ≤ m.other) → ⊥) → ⊥
-    split h m f = go (lt_or_le m.other g)
+  -- what is behind begins beyond the pieces
+  pub group_past : (i e g : ℕ) → (Meeting at end i e e g → ⊥) → (stop : ℕ) → NoneBeyond end i e stop → stop ≤ (at g).address → Meeting at end i e e n → ⊥
+  group_past i e g z stop f l m = go (lt_or_le m.other g)
+    where
+      go : (m.other < g) ⊎ (g ≤ m.other) → ⊥
+      go (inl c) = z (record { one = m.one; other = m.other; from_one = m.from_one; upto_one = m.upto_one; from_other = m.from_other; upto_other = c; below = m.below; is = m.is })
+      go (inr c) = omega (arith, f m.one m.from_one m.upto_one, (upto n at s g m.other c m.upto_other).by_address, m.below)
+
+  -- ── all addresses ──
+
+  -- where the next is not inside a piece, none behind it is
+  pub none_alone : (i : ℕ) → i < n → (ltb (i + 1) n && ltb (at (i + 1)).address (end i)) ≡ false → lives_inside at end n i ≡ false
+  none_alone i l t = is_false (lives_inside at end n i) (λ u. go ((lives_among_is n at (i + 1) (at i) (end i) (omega arith)).0 u))
+    where
+      go : LivesAmong n at (i + 1) (at i) (end i) → ⊥
+      go w =
+          let b : (at (i + 1)).address < end i = omega (arith, (upto n at s (i + 1) w.index w.low w.high).by_address, w.below) in
+          not_both t (and_true (lt-ltb (i + 1) n (omega (arith, w.low, w.high))) (lt-ltb (at (i + 1)).address (end i) b))
+
+  module _ (i e : ℕ) (a : Group n at i e) where
+    -- those at one address don't live together
+    none_behind : (Meeting at end i e e n → ⊥) → (j : ℕ) → i ≤ j → j < e → LivesAmong n at (j + 1) (at j) (end j) → ⊥
+    none_behind f j h l w = go (lt_or_le w.index e) ((meets_is (at j) (at w.index)).0 w.is)
       where
-        go : (m.other < g) ⊎ (g ≤ m.other) → ⊥
-        go (inl c) = z (record { one = m.one; other = m.other; from_one = m.from_one; upto_one = m.upto_one; from_other = m.from_other; upto_other = c; below = m.below; is = m.is })
-        go (inr c) = f c
+        go : (w.index < e) ⊎ (e ≤ w.index) → Together (at j) (at w.index) → ⊥
+        go (inl c) t = omega (arith, (s.ahead j w.index (omega (arith, w.low)) w.high).by_life (a.same j h l ∙ sym (a.same w.index (omega (arith, w.low)) c)), t.right)
+        go (inr c) t = f (record { one = j; other = w.index; from_one = h; upto_one = l; from_other = c; upto_other = w.high; below = w.below; is = w.is })
 
-    -- what is behind begins beyond the pieces
-    pub group_past : (stop : ℕ) → NoneBeyond end i e stop → stop ≤ (at g).address → Meeting at end i e e n → ⊥
-    group_past stop f l m = split n m (λ c. omega (arith, f m.one m.from_one m.upto_one, (upto n at s g m.other c m.upto_other).by_address, m.below))
+    pub none_on : all (λ k. not (lives_inside at end n k)) i ≡ true → (Meeting at end i e e n → ⊥) → all (λ k. not (lives_inside at end n k)) e ≡ true
+    none_on z f = all_each clear e (λ j l. go j l (lt_or_le j i))
+      where
+        clear : ℕ → Bool
+        clear k = not (lives_inside at end n k)
 
-    pub group_on : (h : ℕ) → (Meeting at end i e g h → ⊥) → Meeting at end i e e h → ⊥
-    group_on h f m = split h m (λ c. f (record { one = m.one; other = m.other; from_one = m.from_one; upto_one = m.upto_one; from_other = c; upto_other = m.upto_other; below = m.below; is = m.is }))
+        go : (j : ℕ) → j < e → (j < i) ⊎ (i ≤ j) → clear j ≡ true
+        go j l (inl c) = each clear i z j c
+        go j l (inr c) = negated (is_false (lives_inside at end n j) (λ t. none_behind f j c l ((lives_among_is n at (j + 1) (at j) (end j) (omega (arith, a.high))).0 t)))
 
-  pub group_met : (i e g h : ℕ) → e ≤ g → h ≤ n → Meeting at end i e g h → Meeting at end i e e n
-  group_met i e g h c d m = record { one = m.one; other = m.other; from_one = m.from_one; upto_one = m.upto_one; from_other = omega (arith, m.from_other); upto_other = omega (arith, m.upto_other); below = m.below; is = m.is }
-
--- ── all addresses ──
-
--- where the next is not inside a piece, none behind it is
-pub none_alone : (m : List ℕ) (v : Line) → Inside m v → (i : ℕ) → i < v.count → (ltb (i + 1) v.count && ltb (location_of m v (i + 1)).address (piece_end m v i)) ≡ false → lives_inside m v i ≡ false
-none_alone m v d i l t = is_false (lives_inside m v i) (λ u. go ((lives_among_is v.count (location_of m v) (i + 1) (location_of m v i) (piece_end m v i) (omega arith)).0 u))
-  where
-    go : LivesAmong v.count (location_of m v) (i + 1) (location_of m v i) (piece_end m v i) → ⊥
-    go w =
-        let c : i + 1 < v.count = omega (arith, w.low, w.high) in
-        let b : (location_of m v (i + 1)).address < piece_end m v i = omega (arith, (upto v.count (location_of m v) d.lined (i + 1) w.index w.low w.high).by_address, w.below) in
-        not_both t (and_true (lt-ltb (i + 1) v.count c) (lt-ltb (location_of m v (i + 1)).address (piece_end m v i) b))
-
-module _ (m : List ℕ) (v : Line) (d : Inside m v) (i e : ℕ) (a : Group v.count (location_of m v) i e) where
-  abbrev at : ℕ → Location
-  at = location_of m v
-
-  abbrev n : ℕ
-  n = v.count
-
-  abbrev clear : ℕ → Bool
-  clear k = not (lives_inside m v k)
-
-  -- those at one address don't live together
-  none_behind : (Meeting (location_of m v) (piece_end m v) i e e v.count → ⊥) → (j : ℕ) → i ≤ j → j < e → LivesAmong v.count (location_of m v) (j + 1) (location_of m v j) (piece_end m v j) → ⊥
-  none_behind f j h l w = go (lt_or_le w.index e) ((meets_is (at j) (at w.index)).0 w.is)
-    where
-      go : (w.index < e) ⊎ (e ≤ w.index) → Together (at j) (at w.index) → ⊥
-      go (inl c) t = omega (arith, (d.lined.ahead j w.index (omega (arith, w.low)) w.high).by_life (a.same j h l ∙ sym (a.same w.index (omega (arith, w.low)) c)), t.right)
-      go (inr c) t = f (record { one = j; other = w.index; from_one = h; upto_one = l; from_other = c; upto_other = w.high; below = w.below; is = w.is })
-
-  pub none_on : all (λ k. not (lives_inside m v k)) i ≡ true → (Meeting (location_of m v) (piece_end m v) i e e v.count → ⊥) → all (λ k. not (lives_inside m v k)) e ≡ true
-  none_on z f = all_each clear e (λ j l. go j l (lt_or_le j i))
-    where
-      go : (j : ℕ) → j < e → (j < i) ⊎ (i ≤ j) → clear j ≡ true
-      go j l (inl c) = each clear i z j c
-      go j l (inr c) = negated (is_false (lives_inside m v j) (λ t. none_behind f j c l ((lives_among_is n at (j + 1) (at j) (piece_end m v j) (omega (arith, a.high))).0 t)))
-
-  pub none_met : Meeting (location_of m v) (piece_end m v) i e e v.count → false ≡ all (λ k. not (lives_inside m v k)) v.count
-  none_met w =
-      let t : lives_inside m v w.one ≡ true = (lives_among_is n at (w.one + 1) (at w.one) (piece_end m v w.one) (omega (arith, w.upto_one, a.high))).1 (record { index = w.other; low = omega (arith, w.upto_one, w.from_other); high = w.upto_other; below = w.below; is = w.is }) in
-      sym (all_fails clear n w.one (omega (arith, w.upto_one, a.high)) (ap not t))
+    pub none_met : Meeting at end i e e n → false ≡ all (λ k. not (lives_inside at end n k)) n
+    none_met w =
+        let t : lives_inside at end n w.one ≡ true = (lives_among_is n at (w.one + 1) (at w.one) (end w.one) (omega (arith, w.upto_one, a.high))).1 (record { index = w.other; low = omega (arith, w.upto_one, w.from_other); high = w.upto_other; below = w.below; is = w.is }) in
+        sym (all_fails (λ k. not (lives_inside at end n k)) n w.one (omega (arith, w.upto_one, a.high)) (ap not t))

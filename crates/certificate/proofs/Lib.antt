@@ -3,7 +3,6 @@
 pub mod All
 pub mod Bytes
 pub mod Counting
-pub mod Entry
 pub mod Groups
 pub mod Stored
 pub mod Right

@@ -1,5 +1,4 @@
 -- An open index's pieces and their certificate in memory. Assumes nothing.
-use Rattle.lined_locations.specs.declared.LineKind.TheVariants.{Logged}
 use Rattle.std.specs.Prelude.{ℕ, ◌+◌, ◌*◌, ◌≤◌, ◌≡◌, true, List, length}
 use Rattle.words.specs.Holding.{Holds}
 use Rattle.definitions.specs.Blocks.{Piece}
@@ -15,10 +14,6 @@ use Rattle.index_memory.specs.Log.{log_in, log_sound}
 abbrev pub pieces_in : List ℕ → Header → List Piece
 pieces_in m h = log_in m h.payload header_size
 
--- the entries of the certificate as locations in line
-abbrev pub line_of : Header → ℕ → Line
-line_of h count = record { base = work_at h.capacity; count = count; kind = Logged }
-
 -- the pieces that h counts are sound and free of conflicts, and so many of them have a byte; their certificate stands behind the payload
 pub record Stored (m : List ℕ) (h : Header) (count : ℕ) : Type 0 where
   pub sound : log_sound m h.payload header_size ≡ true
@@ -29,3 +24,9 @@ pub record Stored (m : List ℕ) (h : Header) (count : ℕ) : Type 0 where
   pub some_entries : h.capacity.entries ≤ 1048576
   pub log_room : header_size + logged_size * h.payload ≤ work_at h.capacity
   pub room : work_at h.capacity + 16 * count ≤ length m
+
+-- a line of so many entries of the certificate behind the payload of h
+pub record StandsFor (m : List ℕ) (h : Header) (count : ℕ) (v : Line) : Type 0 where
+  pub bytes : v.bytes.now ≡ m
+  pub base : v.base ≡ work_at h.capacity
+  pub counted : v.count ≡ count

@@ -1,7 +1,7 @@
 -- Whether one of the entries lives together with x, address by address. Assumes nothing.
 use Prim.Native.Nat.{ℕ, ◌+◌, ◌-◌, ◌≤◌, ◌<◌}
 use native.Mathlib.Omega.{arith}
-use mathlib.Core.Path.{◌≡◌, sym, subst}
+use mathlib.Core.Path.{◌≡◌, sym, ap, subst}
 use mathlib.Core.Bool.{true, false}
 use mathlib.Core.Logic.{◌⊎◌, inl, inr}
 use Rattle.definitions.specs.Location.{Location}
@@ -36,6 +36,18 @@ pub record Turn (n : ℕ) (at : ℕ → Location) (x : Location) : Type 0 where
   pub inside : g < n
   pub address : b ≡ (at g).address
   pub found : q ≡ first_from at (n - g) g b x.destroyed
+
+-- the entry l is read at g, and from there on q was found
+abbrev pub turn : {n : ℕ} {at : ℕ → Location} (x : Location) → Lined n at → {g : ℕ} → g < n → {l : Location} → l ≡ at g → {q : ℕ} → q ≡ first_from at (n - g) g l.address x.destroyed → Turn n at x
+turn x lined {g} inside {l} read {q} found = record {
+  lined = lined;
+  g = g;
+  b = l.address;
+  q = q;
+  inside = inside;
+  address = ap (λ (m : Location). m.address) read;
+  found = found;
+}
 
 module _ {n : ℕ} {at : ℕ → Location} {x : Location} (t : Turn n at x) where
   pub first : FirstFrom n at t.g t.b x.destroyed t.q

@@ -1,29 +1,11 @@
--- Where locations in line stand in memory. Assumes nothing.
-use Rattle.std.specs.Prelude.{ℕ, ◌+◌, ◌*◌, ◌≤◌, ◌<◌, ◌≡◌, List, length}
-use Rattle.words.specs.Words.{le64}
-use Rattle.definitions.specs.Location.{Location, location_at}
-use Rattle.definitions.specs.Calls.{header_size}
-use Rattle.memory_header.specs.Layout.{logged_size}
+-- The locations of a line. Assumes nothing.
+use Rattle.std.specs.Prelude.{ℕ}
+use Rattle.definitions.specs.Location.{Location}
 use Rattle.lined_locations.specs.declared.Line.{Line}
-use Rattle.lined_locations.specs.declared.LineKind.{LineKind}
-use Rattle.lined_locations.specs.declared.LineKind.TheVariants.{Row, Logged}
+use Rattle.lined_locations.specs.Places.{place_by, location_by}
 
--- the number of entry i of the certificate from index `base` on
-abbrev pub number_at : List ℕ → (base i : ℕ) → ℕ
-number_at s base i = le64 s (base + 16 * i)
+abbrev pub place_of : Line → ℕ → ℕ
+place_of v i = place_by v.kind v.bytes.now v.base i
 
--- where location i stands: behind those before it, or by the number of a piece in the log
-abbrev pub place_by : LineKind → List ℕ → (base i : ℕ) → ℕ
-place_by Row s base i = base + 24 * i
-place_by Logged s base i = header_size + logged_size * number_at s base i + 24
-
-unfoldable pub place_of : List ℕ → Line → ℕ → ℕ
-place_of s v i = place_by v.kind s v.base i
-
-abbrev pub location_of : List ℕ → Line → ℕ → Location
-location_of s v i = location_at s (place_of s v i)
-
--- the numbers and the locations lie within the memory
-pub record Within (s : List ℕ) (v : Line) : Type 0 where
-  pub numbers : v.kind ≡ Logged → v.base + 16 * v.count ≤ length s
-  pub places : (i : ℕ) → i < v.count → place_of s v i + 24 ≤ length s
+abbrev pub location_of : Line → ℕ → Location
+location_of v i = location_by v.kind v.bytes.now v.base i

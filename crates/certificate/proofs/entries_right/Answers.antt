@@ -2,14 +2,11 @@
 use native.Mathlib.Omega.{arith}
 use mathlib.Core.Path.{sym, ◌∙◌}
 use Rattle.certificate.specs.Entries.{entry_right}
-use Rattle.certificate.proofs.All.{all_start, all_next, all_fails, all_done}
+use Rattle.certificate.proofs.All.{all_start, all_next, all_fails}
 use Rattle.certificate.proofs.entries_right.Goals as goal
 
 pub loop-i-init : goal.loop-i-init
 loop-i-init c = let a = c.args in all_start (entry_right a.mem.now a.base a.pieces)
-
-pub entry_right-requires : goal.entry_right-requires
-entry_right-requires c = (c.requires.0, c.requires.1, omega (arith, c.requires.2))
 
 pub returns-then-not-entry_right : goal.returns-then-not-entry_right
 returns-then-not-entry_right c =
@@ -20,8 +17,3 @@ pub loop-i-preserved : goal.loop-i-preserved
 loop-i-preserved c =
     let a = c.args in
     all_next (entry_right a.mem.now a.base a.pieces) c.loop-i.i c.loop-i.invariant (sym c.entry_right.ensures ∙ c.if-not-entry_right.false)
-
-pub returns : goal.returns
-returns c =
-    let a = c.args in
-    all_done (entry_right a.mem.now a.base a.pieces) c.loop-i.i a.n (omega arith) c.loop-i.invariant
