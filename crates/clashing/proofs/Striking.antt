@@ -4,7 +4,6 @@ use native.Mathlib.Omega.{arith}
 use mathlib.Core.Path.{◌≡◌, refl, subst}
 use mathlib.Core.Bool.{Bool, true, ◌&&◌, ◌||◌}
 use mathlib.Core.Logic.{◌⊎◌, inl, inr, ◌↔◌}
-use mathlib.Core.List.{List}
 use lib.Dec.{ltb}
 use borrow.Author.Tests.{ltb-true, lt-ltb}
 use Rattle.definitions.specs.Location.{Location, meets}
@@ -16,41 +15,41 @@ use Rattle.lined_locations.specs.Line.{location_of}
 use Rattle.clashing.specs.Strikes.{length_of, strikes}
 
 -- the first address behind the piece of entry i
-abbrev pub end_of : List ℕ → Line → ℕ → ℕ
-end_of m v i = (location_of m v i).address + length_of m v i
+abbrev pub end_of : Line → ℕ → ℕ
+end_of v i = (location_of v i).address + length_of v i
 
-module _ (m : List ℕ) (v : Line) (x : Location) where
+module _ (v : Line) (x : Location) where
   -- an entry from g on and below q that lives together with x and goes beyond its address
   pub record Struck (g q : ℕ) : Type 0 where
     pub index : ℕ
     pub low : g ≤ index
     pub high : index < q
-    pub together : Together x (location_of m v index)
-    pub beyond : x.address < end_of m v index
+    pub together : Together x (location_of v index)
+    pub beyond : x.address < end_of v index
 
   -- the test of one entry
   abbrev one : ℕ → Bool
-  one i = meets x (location_of m v i) && ltb x.address (end_of m v i)
+  one i = meets x (location_of v i) && ltb x.address (end_of v i)
 
-  struck_is : (q k i : ℕ) → q ≡ i + k → strikes m v k i x ≡ true ↔ Struck i q
+  struck_is : (q k i : ℕ) → q ≡ i + k → strikes v k i x ≡ true ↔ Struck i q
   unfolding strikes
   struck_is q zero i h = ((λ e. absurd (not_both refl e)), λ w. absurd (omega (arith, w.low, w.high)))
   struck_is q (suc k) i h = go (struck_is q k (suc i) (omega arith))
     where
-      to : (strikes m v k (suc i) x ≡ true ↔ Struck (suc i) q) → (one i ≡ true) ⊎ (strikes m v k (suc i) x ≡ true) → Struck i q
+      to : (strikes v k (suc i) x ≡ true ↔ Struck (suc i) q) → (one i ≡ true) ⊎ (strikes v k (suc i) x ≡ true) → Struck i q
       to ih (inl e) =
-          let b : (meets x (location_of m v i) ≡ true) × (ltb x.address (end_of m v i) ≡ true) = both (meets x (location_of m v i)) (ltb x.address (end_of m v i)) e in
-          record { index = i; low = omega arith; high = omega arith; together = (meets_is x (location_of m v i)).0 b.0; beyond = ltb-true x.address (end_of m v i) b.1 }
+          let b : (meets x (location_of v i) ≡ true) × (ltb x.address (end_of v i) ≡ true) = both (meets x (location_of v i)) (ltb x.address (end_of v i)) e in
+          record { index = i; low = omega arith; high = omega arith; together = (meets_is x (location_of v i)).0 b.0; beyond = ltb-true x.address (end_of v i) b.1 }
       to ih (inr e) = let w : Struck (suc i) q = ih.0 e in record { index = w.index; low = omega (arith, w.low); high = w.high; together = w.together; beyond = w.beyond }
 
-      fro : (strikes m v k (suc i) x ≡ true ↔ Struck (suc i) q) → (w : Struck i q) → (i < w.index) ⊎ (w.index ≤ i) → (one i || strikes m v k (suc i) x) ≡ true
+      fro : (strikes v k (suc i) x ≡ true ↔ Struck (suc i) q) → (w : Struck i q) → (i < w.index) ⊎ (w.index ≤ i) → (one i || strikes v k (suc i) x) ≡ true
       fro ih w (inl l) = or_right (one i) (ih.1 (record { index = w.index; low = l; high = w.high; together = w.together; beyond = w.beyond }))
       fro ih w (inr l) =
           let z : w.index ≡ i = omega (arith, w.low) in
-          or_left (strikes m v k (suc i) x) (subst (λ (j : ℕ). one j ≡ true) z (and_true ((meets_is x (location_of m v w.index)).1 w.together) (lt-ltb x.address (end_of m v w.index) w.beyond)))
+          or_left (strikes v k (suc i) x) (subst (λ (j : ℕ). one j ≡ true) z (and_true ((meets_is x (location_of v w.index)).1 w.together) (lt-ltb x.address (end_of v w.index) w.beyond)))
 
-      go : (strikes m v k (suc i) x ≡ true ↔ Struck (suc i) q) → (one i || strikes m v k (suc i) x) ≡ true ↔ Struck i q
-      go ih = ((λ e. to ih (either (one i) (strikes m v k (suc i) x) e)), λ w. fro ih w (lt_or_le i w.index))
+      go : (strikes v k (suc i) x ≡ true ↔ Struck (suc i) q) → (one i || strikes v k (suc i) x) ≡ true ↔ Struck i q
+      go ih = ((λ e. to ih (either (one i) (strikes v k (suc i) x) e)), λ w. fro ih w (lt_or_le i w.index))
 
-  pub strikes_is : (g q : ℕ) → g ≤ q → strikes m v (q - g) g x ≡ true ↔ Struck g q
+  pub strikes_is : (g q : ℕ) → g ≤ q → strikes v (q - g) g x ≡ true ↔ Struck g q
   strikes_is g q h = struck_is q (q - g) g (omega arith)

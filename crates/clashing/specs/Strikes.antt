@@ -11,27 +11,27 @@ use Rattle.certificate.specs.Entries.{piece_at}
 use Rattle.certificate.specs.Stored.{pieces_in}
 
 -- the bytes of the piece of entry i
-abbrev pub length_of : List ℕ → Line → ℕ → ℕ
-length_of m v i = le64 m (piece_at m v.base i)
+abbrev pub length_of : Line → ℕ → ℕ
+length_of v i = le64 v.bytes.now (piece_at v.bytes.now v.base i)
 
 -- one of k entries from i on lives together with x and goes beyond its address
-unfoldable pub strikes : List ℕ → Line → (k i : ℕ) → Location → Bool
-strikes m v zero i x = false
-strikes m v (suc k) i x = (meets x (location_of m v i) && ltb x.address ((location_of m v i).address + length_of m v i)) || strikes m v k (suc i) x
+unfoldable pub strikes : Line → (k i : ℕ) → Location → Bool
+strikes v zero i x = false
+strikes v (suc k) i x = (meets x (location_of v i) && ltb x.address ((location_of v i).address + length_of v i)) || strikes v k (suc i) x
 
 -- the entries from g on and below q are at one address, and created before x ends
-pub record OneAddress (m : List ℕ) (v : Line) (g q : ℕ) (x : Location) : Type 0 where
+pub record OneAddress (v : Line) (g q : ℕ) (x : Location) : Type 0 where
   pub low : g ≤ q
   pub high : q ≤ v.count
-  pub same : (i j : ℕ) → g ≤ i → i < q → g ≤ j → j < q → (location_of m v i).address ≡ (location_of m v j).address
-  pub before : (i : ℕ) → g ≤ i → i < q → (location_of m v i).created < x.destroyed
+  pub same : (i j : ℕ) → g ≤ i → i < q → g ≤ j → j < q → (location_of v i).address ≡ (location_of v j).address
+  pub before : (i : ℕ) → g ≤ i → i < q → (location_of v i).created < x.destroyed
 
 -- the entries from `from` on and below `upto` are those at lesser addresses than x, the entry behind them is not
-pub record Below (m : List ℕ) (v : Line) (from upto : ℕ) (x : Location) : Type 0 where
+pub record Below (v : Line) (from upto : ℕ) (x : Location) : Type 0 where
   pub low : from ≤ upto
   pub high : upto ≤ v.count
-  pub below : (i : ℕ) → from ≤ i → i < upto → (location_of m v i).address < x.address
-  pub behind : (i : ℕ) → upto ≤ i → i < v.count → x.address ≤ (location_of m v i).address
+  pub below : (i : ℕ) → from ≤ i → i < upto → (location_of v i).address < x.address
+  pub behind : (i : ℕ) → upto ≤ i → i < v.count → x.address ≤ (location_of v i).address
 
 -- the answer is whether a block of n bytes at x conflicts with the pieces that h counts
 abbrev pub SaysConflict : List ℕ → Header → Location → ℕ → Bool → Type 0

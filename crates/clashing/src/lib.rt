@@ -4,27 +4,26 @@
 ghost use Rattle.std.specs.Prelude.{◌≡◌, ◌+◌, ◌-◌, ◌^◌, ◌<◌};
 ghost use Rattle.location.specs.Plain.{plain};
 ghost use Rattle.memory_header.specs.Answers.{header_of};
-ghost use Rattle.certificate.specs.Entries.{Inside};
 ghost use Rattle.certificate.specs.Stored.{Stored};
 ghost use Rattle.clashing.specs.Strikes.{strikes, OneAddress, Below, SaysConflict};
 
+use certificate::Certified;
 use definitions::PIECE_SIZE;
-use lined_locations::{Line, LineKind};
 use location::SpacetimeLocation;
 use memory_header::Header;
 
 // Whether one of the entries from g on and below q, all at one address and created before x ends, lives together with x and has
 // a byte at its address. They end one before the other, so the way is back from q.
-fn reaches(mem: &[u8], v: Line, g: usize, q: usize, x: SpacetimeLocation) -> bool
-    requires { Inside mem.now v × OneAddress mem.now v g q (plain x) }
-    ensures { result ≡ strikes mem.now v (q - g) g (plain x) }
+fn reaches(v: Certified<'_>, g: usize, q: usize, x: SpacetimeLocation) -> bool
+    requires { OneAddress v.entries.line g q (plain x) }
+    ensures { result ≡ strikes v.entry.entries.line (q - g) g (plain x) }
 {
     for k in (g..q).rev() {
-        let y = lined_locations::location(mem, v, k);
+        let y = v.entries.line.location(k);
         if y.destroyed_at.0 <= x.created_at.0 {
             return false;
         }
-        if x.address.0 < y.address.0 + certificate::piece_size(mem, v, k) {
+        if x.address.0 < y.address.0 + v.piece_size(k) {
             return true;
         }
     }
@@ -33,19 +32,19 @@ fn reaches(mem: &[u8], v: Line, g: usize, q: usize, x: SpacetimeLocation) -> boo
 
 // Whether one of the entries from number from on and below upto, all at addresses below that of x, lives together with x and has
 // a byte at its address.
-fn strikes_below(mem: &[u8], v: Line, from: usize, upto: usize, x: SpacetimeLocation) -> bool
-    requires { Inside mem.now v × Below mem.now v from upto (plain x) }
-    ensures { result ≡ strikes mem.now v (upto - from) from (plain x) }
+fn strikes_below(v: Certified<'_>, from: usize, upto: usize, x: SpacetimeLocation) -> bool
+    requires { Below v.entries.line from upto (plain x) }
+    ensures { result ≡ strikes v.entry.entries.line (upto - from) from (plain x) }
 {
     let mut g = from;
     while g < upto {
-        let l = lined_locations::location(mem, v, g);
+        let l = v.entries.line.location(g);
         let b = l.address.0;
-        let q = lined_locations::first_from(mem, v, g, b, x.destroyed_at.0);
-        if reaches(mem, v, g, q, x) {
+        let q = v.entries.first_from(g, b, x.destroyed_at.0);
+        if reaches(v, g, q, x) {
             return true;
         }
-        g = lined_locations::first_from(mem, v, q, b + 1, 0);
+        g = v.entries.first_from(q, b + 1, 0);
     }
     false
 }
@@ -65,15 +64,11 @@ pub fn clashes(mem: &[u8], h: Header, count: usize, x: SpacetimeLocation, n: usi
     if n == 0 {
         return false;
     }
-    let v = Line {
-        base: certificate::certificate_at(h),
-        count,
-        kind: LineKind::Logged,
-    };
-    let from = lined_locations::first_from(mem, v, 0, lowest(x.address.0), 0);
-    let upto = lined_locations::first_from(mem, v, from, x.address.0, 0);
-    if strikes_below(mem, v, from, upto, x) {
+    let v = certificate::certificate_of(mem, h, count);
+    let from = v.entries.first_from(0, lowest(x.address.0), 0);
+    let upto = v.entries.first_from(from, x.address.0, 0);
+    if strikes_below(v, from, upto, x) {
         return true;
     }
-    lined_locations::lives_among(mem, v, upto, x, x.address.0 + n as u64)
+    v.entries.lives_among(upto, x, x.address.0 + n as u64)
 }

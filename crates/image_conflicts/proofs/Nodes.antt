@@ -27,38 +27,38 @@ use Rattle.image_conflicts.specs.Cited.{NodeAsked, NodeSays, ChildrenAsked, Chil
 
 -- ── one node ──
 
-module _ (s : List ℕ) (at left : ℕ) (p : Parts) (g : p ≡ parts_at s at) where
-  parts_here : (x : Node) → NodeHere s left at x → PartsOf s left p x
-  parts_here x h = rw g (parts_of s left at x h)
+module _ (v : Line) (at left : ℕ) (p : Parts) (g : p ≡ parts_at v.bytes.now at) where
+  parts_here : (x : Node) → NodeHere v.bytes.now left at x → PartsOf v.bytes.now left p x
+  parts_here x h = rw g (parts_of v.bytes.now left at x h)
 
-  module _ (m : ℕ) (a : NodeAsked s at m left) where
-    pub chunks_in : Within s p.chunks
+  module _ (m : ℕ) (a : NodeAsked v.bytes.now at m left) where
+    pub chunks_in : Within v.bytes.now p.chunks
     chunks_in = (parts_here a.node a.here).chunks_in
 
-    pub chunks_ending : Ending m (held s p.chunks)
+    pub chunks_ending : Ending m (held v.bytes.now p.chunks)
     chunks_ending = subst (Ending m) (sym (parts_here a.node a.here).chunks) a.ending
 
-    pub children_asked : ChildrenAsked s p (m + 1) left
+    pub children_asked : ChildrenAsked v.bytes.now p (m + 1) left
     children_asked = record { node = a.node; is = parts_here a.node a.here; ending = a.below; levels = omega (arith, a.levels) }
 
-  module _ (v : Line) (m due : ℕ) where
+  module _ (m due : ℕ) where
     -- what is due behind its own chunks
     abbrev own : Option ℕ
-    own = chunks_due (location_of s v) v.count m (held s p.chunks) due
+    own = chunks_due (location_of v) v.count m (held v.bytes.now p.chunks) due
 
     -- and behind all below it
-    behind_own : (o : Option ℕ) → o ≡ own → (x : Node) → NodeHere s left at x → then_due o (λ k. cond (is_nil x.lists.suffixes) (Some k) (forest_due (location_of s v) v.count (m + 1) x.children k)) ≡ node_due (location_of s v) v.count m x due
+    behind_own : (o : Option ℕ) → o ≡ own → (x : Node) → NodeHere v.bytes.now left at x → then_due o (λ k. cond (is_nil x.lists.suffixes) (Some k) (forest_due (location_of v) v.count (m + 1) x.children k)) ≡ node_due (location_of v) v.count m x due
     unfolding node_due
     behind_own o e x h =
-        ap (λ (q : Option ℕ). then_due q (λ k. cond (is_nil x.lists.suffixes) (Some k) (forest_due (location_of s v) v.count (m + 1) x.children k)))
-        (e ∙ ap (λ (ls : List Location). chunks_due (location_of s v) v.count m ls due) (parts_here x h).chunks)
+        ap (λ (q : Option ℕ). then_due q (λ k. cond (is_nil x.lists.suffixes) (Some k) (forest_due (location_of v) v.count (m + 1) x.children k)))
+        (e ∙ ap (λ (ls : List Location). chunks_due (location_of v) v.count m ls due) (parts_here x h).chunks)
 
-    pub node_struck : None ≡ own → (r : Option ℕ) → r ≡ None → NodeSays s v at m left due r
+    pub node_struck : None ≡ own → (r : Option ℕ) → r ≡ None → NodeSays v at m left due r
     node_struck e r z = record { says = λ x h. z ∙ behind_own None e x h }
 
     module _ (k : ℕ) (e : Some k ≡ own) where
-      suffix_length : (x : Node) → NodeHere s left at x → p.suffixes.count ≡ length x.lists.suffixes
-      suffix_length x h = sym (length_locations p.suffixes.count s p.suffixes.at) ∙ ap length (parts_here x h).suffixes
+      suffix_length : (x : Node) → NodeHere v.bytes.now left at x → p.suffixes.count ≡ length x.lists.suffixes
+      suffix_length x h = sym (length_locations p.suffixes.count v.bytes.now p.suffixes.at) ∙ ap length (parts_here x h).suffixes
 
       nil_if : (ls : List Location) → length ls ≡ 0 → is_nil ls ≡ true
       nil_if [] y = refl
@@ -69,82 +69,82 @@ module _ (s : List ℕ) (at left : ℕ) (p : Parts) (g : p ≡ parts_at s at) wh
       some_if (l ∷ ls) y = refl
 
       -- no suffix: nothing below is looked at
-      pub node_bare : p.suffixes.count ≡ 0 → NodeSays s v at m left due (Some k)
+      pub node_bare : p.suffixes.count ≡ 0 → NodeSays v at m left due (Some k)
       node_bare y = record {
-        says = λ x h. ap (λ (q : Bool). cond q (Some k) (forest_due (location_of s v) v.count (m + 1) x.children k)) (sym (nil_if x.lists.suffixes (sym (suffix_length x h) ∙ y)))
+        says = λ x h. ap (λ (q : Bool). cond q (Some k) (forest_due (location_of v) v.count (m + 1) x.children k)) (sym (nil_if x.lists.suffixes (sym (suffix_length x h) ∙ y)))
             ∙ behind_own (Some k) e x h;
       }
 
-      pub node_below : (p.suffixes.count ≡ 0 → ⊥) → (r : Option ℕ) → ChildrenSays s v p (m + 1) left k r → NodeSays s v at m left due r
+      pub node_below : (p.suffixes.count ≡ 0 → ⊥) → (r : Option ℕ) → ChildrenSays v p (m + 1) left k r → NodeSays v at m left due r
       node_below y r c = record {
         says = λ x h. c.says x (parts_here x h)
-            ∙ ap (λ (q : Bool). cond q (Some k) (forest_due (location_of s v) v.count (m + 1) x.children k)) (sym (some_if x.lists.suffixes (λ w. y (suffix_length x h ∙ w))))
+            ∙ ap (λ (q : Bool). cond q (Some k) (forest_due (location_of v) v.count (m + 1) x.children k)) (sym (some_if x.lists.suffixes (λ w. y (suffix_length x h ∙ w))))
             ∙ behind_own (Some k) e x h;
       }
 
 -- ── its children ──
 
-module _ (s : List ℕ) (v : Line) (p : Parts) (m left due : ℕ) where
-  pub no_levels : left ≡ 0 → ChildrenSays s v p m left due (Some due)
+module _ (v : Line) (p : Parts) (m left due : ℕ) where
+  pub no_levels : left ≡ 0 → ChildrenSays v p m left due (Some due)
   unfolding forest_due
-  no_levels z = record { says = λ x h. ap (λ (f : Forest). forest_due (location_of s v) v.count m f due) (sym (h.table.ends z)) }
+  no_levels z = record { says = λ x h. ap (λ (f : Forest). forest_due (location_of v) v.count m f due) (sym (h.table.ends z)) }
 
   -- k are due behind the entries before number j, which lead to the first siblings; those from j on lead to the rest
   pub record Passed (j k : ℕ) (x : Node) : Type 0 where
     pub rest : Forest
-    pub ahead : Ahead s left p.table.at p.table.count j rest
+    pub ahead : Ahead v.bytes.now left p.table.at p.table.count j rest
     pub ending : AllEnding m x.children → AllEnding m rest
-    pub says : forest_due (location_of s v) v.count m rest k ≡ forest_due (location_of s v) v.count m x.children due
+    pub says : forest_due (location_of v) v.count m rest k ≡ forest_due (location_of v) v.count m x.children due
 
   pub record Passing (j k : ℕ) : Type 0 where
     pub within : j ≤ p.table.count
-    pub each : (x : Node) → PartsOf s left p x → Passed j k x
+    pub each : (x : Node) → PartsOf v.bytes.now left p x → Passed j k x
 
   module _ (j k : ℕ) (i : Passing j k) where
-    pub passing_done : p.table.count ≤ j → ChildrenSays s v p m left due (Some k)
+    pub passing_done : p.table.count ≤ j → ChildrenSays v p m left due (Some k)
     unfolding forest_due
     passing_done l = record {
       says = λ x h.
           let y : Passed j k x = i.each x h in
-          ap (λ (f : Forest). forest_due (location_of s v) v.count m f k) (sym (slots_end s left p.table.at p.table.count j y.rest l y.ahead)) ∙ y.says;
+          ap (λ (f : Forest). forest_due (location_of v) v.count m f k) (sym (slots_end v.bytes.now left p.table.at p.table.count j y.rest l y.ahead)) ∙ y.says;
     }
 
     module _ (l : j < p.table.count) where
-      pub passing_skip : none ≡ slot_in s p.table.at p.table.count j → Passing (j + 1) k
+      pub passing_skip : none ≡ slot_in v.bytes.now p.table.at p.table.count j → Passing (j + 1) k
       passing_skip q = record {
         within = omega arith;
         each = λ x h.
             let y : Passed j k x = i.each x h in
-            record { rest = y.rest; ahead = slot_empty s left p.table.at p.table.count j y.rest l q y.ahead; ending = y.ending; says = y.says };
+            record { rest = y.rest; ahead = slot_empty v.bytes.now left p.table.at p.table.count j y.rest l q y.ahead; ending = y.ending; says = y.says };
       }
 
-      module _ (e : Entry) (q : some e ≡ slot_in s p.table.at p.table.count j) where
-        met : (x : Node) (h : PartsOf s left p x) → Next s left p.table.at p.table.count j e (i.each x h).rest
-        met x h = let y : Passed j k x = i.each x h in slot_taken s left p.table.at p.table.count j y.rest e l q y.ahead
+      module _ (e : Entry) (q : some e ≡ slot_in v.bytes.now p.table.at p.table.count j) where
+        met : (x : Node) (h : PartsOf v.bytes.now left p x) → Next v.bytes.now left p.table.at p.table.count j e (i.each x h).rest
+        met x h = let y : Passed j k x = i.each x h in slot_taken v.bytes.now left p.table.at p.table.count j y.rest e l q y.ahead
 
         -- those that are met end where they may
-        met_ending : (x : Node) (h : PartsOf s left p x) → AllEnding m x.children → AllEnding m (more e.byte (met x h).lists (met x h).below (met x h).later)
+        met_ending : (x : Node) (h : PartsOf v.bytes.now left p x) → AllEnding m x.children → AllEnding m (more e.byte (met x h).lists (met x h).below (met x h).later)
         met_ending x h w = subst (AllEnding m) (met x h).is ((i.each x h).ending w)
 
-        pub node_asked : ChildrenAsked s p m left → (left ≡ 0 → ⊥) → NodeAsked s e.node m (left - 1)
+        pub node_asked : ChildrenAsked v.bytes.now p m left → (left ≡ 0 → ⊥) → NodeAsked v.bytes.now e.node m (left - 1)
         node_asked c z =
             let y = met c.node c.is in
             let w = met_ending c.node c.is c.ending in
             record { node = record { lists = y.lists; children = y.below }; here = y.here; ending = w.0; below = w.1; levels = omega (arith, c.levels) }
 
         -- this one, and those behind it
-        one_more : (r : Option ℕ) → NodeSays s v e.node m (left - 1) k r → (x : Node) (h : PartsOf s left p x) → then_due r (λ d. forest_due (location_of s v) v.count m (met x h).later d) ≡ forest_due (location_of s v) v.count m x.children due
+        one_more : (r : Option ℕ) → NodeSays v e.node m (left - 1) k r → (x : Node) (h : PartsOf v.bytes.now left p x) → then_due r (λ d. forest_due (location_of v) v.count m (met x h).later d) ≡ forest_due (location_of v) v.count m x.children due
         unfolding forest_due node_due
         one_more r c x h =
             let y = met x h in
-            ap (λ (o : Option ℕ). then_due o (λ d. forest_due (location_of s v) v.count m y.later d)) (c.says (record { lists = y.lists; children = y.below }) y.here)
-            ∙ ap (λ (f : Forest). forest_due (location_of s v) v.count m f k) (sym y.is)
+            ap (λ (o : Option ℕ). then_due o (λ d. forest_due (location_of v) v.count m y.later d)) (c.says (record { lists = y.lists; children = y.below }) y.here)
+            ∙ ap (λ (f : Forest). forest_due (location_of v) v.count m f k) (sym y.is)
             ∙ (i.each x h).says
 
-        pub passing_struck : NodeSays s v e.node m (left - 1) k None → (r : Option ℕ) → r ≡ None → ChildrenSays s v p m left due r
+        pub passing_struck : NodeSays v e.node m (left - 1) k None → (r : Option ℕ) → r ≡ None → ChildrenSays v p m left due r
         passing_struck c r z = record { says = λ x h. z ∙ one_more None c x h }
 
-        pub passing_on : (d : ℕ) → NodeSays s v e.node m (left - 1) k (Some d) → Passing (j + 1) d
+        pub passing_on : (d : ℕ) → NodeSays v e.node m (left - 1) k (Some d) → Passing (j + 1) d
         passing_on d c = record {
           within = omega arith;
           each = λ x h. record { rest = (met x h).later; ahead = (met x h).ahead; ending = λ w. (met_ending x h w).2; says = one_more (Some d) c x h };

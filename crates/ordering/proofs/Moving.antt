@@ -20,12 +20,14 @@ use Rattle.conflicts.specs.Lined.{first_from, Ahead, Lined}
 use Rattle.conflicts.specs.Order.{Entry, ordered, certificate, nth}
 use Rattle.conflicts.specs.Promises.{own_bytes}
 use Rattle.conflicts.proofs.Entering.{behind, behind_upto, own_append, own_length}
-use Rattle.lined_locations.specs.Line.{number_at, location_of, Within}
+use Rattle.lined_locations.specs.declared.LineKind.TheVariants.{Logged}
+use Rattle.lined_locations.specs.Places.{number_at, Within}
 use Rattle.index_memory.specs.Log.{piece_in, log_in}
 use Rattle.index_memory.proofs.LogBytes.{log_sound_is, length_log_in, log_append}
-use Rattle.certificate.specs.Stored.{pieces_in, line_of}
+use Rattle.certificate.specs.Entries.{entry_at}
+use Rattle.certificate.specs.Stored.{pieces_in}
 use Rattle.certificate.proofs.Bytes.{log_nth}
-use Rattle.certificate.proofs.Stored.{logged_place, all_sound, stored_count, number_inside, stored_location, stored_lined}
+use Rattle.certificate.proofs.Stored.{all_sound, stored_count, number_inside, stored_location, stored_lined}
 use Rattle.ordering.specs.Entering.{all_pieces, Entering}
 use Rattle.ordering.proofs.Writes.{part, moved, sets_before, length_entry}
 use Rattle.ordering.proofs.Merging.{Coming, Merged, merge_start, merge_turn, merge_end, place}
@@ -125,25 +127,25 @@ module _ (m₀ : List ℕ) (b : (k : ℕ) → get_or m₀ k 0 < 256) (h : Header
     same_number i l = ap (λ (x : List ℕ). le64 x (base + 16 * i)) w.memory ∙ le64_sets_other (own_bytes w.merged) m₀ at (base + 16 * i) (inl (omega arith))
 
     inside : (i : ℕ) → i < upto → number_at m₀ base i < h.payload
-    inside i l = number_inside m₀ b h count s.stored i (omega (arith, w.old))
+    inside i l = number_inside m₀ b h count s.stored base refl i (omega (arith, w.old))
 
     same_place : (p : ℕ) → p + 24 ≤ base → location_at m p ≡ location_at m₀ p
     same_place p l = ap (λ (x : List ℕ). location_at x p) w.memory ∙ location_other (own_bytes w.merged) m₀ at p (inl (omega arith))
 
-    same_location : (i : ℕ) → i < upto → location_of m₀ (line_of h count) i ≡ location_of m (line_of h upto) i
+    same_location : (i : ℕ) → i < upto → entry_at m₀ base i ≡ entry_at m base i
     same_location i l =
         let p : ℕ = 64 + 48 * number_at m₀ base i + 24 in
         let e : 64 + 48 * number_at m base i + 24 ≡ p = omega (arith, same_number i l) in
-        ap (location_at m₀) (logged_place m₀ base count i) ∙ sym (same_place p (omega (arith, inside i l, s.stored.log_room))) ∙ ap (location_at m) (sym (logged_place m base upto i ∙ e))
+        sym (same_place p (omega (arith, inside i l, s.stored.log_room))) ∙ ap (location_at m) (sym e)
 
-    pub moving_within : Within m (line_of h upto)
+    pub moving_within : Within Logged m (work_at h.capacity) upto
     moving_within = record {
       numbers = λ e. omega (arith, w.old, w.long, s.room);
-      places = λ i l. omega (arith, logged_place m base upto i, same_number i l, inside i l, s.stored.log_room, s.room, w.long);
+      places = λ i l. omega (arith, same_number i l, inside i l, s.stored.log_room, s.room, w.long);
     }
 
-    pub moving_lined : Lined upto (location_of m (line_of h upto))
-    moving_lined = lined_first count upto (location_of m₀ (line_of h count)) (location_of m (line_of h upto)) w.old same_location (stored_lined m₀ b h count s.stored)
+    pub moving_lined : Lined upto (entry_at m (work_at h.capacity))
+    moving_lined = lined_first count upto (entry_at m₀ base) (entry_at m base) w.old same_location (stored_lined m₀ b h count s.stored base refl)
 
     -- ── the next piece ──
 
@@ -154,10 +156,10 @@ module _ (m₀ : List ℕ) (b : (k : ℕ) → get_or m₀ k 0 < 256) (h : Header
           ∙ ap (λ (p : Piece). p.at) (sym (log_nth m₀ (h.payload + new) 64 (h.payload + j) (omega arith)) ∙ new_piece j l)
 
       abbrev found : ℕ → Type 0
-      found k = k ≡ first_from (location_of m (line_of h upto)) upto 0 (nth (new_pieces m₀ h new) j).at.address (nth (new_pieces m₀ h new) j).at.created
+      found k = k ≡ first_from (entry_at m (work_at h.capacity)) upto 0 (nth (new_pieces m₀ h new) j).at.address (nth (new_pieces m₀ h new) j).at.created
 
       behind_it : (k : ℕ) → found k → k ≡ behind (nth news j).at (take upto es)
-      behind_it k e = e ∙ place ps news coming upto j w.merged w.order (omega (arith, new_count)) (location_of m (line_of h upto)) (λ i o. sym (same_location i o) ∙ stored_location m₀ b h count s.stored i (omega (arith, w.old)))
+      behind_it k e = e ∙ place ps news coming upto j w.merged w.order (omega (arith, new_count)) (entry_at m base) (λ i o. sym (same_location i o) ∙ stored_location m₀ b h count s.stored base refl i (omega (arith, w.old)))
 
       module _ (k : ℕ) (e : found k) where
         pub moving_low : k ≤ upto

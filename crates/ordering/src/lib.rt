@@ -10,7 +10,7 @@ ghost use Rattle.conflicts.specs.Order.{certificate};
 ghost use Rattle.index_memory.specs.Log.{log_in};
 ghost use Rattle.ordering.specs.Entering.{Entering};
 
-use lined_locations::{CERTIFIED_SIZE, Line, LineKind};
+use lined_locations::{CERTIFIED_SIZE, Line, LineKind, Ordered};
 use memory_header::{HEADER_SIZE, Header, LOGGED_SIZE};
 
 // Moves the entries from number from on and below upto by so many entries further on, the last first.
@@ -47,11 +47,12 @@ pub fn enter_pieces(mem: &mut [u8], h: Header, count: usize, new: usize)
         let piece = HEADER_SIZE + LOGGED_SIZE * (h.payload + j);
         let l = location::location_at(mem, piece + 24);
         let line = Line {
+            bytes: mem,
             base,
             count: upto,
             kind: LineKind::Logged,
         };
-        let k = lined_locations::first_from(mem, line, 0, l.address.0, l.created_at.0);
+        let k = Ordered { line }.first_from(0, l.address.0, l.created_at.0);
         shift(mem, base, k, upto, new - j);
         let place = base + CERTIFIED_SIZE * (k + new - j - 1);
         put_entry(mem, place, (h.payload + j) as u64, l.destroyed_at.0);

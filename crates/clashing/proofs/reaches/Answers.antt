@@ -15,21 +15,21 @@ ending_of l = l.destroyed
 pub returns-then-y-x : goal.returns-then-y-x
 returns-then-y-x c =
     let a = c.args in
-    reach_ended a.mem.now a.v (plain a.x) a.g a.q c.loop-k.k c.requires.1 c.requires.0.lined (omega arith) (omega arith) (omega (arith, leb-true, ap ending_of c.location-y.ensures)) ∙ c.loop-k.invariant.1
+    reach_ended a.v.entries.line (plain a.x) a.g a.q c.loop-k.k c.requires c.args.v.entries.lined (omega arith) (omega arith) (omega (arith, leb-true, ap ending_of c.location-y.ensures)) ∙ c.loop-k.invariant.1
 
 pub returns-then-x-y : goal.returns-then-x-y
 returns-then-x-y c =
     let a = c.args in
-    reach_found a.mem.now a.v (plain a.x) a.g a.q c.loop-k.k c.requires.1 c.requires.0.lined (omega arith) (omega arith) (omega (arith, leb-false, ap ending_of c.location-y.ensures)) (omega (arith, ltb-true, c.piece_size.ensures, ap address-of c.location-y.ensures)) ∙ c.loop-k.invariant.1
+    reach_found a.v.entries.line (plain a.x) a.g a.q c.loop-k.k c.requires c.args.v.entries.lined (omega arith) (omega arith) (omega (arith, leb-false, ap ending_of c.location-y.ensures)) (omega (arith, ltb-true, c.piece_size.ensures, ap address-of c.location-y.ensures)) ∙ c.loop-k.invariant.1
 
 pub loop-k-preserved : goal.loop-k-preserved
 loop-k-preserved c =
     let a = c.args in (
       omega arith,
-      reach_on a.mem.now a.v (plain a.x) a.g c.loop-k.k (omega arith) (omega (arith, ltb-false, c.piece_size.ensures, ap address-of c.location-y.ensures)) ∙ c.loop-k.invariant.1,
+      reach_on a.v.entries.line (plain a.x) a.g c.loop-k.k (omega arith) (omega (arith, ltb-false, c.piece_size.ensures, ap address-of c.location-y.ensures)) ∙ c.loop-k.invariant.1,
     )
 
 pub returns : goal.returns
 returns c =
     let a = c.args in
-    reach_done a.mem.now a.v (plain a.x) a.g c.loop-k.k c.loop-k.invariant.0 (omega arith) ∙ c.loop-k.invariant.1
+    reach_done a.v.entries.line (plain a.x) a.g c.loop-k.k c.loop-k.invariant.0 (omega arith) ∙ c.loop-k.invariant.1

@@ -5,4 +5,4 @@ use Rattle.clashing.specs.Strikes.{strikes}
 use Rattle.clashing.proofs.reaches.Given as goal
 
 abbrev pub invariant-loop-k : goal.invariant-loop-k
-invariant-loop-k l = (l.g ≤ l.k) × (strikes l.mem l.v (l.k - l.g) l.g (plain l.x) ≡ strikes l.mem l.v (l.q - l.g) l.g (plain l.x))
+invariant-loop-k l = (l.g ≤ l.k) × (strikes l.v.entries.line (l.k - l.g) l.g (plain l.x) ≡ strikes l.v.entries.line (l.q - l.g) l.g (plain l.x))

@@ -11,4 +11,4 @@ abbrev pub decreases-node_due : goal.decreases-node_due
 decreases-node_due l = 2 * l.left + 1
 
 abbrev pub invariant-children_due-loop-j : goal.invariant-children_due-loop-j
-invariant-children_due-loop-j l = Passing l.s l.v l.n l.m l.left l.due l.j l.rest
+invariant-children_due-loop-j l = Passing l.v.line l.n l.m l.left l.due l.j l.rest

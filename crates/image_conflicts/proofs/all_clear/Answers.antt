@@ -12,15 +12,15 @@ use Rattle.image_conflicts.proofs.all_clear.Goals as goal
 pub returns-then-m-lt2 : goal.returns-then-m-lt2
 returns-then-m-lt2 c =
     let a = c.args in
-    sym (short_clear a.v.count (location_of a.s.now a.v) a.m c.requires.0.lined c.if-m-lt2.true (held a.s.now a.list))
+    sym (short_clear a.v.line.count (location_of a.v.line) a.m a.v.lined c.if-m-lt2.true (held a.v.line.bytes.now a.list))
 
 pub is_clear-requires : goal.is_clear-requires
 is_clear-requires c =
     let a = c.args in
     let p = c.requires in
     let j = c.loop-j.j in
-    let e = ending_at (location_of a.s.now a.v) a.v.count a.m a.s.now a.list.at a.list.count p.2 j c.loop-j-test.true in
-    (p.0, omega arith, omega (arith, e, ap (λ (l : Location). l.address) c.location_at-x.ensures))
+    let e = ending_at (location_of a.v.line) a.v.line.count a.m a.v.line.bytes.now a.list.at a.list.count p.1 j c.loop-j-test.true in
+    (omega arith, omega (arith, e, ap (λ (l : Location). l.address) c.location_at-x.ensures))
 
 pub returns-then-not-is_clear : goal.returns-then-not-is_clear
 returns-then-not-is_clear c =
@@ -28,7 +28,7 @@ returns-then-not-is_clear c =
     let l = c.loop-j in
     let r = c.is_clear in
     let x = c.location_at-x in
-    sym (clear_not (location_of a.s.now a.v) a.v.count a.m a.s.now a.list.at a.list.count l.j c.loop-j-test.true (plain x.result) x.ensures r.result r.ensures c.if-not-is_clear.true) ∙ l.invariant
+    sym (clear_not (location_of a.v.line) a.v.line.count a.m a.v.line.bytes.now a.list.at a.list.count l.j c.loop-j-test.true (plain x.result) x.ensures r.result r.ensures c.if-not-is_clear.true) ∙ l.invariant
 
 pub loop-j-preserved : goal.loop-j-preserved
 loop-j-preserved c =
@@ -36,10 +36,10 @@ loop-j-preserved c =
     let l = c.loop-j in
     let r = c.is_clear in
     let x = c.location_at-x in
-    clear_on (location_of a.s.now a.v) a.v.count a.m a.s.now a.list.at a.list.count l.j c.loop-j-test.true (plain x.result) x.ensures r.result r.ensures c.if-not-is_clear.false ∙ l.invariant
+    clear_on (location_of a.v.line) a.v.line.count a.m a.v.line.bytes.now a.list.at a.list.count l.j c.loop-j-test.true (plain x.result) x.ensures r.result r.ensures c.if-not-is_clear.false ∙ l.invariant
 
 pub returns : goal.returns
 returns c =
     let a = c.args in
     let l = c.loop-j in
-    sym (clear_end (location_of a.s.now a.v) a.v.count a.m a.s.now a.list.at a.list.count l.j c.loop-j-test.false) ∙ l.invariant
+    sym (clear_end (location_of a.v.line) a.v.line.count a.m a.v.line.bytes.now a.list.at a.list.count l.j c.loop-j-test.false) ∙ l.invariant

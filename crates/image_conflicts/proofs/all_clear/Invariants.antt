@@ -7,4 +7,4 @@ use Rattle.image_conflicts.proofs.Chunks.{clear_from}
 use Rattle.image_conflicts.proofs.all_clear.Given as goal
 
 abbrev pub invariant-loop-j : goal.invariant-loop-j
-invariant-loop-j l = clear_from (location_of l.s l.v) l.v.count l.m l.s l.list.at l.list.count l.j ≡ all_clear (location_of l.s l.v) l.v.count l.m (held l.s l.list)
+invariant-loop-j l = clear_from (location_of l.v.line) l.v.line.count l.m l.v.line.bytes.now l.list.at l.list.count l.j ≡ all_clear (location_of l.v.line) l.v.line.count l.m (held l.v.line.bytes.now l.list)

@@ -3,7 +3,7 @@ use native.Mathlib.Omega.{arith}
 use mathlib.Core.Path.{sym, ◌∙◌}
 use borrow.Author.Tests.{eqb-true}
 use Rattle.image_walk.proofs.Root.{layout_some, root_laid}
-use Rattle.image_conflicts.proofs.Root.{empty_free, root_found, root_within, not_in_line, root_ready, root_asked, root_says}
+use Rattle.image_conflicts.proofs.Root.{empty_free, root_found, root_within, not_in_line, root_lined, root_asked, root_says}
 use Rattle.image_conflicts.proofs.conflict_free.Goals as goal
 
 pub is_empty-requires : goal.is_empty-requires
@@ -18,12 +18,21 @@ node_at-root-requires c =
     let h = root_found a.s.now c.type_inv.s (omega arith) c.requires.0 _ c.is_empty.ensures c.if-is_empty.false in
     root_laid a.s.now h
 
-pub in_line-requires : goal.in_line-requires
-in_line-requires c =
+pub invariant_of-line : goal.invariant_of-line
+invariant_of-line c =
     let a = c.args in
     let h = root_found a.s.now c.type_inv.s (omega arith) c.requires.0 _ c.is_empty.ensures c.if-is_empty.false in
     let n = c.node_at-root in
-    root_within a.s.now h c.requires.1 n.result n.ensures
+    record { within = root_within a.s.now h c.requires.1 n.result n.ensures }
+
+pub invariant_of-children_due : goal.invariant_of-children_due
+invariant_of-children_due c =
+    let a = c.args in
+    let h = root_found a.s.now c.type_inv.s (omega arith) c.requires.0 _ c.is_empty.ensures c.if-is_empty.false in
+    let n = c.node_at-root in
+    let l = c.in_line in
+    let z = c.if-in_line.true in
+    record { lined = root_lined a.s.now h c.requires.1 n.result n.ensures l.result l.ensures z }
 
 pub children_due-requires : goal.children_due-requires
 children_due-requires c =
@@ -32,7 +41,7 @@ children_due-requires c =
     let n = c.node_at-root in
     let l = c.in_line in
     let z = c.if-in_line.true in
-    (root_ready a.s.now h c.requires.1 n.result n.ensures l.result l.ensures z, root_asked a.s.now h c.requires.1 n.result n.ensures l.result l.ensures z)
+    root_asked a.s.now h c.requires.1 n.result n.ensures l.result l.ensures z
 
 pub returns-then-in_line : goal.returns-then-in_line
 returns-then-in_line c =
@@ -41,7 +50,7 @@ returns-then-in_line c =
     let n = c.node_at-root in
     let l = c.in_line in
     let d = c.children_due in
-    c.is_some.ensures ∙ root_says a.s.now h c.requires.1 n.result n.ensures l.result l.ensures c.if-in_line.true d.result d.ensures
+    c.is_some.ensures ∙ root_says a.s.now h c.requires.1 n.result n.ensures l.result l.ensures c.if-in_line.true d.result d.ensures.says
 
 pub returns-else-in_line : goal.returns-else-in_line
 returns-else-in_line c =

@@ -7,13 +7,11 @@ use Rattle.image_conflicts.proofs.is_clear.Goals as goal
 pub lives_among-requires : goal.lives_among-requires
 lives_among-requires c =
     let a = c.args in
-    let p = c.requires in
-    (p.0.within, first_within a.v.count (location_of a.s.now a.v) p.0.lined _ _ _ c.first_from-g.ensures, p.0.lined)
+    first_within a.v.line.count (location_of a.v.line) a.v.lined _ _ _ c.first_from-g.ensures
 
 pub returns : goal.returns
 returns c =
     let a = c.args in
-    let p = c.requires in
     let g = c.first_from-g in
     let r = c.lives_among in
-    inside_told a.v.count (location_of a.s.now a.v) p.0.lined a.m (plain a.x) g.result g.ensures r.result r.ensures
+    inside_told a.v.line.count (location_of a.v.line) a.v.lined a.m (plain a.x) g.result g.ensures r.result r.ensures
