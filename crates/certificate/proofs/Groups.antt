@@ -70,7 +70,15 @@ module _ (n : ℕ) (at : ℕ → Location) (s : Lined n at) (end : ℕ → ℕ) 
         sooner = λ k x c d u v. w.sooner k x c d (omega arith) v;
       }
 
-      module _ (r : ℕ) (c : CreatedBefore at q h (at j).destroyed r) where
+      -- x is read at j, and r is the first that is not created before it ends
+      module _ {x : Location} (read : x ≡ at j) {r : ℕ} (created : CreatedBefore at q h x.destroyed r) where
+        c : CreatedBefore at q h (at j).destroyed r
+        c = subst (λ (y : Location). CreatedBefore at q h y.destroyed r) read created
+
+        -- whether the last before it lives on when x is created
+        lives : {o : Bool} → o ≡ (ltb g r && ltb x.created (at (r - 1)).destroyed) → (ltb g r && ltb (at j).created (at (r - 1)).destroyed) ≡ o
+        lives e = ap (λ (y : Location). ltb g r && ltb y.created (at (r - 1)).destroyed) (sym read) ∙ sym e
+
         earlier : (k : ℕ) → g ≤ k → k < r → (at k).created < (at j).destroyed
         earlier k d u = go (lt_or_le k q)
           where
@@ -79,14 +87,14 @@ module _ (n : ℕ) (at : ℕ → Location) (s : Lined n at) (end : ℕ → ℕ) 
             go (inr t) = c.before k t u
 
         -- the last that is created before it ends has ended when it is created, or there is none
-        pub walk_on : (ltb g r && ltb (at j).created (at (r - 1)).destroyed) ≡ false → Walked at end i e g h (j + 1) r
-        walk_on t = record {
+        pub walk_on : {o : Bool} → o ≡ (ltb g r && ltb x.created (at (r - 1)).destroyed) → o ≡ false → Walked at end i e g h (j + 1) r
+        walk_on f z = record {
           from = omega (arith, w.from);
           upto_end = omega arith;
           low = omega (arith, w.low, c.low);
           high = c.high;
           none = further (λ k d u _ m. apart k d u m (lt_or_le k r));
-          sooner = λ k x d u y z. omega (arith, earlier k d u, ends x y z);
+          sooner = λ k y d u v w. omega (arith, earlier k d u, ends y v w);
         }
           where
             ends : (x : ℕ) → j + 1 ≤ x → x < e → (at j).destroyed ≤ (at x).destroyed
@@ -96,16 +104,16 @@ module _ (n : ℕ) (at : ℕ → Location) (s : Lined n at) (end : ℕ → ℕ) 
             apart k d u m (inl y) =
                 let p : g < r = omega arith in
                 let o : (at k).destroyed ≤ (at (r - 1)).destroyed = (upto n at s k (r - 1) (omega arith) (omega (arith, c.high, b.high))).by_destroyed (b.same k d u ∙ sym (b.same (r - 1) (omega arith) (omega (arith, c.high)))) in
-                not_both t (and_true (lt-ltb g r p) (lt-ltb (at j).created (at (r - 1)).destroyed (omega (arith, o, m.left))))
+                not_both (lives f ∙ z) (and_true (lt-ltb g r p) (lt-ltb (at j).created (at (r - 1)).destroyed (omega (arith, o, m.left))))
             apart k d u m (inr y) =
                 let p : r < h = omega arith in
                 let o : (at r).created ≤ (at k).created = (upto n at s r k y (omega (arith, b.high))).by_created (b.same r (omega (arith, w.low, c.low)) p ∙ sym (b.same k d u)) in
                 omega (arith, o, c.after p, m.right)
 
         -- it hasn't
-        pub walk_met : (at g).address < end j → (ltb g r && ltb (at j).created (at (r - 1)).destroyed) ≡ true → Meeting at end i e g h
-        walk_met t u =
-            let p = both (ltb g r) (ltb (at j).created (at (r - 1)).destroyed) u in
+        pub walk_met : (at g).address < end j → {o : Bool} → o ≡ (ltb g r && ltb x.created (at (r - 1)).destroyed) → o ≡ true → Meeting at end i e g h
+        walk_met t f z =
+            let p = both (ltb g r) (ltb (at j).created (at (r - 1)).destroyed) (lives f ∙ z) in
             let y : g < r = ltb-true g r p.0 in
             let m : Together (at j) (at (r - 1)) = record { left = ltb-true (at j).created (at (r - 1)).destroyed p.1; right = earlier (r - 1) (omega arith) (omega arith) } in
             record {

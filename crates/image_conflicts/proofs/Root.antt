@@ -42,7 +42,7 @@ root_found s f l r b e z = root_of s (λ i. omega (arith, f i)) l r (eqb-false _
 pub empty_free : (s : List ℕ) → get_or s 0 0 ≡ 0 → true ≡ free (trie_pieces (trie_in s))
 empty_free s z = ap (λ (t : Trie). free (trie_pieces t)) (sym (trie_empty s z))
 
-module _ (s : List ℕ) (h : RootHere s) (e : index_rule (trie_in s) ≡ true) (p : Parts) (g : p ≡ parts_at s 0) where
+module _ (s : List ℕ) (h : RootHere s) (e : index_rule (trie_in s) ≡ true) {p : Parts} (g : p ≡ parts_at s 0) where
   rule : NodeRule h.node
   rule = (rule_test_is h.node (λ path x. short_path path 16 h.node x.node h.here.short x.there) h.here.apart).0 (subst (λ (t : Trie). index_rule t ≡ true) h.trie e)
 
@@ -66,7 +66,10 @@ module _ (s : List ℕ) (h : RootHere s) (e : index_rule (trie_in s) ≡ true) (
   by_test : conflict_free (location_by Row s p.suffixes.at) p.suffixes.count h.node.children ≡ free (trie_pieces (trie_in s))
   by_test = ap (λ (k : ℕ). conflict_free (location_by Row s p.suffixes.at) k h.node.children) many ∙ conflict_free_is h.node rule (location_by Row s p.suffixes.at) num ∙ ap (λ (t : Trie). free (trie_pieces t)) (sym h.trie)
 
-  module _ (r : Bool) (f : r ≡ in_line (location_by Row s p.suffixes.at) (p.suffixes.count - 1)) where
+  pub root_asked : ChildrenAsked s p 1 16
+  root_asked = record { node = h.node; is = root_is; ending = all_ending h.node rule; levels = omega arith }
+
+  module _ {r : Bool} (f : r ≡ in_line (location_by Row s p.suffixes.at) (p.suffixes.count - 1)) where
     pub not_in_line : r ≡ false → false ≡ free (trie_pieces (trie_in s))
     unfolding conflict_free
     not_in_line z = ap (λ (o : Bool). o && is_some (forest_due (location_by Row s p.suffixes.at) p.suffixes.count 1 h.node.children p.suffixes.count)) (sym z ∙ f) ∙ by_test
@@ -77,12 +80,9 @@ module _ (s : List ℕ) (h : RootHere s) (e : index_rule (trie_in s) ≡ true) (
           ((in_line_is (length h.node.lists.suffixes) (location_by Row s p.suffixes.at) (all_alive h.node rule (location_by Row s p.suffixes.at) num)).0
           (subst (λ (k : ℕ). in_line (location_by Row s p.suffixes.at) (k - 1) ≡ true) many (sym f ∙ z)))
 
-      pub root_asked : ChildrenAsked s p 1 16
-      root_asked = record { node = h.node; is = root_is; ending = all_ending h.node rule; levels = omega arith }
-
-      pub root_says : (d : Option ℕ) → ((x : Node) → PartsOf s 16 p x → d ≡ forest_due (location_by Row s p.suffixes.at) p.suffixes.count 1 x.children p.suffixes.count) → is_some d ≡ free (trie_pieces (trie_in s))
+      pub root_says : {d : Option ℕ} → ((x : Node) → PartsOf s 16 p x → d ≡ forest_due (location_by Row s p.suffixes.at) p.suffixes.count 1 x.children p.suffixes.count) → is_some d ≡ free (trie_pieces (trie_in s))
       unfolding conflict_free
-      root_says d c =
+      root_says c =
           ap is_some (c h.node root_is)
           ∙ ap (λ (o : Bool). o && is_some (forest_due (location_by Row s p.suffixes.at) p.suffixes.count 1 h.node.children p.suffixes.count)) (sym z ∙ f)
           ∙ by_test

@@ -20,42 +20,30 @@ node_at-root-requires c =
 
 pub invariant_of-line : goal.invariant_of-line
 invariant_of-line c =
-    let a = c.args in
-    let h = root_found a.s.now c.type_inv.s (omega arith) c.requires.0 _ c.is_empty.ensures c.if-is_empty.false in
-    let n = c.node_at-root in
-    record { within = root_within a.s.now h c.requires.1 n.result n.ensures }
+    let s = c.args.s.now in
+    let h = root_found s c.type_inv.s (omega arith) c.requires.0 _ c.is_empty.ensures c.if-is_empty.false in
+    record { within = root_within s h c.requires.1 c.node_at-root.ensures }
 
 pub invariant_of-children_due : goal.invariant_of-children_due
 invariant_of-children_due c =
-    let a = c.args in
-    let h = root_found a.s.now c.type_inv.s (omega arith) c.requires.0 _ c.is_empty.ensures c.if-is_empty.false in
-    let n = c.node_at-root in
-    let l = c.in_line in
-    let z = c.if-in_line.true in
-    record { lined = root_lined a.s.now h c.requires.1 n.result n.ensures l.result l.ensures z }
+    let s = c.args.s.now in
+    let h = root_found s c.type_inv.s (omega arith) c.requires.0 _ c.is_empty.ensures c.if-is_empty.false in
+    record { lined = root_lined s h c.requires.1 c.node_at-root.ensures c.in_line.ensures c.if-in_line.true }
 
 pub children_due-requires : goal.children_due-requires
 children_due-requires c =
-    let a = c.args in
-    let h = root_found a.s.now c.type_inv.s (omega arith) c.requires.0 _ c.is_empty.ensures c.if-is_empty.false in
-    let n = c.node_at-root in
-    let l = c.in_line in
-    let z = c.if-in_line.true in
-    root_asked a.s.now h c.requires.1 n.result n.ensures l.result l.ensures z
+    let s = c.args.s.now in
+    let h = root_found s c.type_inv.s (omega arith) c.requires.0 _ c.is_empty.ensures c.if-is_empty.false in
+    root_asked s h c.requires.1 c.node_at-root.ensures
 
 pub returns-then-in_line : goal.returns-then-in_line
 returns-then-in_line c =
-    let a = c.args in
-    let h = root_found a.s.now c.type_inv.s (omega arith) c.requires.0 _ c.is_empty.ensures c.if-is_empty.false in
-    let n = c.node_at-root in
-    let l = c.in_line in
-    let d = c.children_due in
-    c.is_some.ensures ∙ root_says a.s.now h c.requires.1 n.result n.ensures l.result l.ensures c.if-in_line.true d.result d.ensures.says
+    let s = c.args.s.now in
+    let h = root_found s c.type_inv.s (omega arith) c.requires.0 _ c.is_empty.ensures c.if-is_empty.false in
+    c.is_some.ensures ∙ root_says s h c.requires.1 c.node_at-root.ensures c.in_line.ensures c.if-in_line.true c.children_due.ensures.says
 
 pub returns-else-in_line : goal.returns-else-in_line
 returns-else-in_line c =
-    let a = c.args in
-    let h = root_found a.s.now c.type_inv.s (omega arith) c.requires.0 _ c.is_empty.ensures c.if-is_empty.false in
-    let n = c.node_at-root in
-    let l = c.in_line in
-    c.if-in_line.false ∙ not_in_line a.s.now h c.requires.1 n.result n.ensures l.result l.ensures c.if-in_line.false
+    let s = c.args.s.now in
+    let h = root_found s c.type_inv.s (omega arith) c.requires.0 _ c.is_empty.ensures c.if-is_empty.false in
+    c.if-in_line.false ∙ not_in_line s h c.requires.1 c.node_at-root.ensures c.in_line.ensures c.if-in_line.false
