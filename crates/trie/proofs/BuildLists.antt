@@ -15,9 +15,9 @@ use mathlib.Core.List.Memᴰ.{not-nil}
 use mathlib.Core.List.Memᴰ.{tail as later}
 use mathlib.Core.List.{List, [], ◌∷◌, ◌++◌, append-nil, Memᴰ as Mem}
 use lib.ListN.{length, length-append}
+use Rattle.std.proofs.lemmas.Bool.{cases_lt}
 use Rattle.definitions.specs.Location.{Location}
 use Rattle.definitions.proofs.Order.{mem_normal, normal_mem, sorted_normal}
-use Rattle.definitions.proofs.Views.{lt_or_le}
 use Rattle.trie.specs.Trie.{Lists, lists_or_none, lists_at}
 use Rattle.trie.specs.Rule.{ListsSorted}
 use Rattle.trie.specs.Build.{Entry, in_prefixes, in_chunks, in_suffixes, gather, lists_of, build}
@@ -115,7 +115,7 @@ module _ (d : ℕ) (es : List Entry) (within : Within d es) where
   too_deep u h = none_left (down u es) (λ x k. omega (arith, within (put u x) (down_mem u es k), length-append u x.path))
 
   pub lists_at_all : (u : List ℕ) → lists_at (build d es) u ≡ lists_of (down u es)
-  lists_at_all u = go (lt_or_le d (length u))
+  lists_at_all u = go (cases_lt d (length u))
     where
       go : (d < length u) ⊎ (length u ≤ d) → lists_at (build d es) u ≡ lists_of (down u es)
       go (inl h) = ap lists_or_none (node_at_deep d u es h) ∙ ap lists_of (sym (too_deep u h))

@@ -19,8 +19,9 @@ use mathlib.Core.Option.{Option, none, some}
 use lib.ListN.{length}
 use lib.Dec.{eqb}
 use borrow.Author.Tests.{eq-eqb}
+use Rattle.std.proofs.lemmas.Bool.{cases_lt}
 use Rattle.definitions.specs.Location.{Location}
-use Rattle.definitions.proofs.Views.{Eq, eq, lt_or_le}
+use Rattle.definitions.proofs.Views.{Eq, eq}
 use Rattle.trie.specs.Trie.{Node, child, walk, node_at, IsNode, lists_or_none, lists_at}
 use Rattle.trie.specs.Build.{Entry, lists_of, behind_byte, behind, arrived, next_byte, arrivals, kept_order, grow, build}
 use Rattle.trie.proofs.Walk.{walk_none}
@@ -233,7 +234,7 @@ none_not_some : {m : Node} → none ≡ some m → ⊥
 none_not_some {m} e = let z : ◌≡◌ {A = ℕ} 0 1 = cc in omega arith
 
 pub node_short : (d : ℕ) (u : List ℕ) (es : List Entry) → IsNode (build d es) u → length u ≤ d
-node_short d u es n = go (lt_or_le d (length u))
+node_short d u es n = go (cases_lt d (length u))
   where
     go : (d < length u) ⊎ (length u ≤ d) → length u ≤ d
     go (inl h) = absurd (none_not_some (sym (node_at_deep d u es h) ∙ n.there))

@@ -11,22 +11,11 @@ use mathlib.Core.List.Memᴰ.{tail as later}
 use mathlib.Core.List.{List, [], ◌∷◌, Memᴰ as Mem}
 use lib.Dec.{leb, compare_is_eq}
 use borrow.Author.Tests.{leb-true, le-leb}
+use Rattle.std.proofs.lemmas.Bool.{or_cases, or_left, or_right}
 use Rattle.definitions.specs.Location.{Location, moved, order, is_lt, Sorted, Less}
 use Rattle.definitions.proofs.Tests.{both, and_true}
 use Rattle.definitions.proofs.Order.{less_asym, less_trans, Cmp, cmp, location_path}
 use Rattle.trie.specs.Test.{is_ascending, ascending_from, and_list, moved_back, begins, step_over, any_begins, step_over_all, all_ended, is_union}
-
-either : (a b : Bool) → (a || b) ≡ true → (a ≡ true) ⊎ (b ≡ true)
-either true b e = inl refl
-either false b e = inr e
-
-or_left : (a b : Bool) → a ≡ true → (a || b) ≡ true
-or_left true b e = refl
-or_left false b e = absurd (let z : ◌≡◌ {A = ℕ} 0 1 = cc in omega arith)
-
-or_right : (a b : Bool) → b ≡ true → (a || b) ≡ true
-or_right true b e = refl
-or_right false b e = e
 
 -- ── equal locations ──
 
@@ -136,7 +125,7 @@ mem_over_all {m} key (ls ∷ lss) i = go (mem_over_all key lss) (in_cases i)
 
 begins_mem : (key : Location) (lss : List (List Location)) → any_begins key lss ≡ true → InLists lss key
 begins_mem key [] e = absurd (let z : ◌≡◌ {A = ℕ} 0 1 = cc in omega arith)
-begins_mem key (ls ∷ lss) e = go ls (begins_mem key lss) (either (begins key ls) (any_begins key lss) e)
+begins_mem key (ls ∷ lss) e = go ls (begins_mem key lss) (or_cases (begins key ls) (any_begins key lss) e)
   where
     go : (ks : List Location) → (any_begins key lss ≡ true → InLists lss key) → (begins key ks ≡ true) ⊎ (any_begins key lss ≡ true) → InLists (ks ∷ lss) key
     go [] ih (inl f) = absurd (let z : ◌≡◌ {A = ℕ} 0 1 = cc in omega arith)
