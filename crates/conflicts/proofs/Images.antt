@@ -7,11 +7,11 @@ use mathlib.Core.Bool.{true, false}
 use mathlib.Core.Logic.{◌⊎◌, inl, inr}
 use mathlib.Core.List.{List, Memᴰ as Mem}
 use lib.ListN.{length}
+use Rattle.std.proofs.lemmas.Bool.{cases_lt}
 use Rattle.definitions.specs.Location.{Location, meets, Less}
 use Rattle.definitions.specs.Blocks.{Piece}
 use Rattle.definitions.specs.Conflicts.{end, shares, conflicting, free}
 use Rattle.definitions.proofs.Order.{less_asym}
-use Rattle.definitions.proofs.Views.{lt_or_le}
 use Rattle.definitions.proofs.Tests.{is_false, not_both}
 use Rattle.definitions.proofs.Sharing.{facts_share, shares_sym}
 use Rattle.conflicts.specs.Lined.{Ahead, Lined}
@@ -80,7 +80,7 @@ module _ (ps : List Piece) (ls : List Location) (w : Locations ps ls) where
 
   module _ (f : free ps ≡ true) where
     apart : (i j : ℕ) → i < length ps → j < length ps → (i ≡ j → ⊥) → shares (nth ps i) (nth ps j) ≡ false
-    apart i j h k n = go (lt_or_le i j)
+    apart i j h k n = go (cases_lt i j)
       where
         go : (i < j) ⊎ (j ≤ i) → shares (nth ps i) (nth ps j) ≡ false
         go (inl l) = (free_numbers ps).0 f i j l k
@@ -126,7 +126,7 @@ module _ (ps : List Piece) (ls : List Location) (w : Locations ps ls) where
         lives i h = subst (λ (l : Location). l.created < l.destroyed) (at_is i h) (alive (named.pick i) (picked i h))
 
         ahead : (i j : ℕ) → i < j → j < length ls → Ahead (loc ls i) (loc ls j)
-        ahead i j h k = record { by_address = l.by_address; by_life = λ e. life e (lt_or_le (loc ls j).created (loc ls i).destroyed) }
+        ahead i j h k = record { by_address = l.by_address; by_life = λ e. life e (cases_lt (loc ls j).created (loc ls i).destroyed) }
           where
             l : Less (loc ls i) (loc ls j)
             l = sorted_at Less ls w.sorted i j h k
@@ -172,11 +172,11 @@ module _ (ps : List Piece) (ls : List Location) (w : Locations ps ls) where
     numbered = (lined_free (length ls) (λ i. nth ps (named.pick i)) line (λ i h. some (named.pick i) (picked i h))).1 insides
 
     none : (i j : ℕ) → i < j → Stands (length ls) named.pick i → Stands (length ls) named.pick j → conflicting (nth ps i) (nth ps j) ≡ false
-    none i j h x y = subst (λ (k : ℕ). conflicting (nth ps k) (nth ps j) ≡ false) x.is (subst (λ (k : ℕ). conflicting (nth ps (named.pick x.index)) (nth ps k) ≡ false) y.is (go (lt_or_le x.index y.index)))
+    none i j h x y = subst (λ (k : ℕ). conflicting (nth ps k) (nth ps j) ≡ false) x.is (subst (λ (k : ℕ). conflicting (nth ps (named.pick x.index)) (nth ps k) ≡ false) y.is (go (cases_lt x.index y.index)))
       where
         go : (x.index < y.index) ⊎ (y.index ≤ x.index) → conflicting (nth ps (named.pick x.index)) (nth ps (named.pick y.index)) ≡ false
         go (inl l) = numbered x.index y.index l y.inside
-        go (inr l) = is_false (conflicting (nth ps (named.pick x.index)) (nth ps (named.pick y.index))) (λ e. not_both (numbered y.index x.index (other (lt_or_le y.index x.index)) x.inside) (shares_sym (nth ps (named.pick x.index)) (nth ps (named.pick y.index)) e))
+        go (inr l) = is_false (conflicting (nth ps (named.pick x.index)) (nth ps (named.pick y.index))) (λ e. not_both (numbered y.index x.index (other (cases_lt y.index x.index)) x.inside) (shares_sym (nth ps (named.pick x.index)) (nth ps (named.pick y.index)) e))
           where
             other : (y.index < x.index) ⊎ (x.index ≤ y.index) → y.index < x.index
             other (inl o) = o

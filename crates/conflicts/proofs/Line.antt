@@ -7,8 +7,9 @@ use mathlib.Core.Bool.{Bool, true, false, ◌&&◌, ◌||◌, cond}
 use mathlib.Core.Logic.{◌⊎◌, inl, inr, ◌↔◌}
 use lib.Dec.{ltb, leb, eqb}
 use borrow.Author.Tests.{ltb-true, lt-ltb}
+use Rattle.std.proofs.lemmas.Bool.{cases_lt}
 use Rattle.definitions.specs.Location.{Location, meets}
-use Rattle.definitions.proofs.Views.{Eq, eq, Lt, lt, Le, le, lt_or_le}
+use Rattle.definitions.proofs.Views.{Eq, eq, Lt, lt, Le, le}
 use Rattle.definitions.proofs.Tests.{both, and_true, either, or_left, or_right, not_both}
 use Rattle.conflicts.specs.Lined.{is_ahead, in_line, earlier, first_from, lives_among, Ahead, Lined}
 use Rattle.conflicts.specs.Promises.{InLineIs, FirstFrom, FirstFromIs, FirstFromOne, LivesAmong, LivesAmongIs}
@@ -37,7 +38,7 @@ ahead_on l m o h a b = record { by_address = omega arith; by_life = λ e. life e
 in_line_step : (at : ℕ → Location) (k : ℕ) → in_line at k ≡ true → (i : ℕ) → i < k → Ahead (at i) (at (suc i))
 unfolding in_line
 in_line_step at zero e i h = absurd (not-suc-le-zero h)
-in_line_step at (suc k) e i h = go (both (in_line at k) (is_ahead (at k) (at (suc k))) e) (in_line_step at k) (lt_or_le i k)
+in_line_step at (suc k) e i h = go (both (in_line at k) (is_ahead (at k) (at (suc k))) e) (in_line_step at k) (cases_lt i k)
   where
     go : (in_line at k ≡ true) × (is_ahead (at k) (at (suc k)) ≡ true) → (in_line at k ≡ true → (x : ℕ) → x < k → Ahead (at x) (at (suc x))) → (i < k) ⊎ (k ≤ i) → Ahead (at i) (at (suc i))
     go b ih (inl l) = ih b.0 i l
@@ -51,7 +52,7 @@ in_line_true at (suc k) f = and_true (in_line_true at k (λ i h. f i (omega arit
 -- each ahead of the next, and alive: each is ahead of all behind it
 ahead_far : (n : ℕ) (at : ℕ → Location) → ((i : ℕ) → i < n → (at i).created < (at i).destroyed) → ((i : ℕ) → suc i < n → Ahead (at i) (at (suc i))) → (i j : ℕ) → i < j → j < n → Ahead (at i) (at j)
 ahead_far n at a f i zero h k = absurd (not-suc-le-zero h)
-ahead_far n at a f i (suc j) h k = go (ahead_far n at a f i j) (lt_or_le i j)
+ahead_far n at a f i (suc j) h k = go (ahead_far n at a f i j) (cases_lt i j)
   where
     go : (i < j → j < n → Ahead (at i) (at j)) → (i < j) ⊎ (j ≤ i) → Ahead (at i) (at (suc j))
     go ih (inl l) = ahead_on (at i) (at j) (at (suc j)) (a j (omega arith)) (ih l (omega arith)) (f j k)
@@ -70,7 +71,7 @@ pub record Upto (l m : Location) : Type 0 where
   pub by_destroyed : l.address ≡ m.address → l.destroyed ≤ m.destroyed
 
 pub upto : (n : ℕ) (at : ℕ → Location) → Lined n at → (i j : ℕ) → i ≤ j → j < n → Upto (at i) (at j)
-upto n at s i j h k = go (lt_or_le i j)
+upto n at s i j h k = go (cases_lt i j)
   where
     far : Ahead (at i) (at j) → Upto (at i) (at j)
     far a = record {
@@ -131,7 +132,7 @@ first_is n at s b c (suc k) i h = go (earlier (at i) b c) refl (first_is n at s 
     before e f j x y (inr l) = let z : i ≡ j = omega arith in subst (λ (u : ℕ). earlier (at u) b c ≡ true) z e
 
     go : (o : Bool) → earlier (at i) b c ≡ o → FirstFrom n at (suc i) b c (first_from at k (suc i) b c) → FirstFrom n at i b c (cond o (first_from at k (suc i) b c) i)
-    go true e f = record { low = omega (arith, f.low); high = f.high; before = λ j x y. before e f j x y (lt_or_le i j); after = f.after }
+    go true e f = record { low = omega (arith, f.low); high = f.high; before = λ j x y. before e f j x y (cases_lt i j); after = f.after }
     go false e f = record { low = omega arith; high = omega arith; before = λ j x y. absurd (omega arith); after = λ j x y. later_not n at s b c i j x y e }
 
 pub first_from_is : FirstFromIs
@@ -140,7 +141,7 @@ first_from_is n at s i b c h = first_is n at s b c (n - i) i (omega arith)
 first_one : (n : ℕ) (at : ℕ → Location) (b c q k i : ℕ) → n ≡ i + k → FirstFrom n at i b c q → q ≡ first_from at k i b c
 unfolding first_from
 first_one n at b c q zero i h f = omega (arith, f.low, f.high)
-first_one n at b c q (suc k) i h f = go (earlier (at i) b c) refl (lt_or_le i q) (first_one n at b c q k (suc i) (omega arith))
+first_one n at b c q (suc k) i h f = go (earlier (at i) b c) refl (cases_lt i q) (first_one n at b c q k (suc i) (omega arith))
   where
     go : (o : Bool) → earlier (at i) b c ≡ o → (i < q) ⊎ (q ≤ i) → (FirstFrom n at (suc i) b c q → q ≡ first_from at k (suc i) b c) → q ≡ cond o (first_from at k (suc i) b c) i
     go true e (inl l) ih = ih (record { low = l; high = f.high; before = λ j x y. f.before j (omega arith) y; after = f.after })
@@ -171,7 +172,7 @@ among_is n at x end (suc k) i h = go (among_is n at x end k (suc i) (omega arith
         or_left (lives_among at k (suc i) x end) (subst (λ (u : ℕ). (ltb (at u).address end && meets x (at u)) ≡ true) z (and_true (lt-ltb (at w.index).address end w.below) w.is))
 
     go : (lives_among at k (suc i) x end ≡ true ↔ LivesAmong n at (suc i) x end) → ((ltb (at i).address end && meets x (at i)) || lives_among at k (suc i) x end) ≡ true ↔ LivesAmong n at i x end
-    go ih = ((λ e. to ih (either (ltb (at i).address end && meets x (at i)) (lives_among at k (suc i) x end) e)), λ w. fro ih w (lt_or_le i w.index))
+    go ih = ((λ e. to ih (either (ltb (at i).address end && meets x (at i)) (lives_among at k (suc i) x end) e)), λ w. fro ih w (cases_lt i w.index))
 
 pub lives_among_is : LivesAmongIs
 lives_among_is n at i x end h = among_is n at x end (n - i) i (omega arith)

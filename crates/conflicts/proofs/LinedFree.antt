@@ -5,9 +5,9 @@ use mathlib.Core.Path.{◌≡◌, ap}
 use mathlib.Core.Bool.{true}
 use mathlib.Core.Logic.{◌⊎◌, inl, inr}
 use lib.ListN.{length}
+use Rattle.std.proofs.lemmas.Bool.{cases_lt}
 use Rattle.definitions.specs.Blocks.{Piece}
 use Rattle.definitions.specs.Conflicts.{end, shares}
-use Rattle.definitions.proofs.Views.{lt_or_le}
 use Rattle.definitions.proofs.Tests.{is_false, not_both}
 use Rattle.definitions.proofs.Sharing.{Sharing, shares_facts, facts_share}
 use Rattle.conflicts.specs.Lined.{Lined}
@@ -30,11 +30,11 @@ module _ (n : ℕ) (e : ℕ → Piece) (s : Lined n (λ i. (e i).at)) (some : (i
 
   -- what is at a lesser address has the lesser number
   number : (x y : ℕ) → x < n → (e x).at.address < (e y).at.address → x < y
-  number x y h l = go (lt_or_le x y)
+  number x y h l = go (cases_lt x y)
     where
       go : (x < y) ⊎ (y ≤ x) → x < y
       go (inl k) = k
-      go (inr k) = absurd (on (lt_or_le y x))
+      go (inr k) = absurd (on (cases_lt y x))
         where
           on : (y < x) ⊎ (x ≤ y) → ⊥
           on (inl o) = omega (arith, (s.ahead y x o h).by_address)
@@ -44,7 +44,7 @@ module _ (n : ℕ) (e : ℕ → Piece) (s : Lined n (λ i. (e i).at)) (some : (i
   inside g x y h k l m = meets_not (e x).at (e y).at (λ t. not_both (g x y (number x y h l) k) (share x y h k (omega arith) m t))
 
   outside : NoneInside n e → Numbered n e
-  outside c i j h k = is_false (shares (e i) (e j)) (λ f. go (shares_facts (e i) (e j) f) (lt_or_le (e i).at.address (e j).at.address))
+  outside c i j h k = is_false (shares (e i) (e j)) (λ f. go (shares_facts (e i) (e j) f) (cases_lt (e i).at.address (e j).at.address))
     where
       go : Sharing (e i) (e j) → ((e i).at.address < (e j).at.address) ⊎ ((e j).at.address ≤ (e i).at.address) → ⊥
       go f (inl l) = not_meets (e i).at (e j).at (c i j (omega arith) k l f.across') (record { left = f.before; right = f.before' })

@@ -10,8 +10,8 @@ use mathlib.Core.List.Memᴰ.{tail as later}
 use mathlib.Core.List.{List, [], ◌∷◌, Memᴰ as Mem}
 use lib.ListN.{length, get_or}
 use borrow.Author.Tests.{ne_eqb}
+use Rattle.std.proofs.lemmas.Bool.{cases_lt}
 use Rattle.definitions.specs.Location.{Location, Sorted}
-use Rattle.definitions.proofs.Views.{lt_or_le}
 use Rattle.conflicts.specs.Order.{nowhere, loc}
 use Rattle.definitions.proofs.Tests.{and_true, negated}
 use Rattle.conflicts.proofs.Counting.{count, but, count_but}
@@ -57,7 +57,7 @@ pub record Chosen (P : ℕ → ℕ → Type 0) (n : ℕ) : Type 0 where
   pub right : (i : ℕ) → i < n → P i (pick i)
 
 pub choose : (P : ℕ → ℕ → Type 0) (n : ℕ) → ((i : ℕ) → i < n → Choice P i) → Chosen P n
-choose P n g = record { pick = λ i. chosen {P = P} n i (g i) (lt_or_le i n); right = λ i h. go i h (lt_or_le i n) }
+choose P n g = record { pick = λ i. chosen {P = P} n i (g i) (cases_lt i n); right = λ i h. go i h (cases_lt i n) }
   where
     go : (i : ℕ) → i < n → (c : (i < n) ⊎ (n ≤ i)) → P i (chosen {P = P} n i (g i) c)
     go i h (inl k) = (g i k).right

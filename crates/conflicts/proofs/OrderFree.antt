@@ -6,9 +6,9 @@ use mathlib.Core.Bool.{true}
 use mathlib.Core.Logic.{◌⊎◌, inl, inr, ◌↔◌}
 use mathlib.Core.List.{List, Memᴰ as Mem}
 use lib.ListN.{length}
+use Rattle.std.proofs.lemmas.Bool.{cases_lt}
 use Rattle.definitions.specs.Blocks.{Piece}
 use Rattle.definitions.specs.Conflicts.{conflicting, free}
-use Rattle.definitions.proofs.Views.{lt_or_le}
 use Rattle.definitions.proofs.Tests.{is_false, not_both}
 use Rattle.definitions.proofs.Sharing.{Sharing, shares_facts, facts_share, shares_sym}
 use Rattle.definitions.proofs.Free.{Met, with_one, one_with}
@@ -59,7 +59,7 @@ abbrev in_order : List Piece → ℕ → Piece
 in_order ps i = (entry (ordered ps) i).piece
 
 numbered : (ps : List Piece) → Numbered (length ps) (nth ps) → Numbered (length (ordered ps)) (in_order ps)
-numbered ps g i j h k = is_false (conflicting (in_order ps i) (in_order ps j)) (λ e. go (turned e) (lt_or_le a b))
+numbered ps g i j h k = is_false (conflicting (in_order ps i) (in_order ps j)) (λ e. go (turned e) (cases_lt a b))
   where
     a : ℕ
     a = (entry (ordered ps) i).number
@@ -100,7 +100,7 @@ all_numbered ps g i j h k = is_false (conflicting (nth ps i) (nth ps j)) (λ e. 
     met e s =
         let x : Placed ps i = placed ps i (omega arith) (omega (arith, s.low)) in
         let y : Placed ps j = placed ps j k (omega (arith, s.low')) in
-        go e x y (lt_or_le x.index y.index)
+        go e x y (cases_lt x.index y.index)
 
 -- pieces are free of conflicts exactly if those of the order are
 pub ordered_numbers : (ps : List Piece) → free ps ≡ true ↔ Numbered (length (ordered ps)) (λ i. (entry (ordered ps) i).piece)
@@ -135,4 +135,4 @@ ordered_lined ps v e = record { ahead = ahead; alive = alive }
     })))
 
     ahead : (i j : ℕ) → i < j → j < length (ordered ps) → Ahead (in_order ps i).at (in_order ps j).at
-    ahead i j h k = record { by_address = (ordered_ascending ps i j h k).by_address; by_life = λ q. life i j h k q (lt_or_le (in_order ps j).at.created (in_order ps i).at.destroyed) }
+    ahead i j h k = record { by_address = (ordered_ascending ps i j h k).by_address; by_life = λ q. life i j h k q (cases_lt (in_order ps j).at.created (in_order ps i).at.destroyed) }

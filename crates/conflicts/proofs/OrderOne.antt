@@ -5,9 +5,9 @@ use mathlib.Core.Path.{◌≡◌, sym, ap, ◌∙◌}
 use mathlib.Core.Logic.{◌⊎◌, inl, inr}
 use mathlib.Core.List.{List}
 use lib.ListN.{length}
+use Rattle.std.proofs.lemmas.Bool.{cases_lt}
 use Rattle.definitions.specs.Location.{Location}
 use Rattle.definitions.specs.Blocks.{Piece}
-use Rattle.definitions.proofs.Views.{lt_or_le}
 use Rattle.conflicts.specs.Lined.{Ahead, Lined}
 use Rattle.conflicts.specs.Order.{Entry, ordered, nth, entry}
 use Rattle.conflicts.specs.Promises.{filled, OrderedOne}
@@ -52,7 +52,7 @@ module _ (ps : List Piece) (num : ℕ → ℕ) (inside : (i : ℕ) → i < fille
 
   -- numbers in line stand one behind the other
   grows : (i j : ℕ) → i < j → j < filled ps → at i < at j
-  grows i j h k = go (lt_or_le (at i) (at j))
+  grows i j h k = go (cases_lt (at i) (at j))
     where
       l : Location
       l = (nth ps (num i)).at
@@ -81,7 +81,7 @@ module _ (ps : List Piece) (num : ℕ → ℕ) (inside : (i : ℕ) → i < fille
 
       go : (at i < at j) ⊎ (at j ≤ at i) → at i < at j
       go (inl o) = o
-      go (inr o) = absurd (turned (lt_or_le (at j) (at i)) o)
+      go (inr o) = absurd (turned (cases_lt (at j) (at i)) o)
 
   one : (i : ℕ) → i < filled ps → (entry (ordered ps) i).number ≡ num i
   one i h =
