@@ -9,11 +9,11 @@ use mathlib.Core.List.Memᴰ.{head as here}
 use mathlib.Core.List.Memᴰ.{tail as later}
 use mathlib.Core.List.{List, [], ◌∷◌, Memᴰ as Mem}
 use lib.ListN.{length, get_or}
+use Rattle.std.proofs.lemmas.Bool.{cases_lt}
 use Rattle.definitions.specs.Location.{Location, order, is_lt, Sorted, location_at, locations_in, Less}
 use Rattle.definitions.proofs.Order.{less_trans}
 use Rattle.definitions.proofs.Locations.{length_locations, get_or_locations}
 use Rattle.halving.specs.Halving.{Parts, PointOf}
-use Rattle.definitions.proofs.Views.{lt_or_le}
 use Rattle.place_lookup.specs.Lookup.{before_count}
 use Rattle.place_lookup.proofs.Triples.{is_lt_less, less_is_lt}
 
@@ -87,7 +87,7 @@ module _ (s : List ℕ) (n at : ℕ) (l : Location) where
     pub before_point : (k : ℕ) → k ≤ n → PointOf 0 n before k → k ≡ before_count l (locations_in s n at)
     before_point k kn p =
         let a : k ≤ before_count l (locations_in s n at) = go k refl in
-        let b : before_count l (locations_in s n at) ≤ k = last (lt_or_le k n) in
+        let b : before_count l (locations_in s n at) ≤ k = last (cases_lt k n) in
         omega arith
       where
         go : (i : ℕ) → k ≡ i → k ≤ before_count l (locations_in s n at)

@@ -7,9 +7,6 @@ use Rattle.place_lookup.proofs.count_both.Goals.{then-not-is_there, else-not-is_
 pub loop-j-init : goal.loop-j-init
 loop-j-init c = (omega arith, both_start _ _ _ _ c.requires.2)
 
-pub overflow_add-count : goal.overflow_add-count
-overflow_add-count c = omega (arith, c.loop-j.invariant.0, c.requires)
-
 pub loop-j-preserved : goal.loop-j-preserved
 loop-j-preserved c =
     let turn = c.loop-j in
