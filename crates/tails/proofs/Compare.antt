@@ -9,9 +9,9 @@ use mathlib.Core.Logic.{◌⊎◌, inl, inr}
 use mathlib.Core.List.{List, ◌∷◌}
 use lib.ListN.{length, get_or, drop, get_or-eq_default}
 use lib.Seq.{get_or-drop}
+use Rattle.std.proofs.lemmas.Bool.{cases_lt}
 use Rattle.records.specs.Records.{Le}
 use Rattle.records.proofs.Order.{clash, lex_less, lex_same}
-use Rattle.definitions.proofs.Views.{lt_or_le}
 use Rattle.tails.specs.Tails.{Tail, high, mark_of}
 use Rattle.tails.specs.Runs.{Agree, SoundPath, Upto}
 use Rattle.tails.proofs.High.{agree_next, high_agree, high_le, sound_bytes, bytes_drop}
@@ -36,7 +36,7 @@ mark_le false = omega arith
 -- the first numbers decide, unless they are equal
 module _ {x y : ℕ} {xs ys : List ℕ} (h : Le (x ∷ xs) (y ∷ ys)) where
   first_le : x ≤ y
-  first_le = go (lt_or_le y x)
+  first_le = go (cases_lt y x)
     where
       go : (y < x) ⊎ (x ≤ y) → x ≤ y
       go (inl l) = clash (sym (lex_less y x ys xs l) ∙ h.le)
@@ -48,7 +48,7 @@ module _ {x y : ℕ} {xs ys : List ℕ} (h : Le (x ∷ xs) (y ∷ ys)) where
 module _ (t s : Tail) (ht : SoundPath t.entry.path) (hs : SoundPath s.entry.path) (le : Upto t s) where
   -- where the paths agree below place d, the bytes there are in order
   pub byte_upto : (d : ℕ) → Agree d t.entry.path s.entry.path → get_or t.entry.path d 0 ≤ get_or s.entry.path d 0
-  byte_upto d a = go (lt_or_le d 8) (lt_or_le d 16)
+  byte_upto d a = go (cases_lt d 8) (cases_lt d 16)
     where
       p : List ℕ
       p = t.entry.path
@@ -77,7 +77,7 @@ module _ (t s : Tail) (ht : SoundPath t.entry.path) (hs : SoundPath s.entry.path
       same b (inr l) = omega (arith, byte_upto k b, get_or-eq_default s.entry.path 0 {n = k} (omega arith))
 
       next : Agree k t.entry.path s.entry.path → Agree (suc k) t.entry.path s.entry.path
-      next b = agree_next k t.entry.path s.entry.path b (same b (lt_or_le k d))
+      next b = agree_next k t.entry.path s.entry.path b (same b (cases_lt k d))
 
   -- and then the length and the mark decide
   pub ends_upto : (d : ℕ) → Agree d t.entry.path s.entry.path → length s.entry.path ≡ d

@@ -11,7 +11,8 @@ use mathlib.Core.List.Memᴰ.{tail as later}
 use mathlib.Core.List.{List, [], ◌∷◌, Memᴰ as Mem}
 use lib.Dec.{eqb}
 use borrow.Author.Tests.{eqb-true, eq-eqb, ne_eqb}
-use Rattle.definitions.proofs.Views.{Eq, eq, lt_or_le}
+use Rattle.std.proofs.lemmas.Bool.{cases_lt}
+use Rattle.definitions.proofs.Views.{Eq, eq}
 use Rattle.trie.specs.Build.{Rising}
 use Rattle.tails.specs.Tails.{Tail}
 use Rattle.tails.specs.Groups.{byte_at, Group, into_group, groups, below, bytes_of}
@@ -78,7 +79,7 @@ module _ (d : ℕ) (t : Tail) (ss : List Tail) where
   joined g = record { byte = g.byte; first = min t.arrival g.first; tails = t ∷ g.tails }
 
   joined_of : (g : Group) → byte_at d t ≡ g.byte → GroupOf (has d g.byte) ss g → GroupOf (has d g.byte) (t ∷ ss) (joined g)
-  joined_of g e k = go (lt_or_le g.first t.arrival)
+  joined_of g e k = go (cases_lt g.first t.arrival)
     where
       all : t ∷ g.tails ≡ keep (has d g.byte) (t ∷ ss)
       all = rw (eq-eqb (byte_at d t) g.byte e) (ap (λ (x : List Tail). t ∷ x) k.tails)

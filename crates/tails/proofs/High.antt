@@ -8,10 +8,10 @@ use mathlib.Core.Logic.{◌⊎◌, inl, inr}
 use mathlib.Core.List.{List, [], ◌∷◌}
 use lib.ListN.{length, get_or, drop, get_or-eq_default}
 use lib.Seq.{get_or-drop}
+use Rattle.std.proofs.lemmas.Bool.{cases_lt}
 use Rattle.words.proofs.Laws.{top}
 use Rattle.records.proofs.Bytes.{Bytes}
 use Rattle.definitions.proofs.Order.{mem_get_or}
-use Rattle.definitions.proofs.Views.{lt_or_le}
 use Rattle.tails.specs.Tails.{high}
 use Rattle.tails.specs.Runs.{Agree, SoundPath}
 
@@ -65,7 +65,7 @@ high_agree (suc n) xs ys h =
 
 -- a lower digit never makes up for a higher one
 digit_le : (a b t r q : ℕ) → r < t → q < t → a * t + r ≤ b * t + q → a ≤ b
-digit_le a b t r q hr hq h = go (lt_or_le b a)
+digit_le a b t r q hr hq h = go (cases_lt b a)
   where
     go : (b < a) ⊎ (a ≤ b) → a ≤ b
     go (inl l) = absurd (omega (arith, mul-le-mul_right t l, suc-mul b t))
@@ -83,7 +83,7 @@ high_le (suc n) (suc d) xs ys hx hy h l a =
 
 -- one place more
 pub agree_next : (d : ℕ) (xs ys : List ℕ) → Agree d xs ys → get_or xs d 0 ≡ get_or ys d 0 → Agree (suc d) xs ys
-agree_next d xs ys a e k l = go (lt_or_le k d)
+agree_next d xs ys a e k l = go (cases_lt k d)
   where
     go : (k < d) ⊎ (d ≤ k) → get_or xs k 0 ≡ get_or ys k 0
     go (inl h) = a k h
@@ -148,7 +148,7 @@ high_pow bs h k l = ap (λ (t : ℕ). high 8 bs 0 / t % 256) (sym (top_pow (7 - 
 -- ── the two numbers of a path ──
 
 pub sound_bytes : (path : List ℕ) → SoundPath path → Bytes path
-sound_bytes path s k = go (lt_or_le k (length path))
+sound_bytes path s k = go (cases_lt k (length path))
   where
     go : (k < length path) ⊎ (length path ≤ k) → get_or path k 0 < 256
     go (inl h) = s.bytes (get_or path k 0) (mem_get_or path k h)
