@@ -9,9 +9,10 @@ use mathlib.Core.Logic.{◌⊎◌, inl, inr}
 use mathlib.Core.List.{List, [], ◌∷◌, ◌++◌}
 use lib.ListN.{length, get_or, drop, length-append, get_or-append}
 use lib.Seq.{get_or_at, get_or-take, get_or-drop}
+use Rattle.std.proofs.lemmas.Bool.{cases_lt}
 use Rattle.words.specs.Words.{bytes_n, le64, bytes64}
 use Rattle.words.proofs.Laws.{top}
-use Rattle.words.proofs.Parts.{lt_or_ge, bytes64_le64}
+use Rattle.words.proofs.Parts.{bytes64_le64}
 use Rattle.records.proofs.Bytes.{Bytes}
 use Rattle.tails.specs.Tails.{high}
 use Rattle.tails.proofs.High.{high_lt}
@@ -68,7 +69,7 @@ get_or_high_bytes (suc n) v d (suc k) e =
 pub high_bytes_high : (n : ℕ) (bs : List ℕ) (d : ℕ) → Bytes bs → d < n → get_or (high_bytes n (high n bs 0)) d 0 ≡ get_or bs d 0
 unfolding high_bytes
 high_bytes_high zero bs d b l = absurd (not-suc-le-zero l)
-high_bytes_high (suc n) bs d b l = go (high_bytes_high n bs d b) (lt_or_ge d n)
+high_bytes_high (suc n) bs d b l = go (high_bytes_high n bs d b) (cases_lt d n)
   where
     v : ℕ
     v = high (suc n) bs 0

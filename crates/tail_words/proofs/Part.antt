@@ -6,7 +6,7 @@ use mathlib.Core.Logic.{◌⊎◌, inl, inr}
 use mathlib.Core.List.{List}
 use lib.ListN.{length, get_or, take, drop, length-take, length-drop, get_or-eq_default}
 use lib.Seq.{get_or-take, get_or-drop, ext_get_or}
-use Rattle.words.proofs.Parts.{lt_or_ge}
+use Rattle.std.proofs.lemmas.Bool.{cases_lt}
 use Rattle.records.proofs.Bytes.{Bytes}
 
 module _ (n : ℕ) (s : List ℕ) (at : ℕ) where
@@ -20,7 +20,7 @@ module _ (n : ℕ) (s : List ℕ) (at : ℕ) where
   part_length = length-take n (drop at s) ∙ ap (min n) (length-drop at s)
 
   pub part_bytes : Bytes s → Bytes (take n (drop at s))
-  part_bytes b k = go (lt_or_ge k n)
+  part_bytes b k = go (cases_lt k n)
     where
       go : (k < n) ⊎ (n ≤ k) → get_or (take n (drop at s)) k 0 < 256
       go (inl l) = rw (part_in k l) (b (at + k))
