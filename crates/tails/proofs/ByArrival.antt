@@ -12,40 +12,19 @@ use mathlib.Core.List.{List, [], ◌∷◌, Memᴰ as Mem}
 use lib.ListN.{length}
 use lib.Dec.{leb}
 use Rattle.definitions.proofs.Views.{Le, le}
+use Rattle.trie.proofs.Placed.{placed_mem, mem_placed}
 use Rattle.tails.specs.Groups.{Group, arrive, by_arrival, kept_groups, Different}
 
 -- ── members ──
 
 arrive_mem : {x : Group} (g : Group) (hs : List Group) → Mem x (arrive g hs) → (x ≡ g) ⊎ Mem x hs
 arrive_mem g [] m = split m
-arrive_mem {x} g (h ∷ hs) m = go (leb g.first h.first) (arrive_mem g hs) m
-  where
-    tail : (x ≡ g) ⊎ Mem x hs → (x ≡ g) ⊎ Mem x (h ∷ hs)
-    tail (inl e) = inl e
-    tail (inr k) = inr (later k)
-
-    put : (Mem x (arrive g hs) → (x ≡ g) ⊎ Mem x hs) → (x ≡ h) ⊎ Mem x (arrive g hs) → (x ≡ g) ⊎ Mem x (h ∷ hs)
-    put ih (inl e) = inr (here e)
-    put ih (inr k) = tail (ih k)
-
-    go : (o : Bool) → (Mem x (arrive g hs) → (x ≡ g) ⊎ Mem x hs) → Mem x (cond o (g ∷ h ∷ hs) (h ∷ arrive g hs)) → (x ≡ g) ⊎ Mem x (h ∷ hs)
-    go true ih k = split k
-    go false ih k = put ih (split k)
+arrive_mem g (h ∷ hs) m = placed_mem g h hs (arrive g hs) (leb g.first h.first) (arrive_mem g hs) m
 
 mem_arrive : {x : Group} (g : Group) (hs : List Group) → (x ≡ g) ⊎ Mem x hs → Mem x (arrive g hs)
 mem_arrive g [] (inl e) = here e
 mem_arrive g [] (inr m) = later m
-mem_arrive {x} g (h ∷ hs) m = go (leb g.first h.first) (mem_arrive g hs) m
-  where
-    put : ((x ≡ g) ⊎ Mem x hs → Mem x (arrive g hs)) → (x ≡ h) ⊎ Mem x hs → Mem x (h ∷ arrive g hs)
-    put ih (inl e) = here e
-    put ih (inr k) = later (ih (inr k))
-
-    go : (o : Bool) → ((x ≡ g) ⊎ Mem x hs → Mem x (arrive g hs)) → (x ≡ g) ⊎ Mem x (h ∷ hs) → Mem x (cond o (g ∷ h ∷ hs) (h ∷ arrive g hs))
-    go true ih (inl e) = here e
-    go true ih (inr k) = later k
-    go false ih (inl e) = later (ih (inl e))
-    go false ih (inr k) = put ih (split k)
+mem_arrive g (h ∷ hs) m = mem_placed g h hs (arrive g hs) (leb g.first h.first) (mem_arrive g hs) m
 
 pub by_arrival_mem : {x : Group} (gs : List Group) → Mem x (by_arrival gs) → Mem x gs
 by_arrival_mem {x = x} [] m = elim m [ ]

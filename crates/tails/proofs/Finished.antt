@@ -14,6 +14,7 @@ use Rattle.records.specs.Records.{lex_lt, insert, sorted, Ordered}
 use Rattle.records.proofs.Lists.{sorted_ordered}
 use Rattle.definitions.specs.Location.{Location}
 use Rattle.definitions.specs.Blocks.{Piece}
+use Rattle.trie.proofs.Placed.{behind_mem}
 use Rattle.trie.specs.Trie.{root}
 use Rattle.trie.specs.Build.{entered_all, trie_of}
 use Rattle.trie.proofs.BuildEntered.{as_piece, EnteredBy, entered_mem}
@@ -78,16 +79,8 @@ insert_mem : {x : Tail} (t : Tail) (ss : List Tail) → Mem x (insert_tail t ss)
 insert_mem t [] m = split m
 insert_mem {x} t (s ∷ ss) m = go (lex_lt (tail_record s) (tail_record t)) (insert_mem t ss) m
   where
-    tail : (x ≡ t) ⊎ Mem x ss → (x ≡ t) ⊎ Mem x (s ∷ ss)
-    tail (inl e) = inl e
-    tail (inr k) = inr (later k)
-
-    put : (Mem x (insert_tail t ss) → (x ≡ t) ⊎ Mem x ss) → (x ≡ s) ⊎ Mem x (insert_tail t ss) → (x ≡ t) ⊎ Mem x (s ∷ ss)
-    put ih (inl e) = inr (here e)
-    put ih (inr k) = tail (ih k)
-
     go : (o : Bool) → (Mem x (insert_tail t ss) → (x ≡ t) ⊎ Mem x ss) → Mem x (cond o (s ∷ insert_tail t ss) (t ∷ s ∷ ss)) → (x ≡ t) ⊎ Mem x (s ∷ ss)
-    go true ih k = put ih (split k)
+    go true ih k = behind_mem ih k
     go false ih k = split k
 
 mem_insert : {x : Tail} (t : Tail) (ss : List Tail) → (x ≡ t) ⊎ Mem x ss → Mem x (insert_tail t ss)
@@ -95,13 +88,10 @@ mem_insert t [] (inl e) = here e
 mem_insert t [] (inr m) = later m
 mem_insert {x} t (s ∷ ss) m = go (lex_lt (tail_record s) (tail_record t)) (mem_insert t ss) m
   where
-    put : ((x ≡ t) ⊎ Mem x ss → Mem x (insert_tail t ss)) → (x ≡ s) ⊎ Mem x ss → Mem x (s ∷ insert_tail t ss)
-    put ih (inl e) = here e
-    put ih (inr k) = later (ih (inr k))
-
     go : (o : Bool) → ((x ≡ t) ⊎ Mem x ss → Mem x (insert_tail t ss)) → (x ≡ t) ⊎ Mem x (s ∷ ss) → Mem x (cond o (s ∷ insert_tail t ss) (t ∷ s ∷ ss))
     go true ih (inl e) = later (ih (inl e))
-    go true ih (inr k) = put ih (split k)
+    go true ih (inr (here e)) = here e
+    go true ih (inr (later k)) = later (ih (inr k))
     go false ih (inl e) = here e
     go false ih (inr k) = later k
 
