@@ -4,7 +4,7 @@ use native.Mathlib.Omega.{arith}
 use mathlib.Core.Path.{◌≡◌, refl, sym, ap, subst, ◌∙◌}
 use mathlib.Core.List.{List, [], ◌∷◌, ◌++◌, append-nil, append_assoc}
 use mathlib.Core.Option.{Option as Maybe, some}
-use Rattle.std.specs.Prelude.{Option, Some}
+use Rattle.std.specs.Prelude.{Option, Some, ⊤}
 use Rattle.definitions.specs.Location.{Location}
 use Rattle.trie.specs.Trie.{Node, collect, collect_forest}
 use Rattle.image_format.specs.Held.{Entry}
@@ -15,7 +15,7 @@ use Rattle.image_walk.specs.Bounds.{TableHere}
 use Rattle.image_walk.specs.Here.{NodeHere, Matches}
 use Rattle.image_walk.proofs.Here.{here_bounds, here_leaf, here_slots}
 use Rattle.place_buffer.specs.declared.Places.{Places}
-use Rattle.place_buffer.specs.Buffer.{Valid, Taken}
+use Rattle.place_buffer.specs.Buffer.{Taken}
 use Rattle.place_buffer.proofs.Adding.{taken_none, taken_more}
 use Rattle.collecting.specs.Collected.{Standing, LeadsTo, Collected, Reached, Followed}
 use Rattle.collecting.proofs.Nodes.{Both, both_taken, children_are}
@@ -54,30 +54,30 @@ module _ {img : List ℕ} {at d : ℕ} {m : Parts} (p : m ≡ parts_at img at) {
 
 -- ── the way down ──
 
-pub follow_start : {img s : List ℕ} {p : Places} {d at : ℕ} {m : Parts} → m ≡ parts_at img at → Valid s p → Followed img d at s s p m d p
-follow_start {at = at} e v = record {
+pub follow_start : {img : List ℕ} {p : Places} {d at : ℕ} {m : Parts} → m ≡ parts_at img at → Followed img d at p p m d
+follow_start {at = at} e = record {
   next = at;
   parts = e;
   fewer = omega arith;
-  reached = λ n h. record { done = []; node = n; here = h; whole = refl; taken = taken_none v };
+  reached = λ n h. record { done = []; node = n; here = h; whole = refl; taken = taken_none };
 }
 
-module _ {img s s' : List ℕ} {p r : Places} {m : Parts} {d at left : ℕ} (h : Followed img d at s s' p m left r) where
+module _ {img : List ℕ} {p r : Places} {m : Parts} {d at left : ℕ} (h : Followed img d at p r m left) where
   pub followed_stands : Standing img d at → Standing img left h.next
   followed_stands k = let q = h.reached k.node k.here in record { node = q.node; here = q.here }
 
-  pub followed_taken : (k : Standing img d at) → Taken s s' p (h.reached k.node k.here).done (Some r)
+  pub followed_taken : (k : Standing img d at) → Taken p r (h.reached k.node k.here).done (Some tt)
   followed_taken k = (h.reached k.node k.here).taken
 
   pub followed_table : Standing img d at → TableHere img m.table.at m.table.count
   followed_table k = rw h.parts (here_bounds (followed_stands k).here).table
 
   -- what the node reached and all under it hold is the rest
-  pub followed_collected : {s'' : List ℕ} {o : Option Places} → Collected img left h.next s' s'' r o → Collected img d at s s'' p o
-  followed_collected {s''} {o} c = record { taken = λ n k. go (h.reached n k) }
+  pub followed_collected : {r' : Places} {o : Option ⊤} → Collected img left h.next r r' o → Collected img d at p r' o
+  followed_collected {r'} {o} c = record { taken = λ n k. go (h.reached n k) }
     where
-      go : {n : Node} → Reached img left h.next s s' p r n → Taken s s'' p (collect n) o
-      go q = subst (λ (ls : List Location). Taken s s'' p ls o) (sym q.whole) (taken_more q.taken (c.taken q.node q.here))
+      go : {n : Node} → Reached img left h.next p r n → Taken p r' (collect n) o
+      go q = subst (λ (ls : List Location). Taken p r' ls o) (sym q.whole) (taken_more q.taken (c.taken q.node q.here))
 
   -- its only entry leads to a node
   module _ {next : ℕ} (e : LeadsTo img m.table next) where
@@ -89,15 +89,15 @@ module _ {img s s' : List ℕ} {p r : Places} {m : Parts} {d at left : ℕ} (h :
     pub follow_stands : Standing img d at → Standing img (left - 1) next
     follow_stands k = let o = only_child h.parts e (followed_stands k).here in record { node = o.child; here = o.here }
 
-    pub follow_next : {s'' : List ℕ} {r' : Places} {m' : Parts} → m' ≡ parts_at img next → Both img m s' s'' r (Some r') → Followed img d at s s'' p m' (left - 1) r'
-    follow_next {s''} {r'} f t = record {
+    pub follow_next : {r' : Places} {m' : Parts} → m' ≡ parts_at img next → Both img m r r' (Some tt) → Followed img d at p r' m' (left - 1)
+    follow_next {r'} f t = record {
       next = next;
       parts = f;
       fewer = omega (arith, h.fewer);
       reached = λ n k. go (h.reached n k);
     }
       where
-        go : {n : Node} → Reached img left h.next s s' p r n → Reached img (left - 1) next s s'' p r' n
+        go : {n : Node} → Reached img left h.next p r n → Reached img (left - 1) next p r' n
         go q =
             let o = only_child h.parts e q.here in
             let own = q.node.lists.prefixes ++ q.node.lists.chunks in

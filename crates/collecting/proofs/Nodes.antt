@@ -4,7 +4,7 @@ use native.Mathlib.Omega.{arith}
 use mathlib.Core.Path.{◌≡◌, refl, sym, ap, subst, ◌∙◌}
 use mathlib.Core.List.Memᴰ.{append_left}
 use mathlib.Core.List.{List, ◌++◌, append-nil}
-use Rattle.std.specs.Prelude.{Option, Some, None}
+use Rattle.std.specs.Prelude.{Option, Some, None, ⊤}
 use lib.ListN.{length}
 use Rattle.definitions.specs.Location.{Location, locations_in}
 use Rattle.trie.specs.Trie.{Forest, leaf, Node, collect, collect_forest}
@@ -16,7 +16,7 @@ use Rattle.image_walk.specs.Here.{NodeHere, Laid, Matches}
 use Rattle.image_walk.proofs.Here.{here_bounds, here_prefixes, here_chunks, here_suffixes, here_entries, here_leaf}
 use Rattle.image_walk.proofs.Entries.{slots_here}
 use Rattle.place_buffer.specs.declared.Places.{Places}
-use Rattle.place_buffer.specs.Buffer.{Valid, Taken}
+use Rattle.place_buffer.specs.Buffer.{Taken}
 use Rattle.place_buffer.proofs.Adding.{taken_none, taken_over, taken_more}
 use Rattle.collecting.specs.Collected.{Standing, Siblings, Collected, AllCollected, Ended}
 
@@ -34,14 +34,14 @@ module _ {img : List ℕ} {at : ℕ} {m : Parts} (e : m ≡ parts_at img at) (h 
 
 -- ── its lists ──
 
--- adding the prefixes and chunks in place to the set p in s made it the set o in s'
-abbrev pub Both : List ℕ → Parts → List ℕ → List ℕ → Places → Option Places → Type 0
-Both img m s s' p o = Taken s s' p (locations_in img m.prefixes.count m.prefixes.at ++ locations_in img m.chunks.count m.chunks.at) o
+-- adding the prefixes and chunks in place to the set p made r of it
+abbrev pub Both : List ℕ → Parts → Places → Places → Option ⊤ → Type 0
+Both img m p r o = Taken p r (locations_in img m.prefixes.count m.prefixes.at ++ locations_in img m.chunks.count m.chunks.at) o
 
 -- an empty list adds nothing
-pub empty_taken : (img : List ℕ) (n at : ℕ) {s : List ℕ} {p : Places} → n ≡ 0 → Valid s p → Taken s s p (locations_in img n at) (Some p)
+pub empty_taken : (img : List ℕ) (n at : ℕ) {p : Places} → n ≡ 0 → Taken p p (locations_in img n at) (Some tt)
 unfolding locations_in
-empty_taken img n at z v = rw z (taken_none v)
+empty_taken img n at z = rw z taken_none
 
 module _ {img : List ℕ} {at d : ℕ} {m : Parts} {n : Node} (e : m ≡ parts_at img at) (h : NodeHere img d at n) where
   prefixes_are : locations_in img m.prefixes.count m.prefixes.at ≡ n.lists.prefixes
@@ -64,25 +64,24 @@ module _ {img : List ℕ} {at d : ℕ} {m : Parts} {n : Node} (e : m ≡ parts_a
   leaf_is : d ≡ 0 → n.children ≡ leaf
   leaf_is z = (here_leaf (subst (λ (k : ℕ). NodeHere img k at n) z h)).0
 
-  pub both_taken : {s s' : List ℕ} {p : Places} {o : Option Places} → Both img m s s' p o → Taken s s' p (n.lists.prefixes ++ n.lists.chunks) o
-  both_taken {s} {s'} {p} {o} t = subst (λ (ls : List Location). Taken s s' p ls o) (rw (prefixes_are, chunks_are) refl) t
+  pub both_taken : {p r : Places} {o : Option ⊤} → Both img m p r o → Taken p r (n.lists.prefixes ++ n.lists.chunks) o
+  both_taken {p} {r} {o} t = subst (λ (ls : List Location). Taken p r ls o) (rw (prefixes_are, chunks_are) refl) t
 
-  suffixes_taken : {s s₁ : List ℕ} {p : Places} {o : Option Places} → Taken s s₁ p (locations_in img m.suffixes.count m.suffixes.at) o → Taken s s₁ p n.lists.suffixes o
-  suffixes_taken {s} {s₁} {p} {o} t = subst (λ (ls : List Location). Taken s s₁ p ls o) suffixes_are t
+  suffixes_taken : {p r : Places} {o : Option ⊤} → Taken p r (locations_in img m.suffixes.count m.suffixes.at) o → Taken p r n.lists.suffixes o
+  suffixes_taken {p} {r} {o} t = subst (λ (ls : List Location). Taken p r ls o) suffixes_are t
 
-  suffixes_chunks : {s s₁ s₂ : List ℕ} {p a : Places} {o : Option Places} → Taken s s₁ p (locations_in img m.suffixes.count m.suffixes.at) (Some a) → Taken s₁ s₂ a (locations_in img m.chunks.count m.chunks.at) o →
-      Taken s s₂ p (n.lists.suffixes ++ n.lists.chunks) o
-  suffixes_chunks {s₁ = s₁} {s₂ = s₂} {a = a} {o = o} t u = taken_more (suffixes_taken t) (subst (λ (ls : List Location). Taken s₁ s₂ a ls o) chunks_are u)
+  suffixes_chunks : {p a r : Places} {o : Option ⊤} → Taken p a (locations_in img m.suffixes.count m.suffixes.at) (Some tt) → Taken a r (locations_in img m.chunks.count m.chunks.at) o → Taken p r (n.lists.suffixes ++ n.lists.chunks) o
+  suffixes_chunks {a = a} {r = r} {o = o} t u = taken_more (suffixes_taken t) (subst (λ (ls : List Location). Taken a r ls o) chunks_are u)
 
-  collect_leaf : {s s₁ : List ℕ} {p : Places} {o : Option Places} → d ≡ 0 → Both img m s s₁ p o → Taken s s₁ p (collect n) o
-  collect_leaf {s} {s₁} {p} {o} z t =
+  collect_leaf : {p r : Places} {o : Option ⊤} → d ≡ 0 → Both img m p r o → Taken p r (collect n) o
+  collect_leaf {p} {r} {o} z t =
       let none : n.lists.prefixes ++ n.lists.chunks ≡ collect n = sym (ap (λ (f : Forest). n.lists.prefixes ++ n.lists.chunks ++ collect_forest f) (leaf_is z) ∙ append-nil (n.lists.prefixes ++ n.lists.chunks)) in
-      subst (λ (ls : List Location). Taken s s₁ p ls o) none (both_taken t)
+      subst (λ (ls : List Location). Taken p r ls o) none (both_taken t)
 
-  collect_below : {s s₁ s₂ : List ℕ} {p a : Places} {o : Option Places} → (d ≡ 0 → ⊥) → Both img m s s₁ p (Some a) → AllCollected img (d - 1) m.table.at m.table.count s₁ s₂ a o → Taken s s₂ p (collect n) o
+  collect_below : {p a r : Places} {o : Option ⊤} → (d ≡ 0 → ⊥) → Both img m p a (Some tt) → AllCollected img (d - 1) m.table.at m.table.count a r o → Taken p r (collect n) o
   collect_below z t v = taken_more (both_taken t) (v.taken n.children (children_are z))
 
-  collect_over : {s s₁ : List ℕ} {p : Places} → Both img m s s₁ p None → Taken s s₁ p (collect n) None
+  collect_over : {p r : Places} → Both img m p r None → Taken p r (collect n) None
   collect_over t = taken_over (both_taken t) (λ x k. append_left (collect_forest n.children) k)
 
 -- ── what the functions answer ──
@@ -94,20 +93,20 @@ siblings_of {img} {at} {d} {m} e h z = record {
   matches = children_are e h.here z;
 }
 
-module _ {img : List ℕ} {at : ℕ} {m : Parts} (e : m ≡ parts_at img at) {s s₁ : List ℕ} {p : Places} where
-  pub collected_leaf : {d : ℕ} {o : Option Places} → d ≡ 0 → Both img m s s₁ p o → Collected img d at s s₁ p o
+module _ {img : List ℕ} {at : ℕ} {m : Parts} (e : m ≡ parts_at img at) {p a : Places} where
+  pub collected_leaf : {d : ℕ} {o : Option ⊤} → d ≡ 0 → Both img m p a o → Collected img d at p a o
   collected_leaf z t = record { taken = λ n h. collect_leaf e h z t }
 
   -- the node's own have no room
-  pub collected_over : {d : ℕ} → Both img m s s₁ p None → Collected img d at s s₁ p None
+  pub collected_over : {d : ℕ} → Both img m p a None → Collected img d at p a None
   collected_over t = record { taken = λ n h. collect_over e h t }
 
-  pub ended_over : Taken s s₁ p (locations_in img m.suffixes.count m.suffixes.at) None → Ended img at s s₁ p None
+  pub ended_over : Taken p a (locations_in img m.suffixes.count m.suffixes.at) None → Ended img at p a None
   ended_over t = record { taken = λ d n h. taken_over (suffixes_taken e h t) (λ x k. append_left n.lists.chunks k) }
 
-  module _ {s₂ : List ℕ} {a : Places} {o : Option Places} where
-    pub collected_below : {d : ℕ} → (d ≡ 0 → ⊥) → Both img m s s₁ p (Some a) → AllCollected img (d - 1) m.table.at m.table.count s₁ s₂ a o → Collected img d at s s₂ p o
+  module _ {r : Places} {o : Option ⊤} where
+    pub collected_below : {d : ℕ} → (d ≡ 0 → ⊥) → Both img m p a (Some tt) → AllCollected img (d - 1) m.table.at m.table.count a r o → Collected img d at p r o
     collected_below z t v = record { taken = λ n h. collect_below e h z t v }
 
-    pub ended : Taken s₁ s₂ a (locations_in img m.chunks.count m.chunks.at) o → Taken s s₁ p (locations_in img m.suffixes.count m.suffixes.at) (Some a) → Ended img at s s₂ p o
+    pub ended : Taken a r (locations_in img m.chunks.count m.chunks.at) o → Taken p a (locations_in img m.suffixes.count m.suffixes.at) (Some tt) → Ended img at p r o
     ended u t = record { taken = λ d n h. suffixes_chunks e h t u }

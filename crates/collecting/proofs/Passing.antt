@@ -12,23 +12,23 @@ use Rattle.image_format.specs.Held.{Entry}
 use Rattle.image_walk.specs.Tables.{slot_in, slots_from, put}
 use Rattle.image_walk.specs.Here.{NodeHere, Matches}
 use Rattle.place_buffer.specs.declared.Places.{Places}
-use Rattle.place_buffer.specs.Buffer.{Valid, Taken}
+use Rattle.place_buffer.specs.Buffer.{Taken}
 use Rattle.place_lookup.specs.Lookup.{Within}
 use Rattle.place_buffer.proofs.Adding.{taken_none, taken_more, taken_over}
 use Rattle.collecting.specs.Collected.{Standing, Siblings, Collected, AllCollected}
 
 -- of the siblings f the first are collected, which makes r of p, and the entries from number j on lead to the rest
-pub record Passed (img : List ℕ) (d table children j : ℕ) (s s' : List ℕ) (p r : Places) (f : Forest) : Type 0 where
+pub record Passed (img : List ℕ) (d table children j : ℕ) (p r : Places) (f : Forest) : Type 0 where
   pub done : List Location
   pub rest : Forest
   pub whole : collect_forest f ≡ done ++ collect_forest rest
   pub matches : Matches img d (slots_from img table children (children - j) j) rest
-  pub taken : Taken s s' p done (Some r)
+  pub taken : Taken p r done (Some tt)
 
 -- so of all siblings that the table leads to
-pub record Passing (img : List ℕ) (d table children j : ℕ) (s s' : List ℕ) (p r : Places) : Type 0 where
+pub record Passing (img : List ℕ) (d table children j : ℕ) (p r : Places) : Type 0 where
   pub within : j ≤ children
-  pub passed : (f : Forest) → Matches img d (slots_from img table children children 0) f → Passed img d table children j s s' p r f
+  pub passed : (f : Forest) → Matches img d (slots_from img table children children 0) f → Passed img d table children j p r f
 
 -- ── siblings by the first entry ──
 
@@ -63,37 +63,37 @@ module _ (img : List ℕ) (table children j : ℕ) where
 
 -- ── the loop ──
 
-pub passing_none : {img s : List ℕ} {p : Places} (d table children : ℕ) → Valid s p → Passing img d table children 0 s s p p
-passing_none {img} d table children v = record {
+pub passing_none : {img : List ℕ} {p : Places} (d table children : ℕ) → Passing img d table children 0 p p
+passing_none {img} d table children = record {
   within = omega arith;
   passed = λ f m. record {
     done = [];
     rest = f;
     whole = refl;
     matches = let e : children - 0 ≡ children = omega arith in rw e m;
-    taken = taken_none v;
+    taken = taken_none;
   };
 }
 
-module _ {img s s' : List ℕ} {p r : Places} {d table children j : ℕ} (h : Passing img d table children j s s' p r) where
+module _ {img : List ℕ} {p r : Places} {d table children j : ℕ} (h : Passing img d table children j p r) where
   -- what the table leads to, as far as it is collected
-  pub passing_taken : (k : Siblings img d table children) → Taken s s' p (h.passed k.forest k.matches).done (Some r)
+  pub passing_taken : (k : Siblings img d table children) → Taken p r (h.passed k.forest k.matches).done (Some tt)
   passing_taken k = (h.passed k.forest k.matches).taken
 
-  pub passing_done : children ≤ j → AllCollected img d table children s s' p (Some r)
+  pub passing_done : children ≤ j → AllCollected img d table children p r (Some tt)
   passing_done l = record { taken = λ f m. go f (h.passed f m) }
     where
-      go : (f : Forest) → Passed img d table children j s s' p r f → Taken s s' p (collect_forest f) (Some r)
+      go : (f : Forest) → Passed img d table children j p r f → Taken p r (collect_forest f) (Some tt)
       go f q =
           let none : collect_forest q.rest ≡ [] = no_more img d q.rest (subst (λ (es : List Entry). Matches img d es q.rest) (slots_end img table children j l) q.matches) in
           let e : collect_forest f ≡ q.done = q.whole ∙ ap (λ (ls : List Location). q.done ++ ls) none ∙ append-nil q.done in
-          subst (λ (ls : List Location). Taken s s' p ls (Some r)) (sym e) q.taken
+          subst (λ (ls : List Location). Taken p r ls (Some tt)) (sym e) q.taken
 
   -- slot j is empty
-  pub passing_empty : j < children → none ≡ slot_in img table children j → Passing img d table children (j + 1) s s' p r
+  pub passing_empty : j < children → none ≡ slot_in img table children j → Passing img d table children (j + 1) p r
   passing_empty l e = record { within = omega arith; passed = λ f m. go f (h.passed f m) }
     where
-      go : (f : Forest) → Passed img d table children j s s' p r f → Passed img d table children (j + 1) s s' p r f
+      go : (f : Forest) → Passed img d table children j p r f → Passed img d table children (j + 1) p r f
       go f q = record {
         done = q.done;
         rest = q.rest;
@@ -104,7 +104,7 @@ module _ {img s s' : List ℕ} {p r : Places} {d table children j : ℕ} (h : Pa
 
   -- slot j leads to a node
   module _ (l : j < children) {b at : ℕ} (e : some (record { byte = b; node = at }) ≡ slot_in img table children j) where
-    first : {f : Forest} → Passed img d table children j s s' p r f → (k : Forest) → Matches img d (slots_from img table children (children - j) j) k → First img d (slots_from img table children (children - (j + 1)) (j + 1)) at k
+    first : {f : Forest} → Passed img d table children j p r f → (k : Forest) → Matches img d (slots_from img table children (children - j) j) k → First img d (slots_from img table children (children - (j + 1)) (j + 1)) at k
     first q k m =
         first_of img d (record { byte = b; node = at }) (slots_from img table children (children - (j + 1)) (j + 1)) k
         (subst (λ (es : List Entry). Matches img d es k) (slots_next img table children j l (some (record { byte = b; node = at })) e) m)
@@ -112,13 +112,13 @@ module _ {img s s' : List ℕ} {p r : Places} {d table children j : ℕ} (h : Pa
     pub passing_stands : Siblings img d table children → Standing img d at
     passing_stands k = go (h.passed k.forest k.matches)
       where
-        go : {f : Forest} → Passed img d table children j s s' p r f → Standing img d at
+        go : {f : Forest} → Passed img d table children j p r f → Standing img d at
         go q = let x = first q q.rest q.matches in record { node = x.node; here = x.here }
 
-    pub passing_child : {s'' : List ℕ} {r' : Places} → Collected img d at s' s'' r (Some r') → Passing img d table children (j + 1) s s'' p r'
-    passing_child {s''} {r'} c = record { within = omega arith; passed = λ f m. go f (h.passed f m) }
+    pub passing_child : {r' : Places} → Collected img d at r r' (Some tt) → Passing img d table children (j + 1) p r'
+    passing_child {r'} c = record { within = omega arith; passed = λ f m. go f (h.passed f m) }
       where
-        go : (f : Forest) → Passed img d table children j s s' p r f → Passed img d table children (j + 1) s s'' p r' f
+        go : (f : Forest) → Passed img d table children j p r f → Passed img d table children (j + 1) p r' f
         go f q =
             let x = first q q.rest q.matches in
             record {
@@ -130,10 +130,10 @@ module _ {img s s' : List ℕ} {p r : Places} {d table children j : ℕ} (h : Pa
             }
 
     -- what that holds has no room, whatever else were collected
-    pub passing_over : {s'' : List ℕ} → Collected img d at s' s'' r None → AllCollected img d table children s s'' p None
-    passing_over {s''} c = record { taken = λ f m. go f (h.passed f m) }
+    pub passing_over : {r' : Places} → Collected img d at r r' None → AllCollected img d table children p r' None
+    passing_over {r'} c = record { taken = λ f m. go f (h.passed f m) }
       where
-        go : (f : Forest) → Passed img d table children j s s' p r f → Taken s s'' p (collect_forest f) None
+        go : (f : Forest) → Passed img d table children j p r f → Taken p r' (collect_forest f) None
         go f q =
             let x = first q q.rest q.matches in
             let whole : collect_forest f ≡ q.done ++ collect x.node ++ collect_forest x.later = q.whole ∙ ap (λ (ls : List Location). q.done ++ ls) x.whole ∙ sym (append_assoc q.done (collect x.node) (collect_forest x.later)) in

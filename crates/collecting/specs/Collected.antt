@@ -1,5 +1,5 @@
 -- What collecting from an image in place asks for, and what it adds to a set of places. Assumes nothing.
-use Rattle.std.specs.Prelude.{ℕ, ◌≤◌, ◌≡◌, List, ◌++◌, Option, Some}
+use Rattle.std.specs.Prelude.{ℕ, ◌≤◌, ◌≡◌, List, ◌++◌, Option, Some, ⊤}
 use Rattle.definitions.specs.Location.{Location}
 use Rattle.std.proofs.Math.Option.{some}
 use Rattle.trie.specs.Trie.{Forest, Node, collect, collect_forest}
@@ -33,33 +33,33 @@ pub record LeadsTo (img : List ℕ) (table : Table) (at : ℕ) : Type 0 where
   pub byte : ℕ
   pub slot : some (record { byte = byte; node = at }) ≡ slot_in img table.at table.count 0
 
--- ── what is added: the set p in s became the set o in s', or has no room ──
+-- ── what is added: the set p became the set r, or has no room ──
 
 -- the prefixes and chunks of the node at index `at` and of all under it
-pub record Collected (img : List ℕ) (d at : ℕ) (s s' : List ℕ) (p : Places) (o : Option Places) : Type 0 where
-  pub taken : (n : Node) → NodeHere img d at n → Taken s s' p (collect n) o
+pub record Collected (img : List ℕ) (d at : ℕ) (p r : Places) (o : Option ⊤) : Type 0 where
+  pub taken : (n : Node) → NodeHere img d at n → Taken p r (collect n) o
 
 -- those of the siblings that a table leads to and of all under them
-pub record AllCollected (img : List ℕ) (d table children : ℕ) (s s' : List ℕ) (p : Places) (o : Option Places) : Type 0 where
-  pub taken : (f : Forest) → Matches img d (slots_from img table children children 0) f → Taken s s' p (collect_forest f) o
+pub record AllCollected (img : List ℕ) (d table children : ℕ) (p r : Places) (o : Option ⊤) : Type 0 where
+  pub taken : (f : Forest) → Matches img d (slots_from img table children children 0) f → Taken p r (collect_forest f) o
 
 -- the suffixes and chunks of the node at index `at`
-pub record Ended (img : List ℕ) (at : ℕ) (s s' : List ℕ) (p : Places) (o : Option Places) : Type 0 where
-  pub taken : (d : ℕ) (n : Node) → NodeHere img d at n → Taken s s' p (n.lists.suffixes ++ n.lists.chunks) o
+pub record Ended (img : List ℕ) (at : ℕ) (p r : Places) (o : Option ⊤) : Type 0 where
+  pub taken : (d : ℕ) (n : Node) → NodeHere img d at n → Taken p r (n.lists.suffixes ++ n.lists.chunks) o
 
 -- ── nodes left behind on the way down ──
 
 -- what is added so far and the node at index `at` with all under it are what the node n and all under it hold
-pub record Reached (img : List ℕ) (d at : ℕ) (s s' : List ℕ) (p r : Places) (n : Node) : Type 0 where
+pub record Reached (img : List ℕ) (d at : ℕ) (p r : Places) (n : Node) : Type 0 where
   pub done : List Location
   pub node : Node
   pub here : NodeHere img d at node
   pub whole : collect n ≡ done ++ collect node
-  pub taken : Taken s s' p done (Some r)
+  pub taken : Taken p r done (Some tt)
 
 -- from index `at` down a node with these parts is reached, with at most so many of d levels below it
-pub record Followed (img : List ℕ) (d at : ℕ) (s s' : List ℕ) (p : Places) (m : Parts) (left : ℕ) (r : Places) : Type 0 where
+pub record Followed (img : List ℕ) (d at : ℕ) (p r : Places) (m : Parts) (left : ℕ) : Type 0 where
   pub next : ℕ
   pub parts : m ≡ parts_at img next
   pub fewer : left ≤ d
-  pub reached : (n : Node) → NodeHere img d at n → Reached img left next s s' p r n
+  pub reached : (n : Node) → NodeHere img d at n → Reached img left next p r n

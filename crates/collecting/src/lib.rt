@@ -5,39 +5,38 @@ ghost use Rattle.std.specs.Prelude.{◌≡◌, ◌+◌, ◌*◌, ◌≤◌, ◌+
 ghost use Rattle.definitions.specs.Location.{locations_in};
 ghost use Rattle.image_walk.specs.Bounds.{TableHere};
 ghost use Rattle.image_walk.specs.Here.{Laid};
-ghost use Rattle.place_buffer.specs.Buffer.{Valid, Taken};
+ghost use Rattle.place_buffer.specs.Buffer.{Taken};
 ghost use Rattle.collecting.specs.Collected.{Standing, Siblings, LeadsTo, Collected, AllCollected, Ended, Followed};
 
 use image_walk::{Node, Table};
 use location_lists::List;
 use place_buffer::Places;
 
-// Where following ends: the first node with other than one child, how many levels are left below it, and the set by then.
+// Where following ends: the first node with other than one child, and how many levels are left below it.
 #[derive(Clone, Copy)]
 struct Stop {
     node: Node,
     left: usize,
-    places: Places,
 }
 
 // Adds the locations of a list in img to a set. Most lists are empty, and these cost no call.
-fn take_any(img: &[u8], list: List, scratch: &mut [u8], p: Places) -> Option<Places>
-    requires { (list.at + list.count * 24 ≤ length img.now) × Valid scratch.old p }
-    ensures { Taken scratch.old scratch.new p (locations_in img.now list.count list.at) result }
+fn take_any(img: &[u8], list: List, places: &mut Places<'_>) -> Option<()>
+    requires { list.at + list.count * 24 ≤ length img.now }
+    ensures { Taken places.old places.new (locations_in img.now list.count list.at) result }
 {
     if list.count == 0 {
-        return Some(p);
+        return Some(());
     }
-    place_buffer::take_list(img, list, scratch, p)
+    places.take_list(img, list)
 }
 
 // Adds the prefixes and chunks of a node.
-fn take_both(img: &[u8], n: Node, scratch: &mut [u8], p: Places) -> Option<Places>
-    requires { (n.prefixes.at + n.prefixes.count * 24 ≤ length img.now) × (n.chunks.at + n.chunks.count * 24 ≤ length img.now) × Valid scratch.old p }
-    ensures { Taken scratch.old scratch.new p (locations_in img.now n.prefixes.count n.prefixes.at ++ locations_in img.now n.chunks.count n.chunks.at) result }
+fn take_both(img: &[u8], n: Node, places: &mut Places<'_>) -> Option<()>
+    requires { (n.prefixes.at + n.prefixes.count * 24 ≤ length img.now) × (n.chunks.at + n.chunks.count * 24 ≤ length img.now) }
+    ensures { Taken places.old places.new (locations_in img.now n.prefixes.count n.prefixes.at ++ locations_in img.now n.chunks.count n.chunks.at) result }
 {
-    let a = take_any(img, n.prefixes, scratch, p)?;
-    take_any(img, n.chunks, scratch, a)
+    take_any(img, n.prefixes, places)?;
+    take_any(img, n.chunks, places)
 }
 
 // Where the only entry of a table leads; none where it has none, or several.
@@ -52,45 +51,33 @@ fn only_child(img: &[u8], table: Table) -> Option<usize>
 }
 
 // Follows nodes with one child from index at down, and adds the prefixes and chunks of those that it leaves behind.
-fn follow_single(img: &[u8], at: usize, left: usize, scratch: &mut [u8], p: Places) -> Option<Stop>
-    requires { Standing img.now left at × Valid scratch.old p }
-    ensures { MatchOption result (Collected img.now left at scratch.old scratch.new p None) (λ e. Followed img.now left at scratch.old scratch.new p e.node e.left e.places) }
+fn follow_single(img: &[u8], at: usize, left: usize, places: &mut Places<'_>) -> Option<Stop>
+    requires { Standing img.now left at }
+    ensures { MatchOption result (Collected img.now left at places.old places.new None) (λ e. Followed img.now left at places.old places.new e.node e.left) }
 {
     let mut node = image_walk::node_at(img, at);
     let mut rest = left;
-    let mut r = p;
     while let Some(next) = only_child(img, node.table) {
-        r = take_both(img, node, scratch, r)?;
+        take_both(img, node, places)?;
         node = image_walk::node_at(img, next);
         rest -= 1;
     }
-    Some(Stop {
-        node,
-        left: rest,
-        places: r,
-    })
+    Some(Stop { node, left: rest })
 }
 
 // Adds the prefixes and chunks of the nodes that a table leads to, and of all under them.
 // Each of those nodes has at most left levels below it.
 #[cycle(collect_all_substrings_collect_children)]
-fn collect_children(
-    img: &[u8],
-    table: Table,
-    left: usize,
-    scratch: &mut [u8],
-    p: Places,
-) -> Option<Places>
-    requires { Siblings img.now left table.at table.count × Valid scratch.old p }
-    ensures { AllCollected img.now left table.at table.count scratch.old scratch.new p result }
+fn collect_children(img: &[u8], table: Table, left: usize, places: &mut Places<'_>) -> Option<()>
+    requires { Siblings img.now left table.at table.count }
+    ensures { AllCollected img.now left table.at table.count places.old places.new result }
 {
-    let mut r = p;
     for j in 0..table.count {
         if let Some(e) = image_walk::slot_in(img, table, j) {
-            r = collect_all_substrings(img, e.node, left, scratch, r)?;
+            collect_all_substrings(img, e.node, left, places)?;
         }
     }
-    Some(r)
+    Some(())
 }
 
 // Adds the prefixes and chunks of the node at index at and of all under it: at most left levels.
@@ -99,26 +86,25 @@ pub fn collect_all_substrings(
     img: &[u8],
     at: usize,
     left: usize,
-    scratch: &mut [u8],
-    p: Places,
-) -> Option<Places>
-    requires { Standing img.now left at × Valid scratch.old p }
-    ensures { Collected img.now left at scratch.old scratch.new p result }
+    places: &mut Places<'_>,
+) -> Option<()>
+    requires { Standing img.now left at }
+    ensures { Collected img.now left at places.old places.new result }
 {
-    let end = follow_single(img, at, left, scratch, p)?;
-    let r = take_both(img, end.node, scratch, end.places)?;
+    let end = follow_single(img, at, left, places)?;
+    take_both(img, end.node, places)?;
     if end.left == 0 {
-        return Some(r);
+        return Some(());
     }
-    collect_children(img, end.node.table, end.left - 1, scratch, r)
+    collect_children(img, end.node.table, end.left - 1, places)
 }
 
 // Adds the suffixes and the chunks of the node at index at.
-pub fn find_suffixes(img: &[u8], at: usize, scratch: &mut [u8], p: Places) -> Option<Places>
-    requires { Laid img.now at × Valid scratch.old p }
-    ensures { Ended img.now at scratch.old scratch.new p result }
+pub fn find_suffixes(img: &[u8], at: usize, places: &mut Places<'_>) -> Option<()>
+    requires { Laid img.now at }
+    ensures { Ended img.now at places.old places.new result }
 {
     let n = image_walk::node_at(img, at);
-    let a = place_buffer::take_list(img, n.suffixes, scratch, p)?;
-    place_buffer::take_list(img, n.chunks, scratch, a)
+    places.take_list(img, n.suffixes)?;
+    places.take_list(img, n.chunks)
 }

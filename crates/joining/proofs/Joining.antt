@@ -11,7 +11,7 @@ use mathlib.Core.List.Memᴰ.{head as here}
 use mathlib.Core.List.Memᴰ.{not-nil}
 use mathlib.Core.List.Memᴰ.{tail as later}
 use mathlib.Core.List.{List, [], ◌∷◌, ◌++◌, append-nil, Memᴰ as Mem}
-use Rattle.std.specs.Prelude.{Option, Some, None}
+use Rattle.std.specs.Prelude.{Option, Some, None, ⊤}
 use lib.ListN.{get_or}
 use lib.Dec.{eqb}
 use borrow.Author.Tests.{eq-eqb, ne_eqb, lt-ltb}
@@ -22,7 +22,7 @@ use Rattle.definitions.proofs.Views.{overlap_is}
 use Rattle.definitions.proofs.Joins.{joins_mem, mem_joins}
 use Rattle.trie.specs.Find.{joins_each}
 use Rattle.place_buffer.specs.declared.Places.{Places}
-use Rattle.place_buffer.specs.Buffer.{Valid, Taken}
+use Rattle.place_buffer.specs.Buffer.{Taken}
 use Rattle.place_lookup.specs.Lookup.{Within}
 use Rattle.definitions.proofs.Locations.{locations_snoc}
 use Rattle.place_buffer.proofs.Adding.{taken_none, taken_same, taken_over, taken_more}
@@ -49,11 +49,11 @@ module _ (l m : Location) where
       go true f = absurd (let z : ◌≡◌ {A = ℕ} 0 1 = cc in omega arith)
       go false f = refl
 
-  pub one_life : {s s' : List ℕ} {p : Places} {o : Option Places} (x : Location) → some x ≡ overlap l m → Taken s s' p (x ∷ []) o → Taken s s' p (joins l m.address (m ∷ [])) o
-  one_life {s} {s'} {p} {o} x e t = subst (λ (ls : List Location). Taken s s' p ls o) (sym (joins_life x e)) t
+  pub one_life : {p r : Places} {o : Option ⊤} (x : Location) → some x ≡ overlap l m → Taken p r (x ∷ []) o → Taken p r (joins l m.address (m ∷ [])) o
+  one_life {p} {r} {o} x e t = subst (λ (ls : List Location). Taken p r ls o) (sym (joins_life x e)) t
 
-  pub one_nothing : {s : List ℕ} {p : Places} → none ≡ overlap l m → Valid s p → Taken s s p (joins l m.address (m ∷ [])) (Some p)
-  one_nothing {s} {p} e v = subst (λ (ls : List Location). Taken s s p ls (Some p)) (sym (joins_nothing e)) (taken_none v)
+  pub one_nothing : {p : Places} → none ≡ overlap l m → Taken p p (joins l m.address (m ∷ [])) (Some tt)
+  one_nothing {p} e = subst (λ (ls : List Location). Taken p p ls (Some tt)) (sym (joins_nothing e)) taken_none
 
 -- ── one location and places, one list of them after another ──
 
@@ -73,29 +73,29 @@ module _ (l : Location) (a : ℕ) where
 
 -- ── one location and those of a list at one address: the first i of the n are below it, and j are gone through ──
 
-abbrev pub JoinedTo : (img : List ℕ) (at key : ℕ) (l : Location) (s s' : List ℕ) (p : Places) (j : ℕ) (o : Option Places) → Type 0
-JoinedTo img at key l s s' p j o = Taken s s' p (joins l key (locations_in img j at)) o
+abbrev pub JoinedTo : (img : List ℕ) (at key : ℕ) (l : Location) (p r : Places) (j : ℕ) (o : Option ⊤) → Type 0
+JoinedTo img at key l p r j o = Taken p r (joins l key (locations_in img j at)) o
 
 module _ (img : List ℕ) (n at key i : ℕ) (d : Parted img n at key i) (l : Location) where
   -- those below the key have another address
-  pub key_start : {s : List ℕ} {p : Places} → Valid s p → JoinedTo img at key l s s p i (Some p)
-  key_start {s} {p} v =
+  pub key_start : {p : Places} → JoinedTo img at key l p p i (Some tt)
+  key_start {p} =
       let none : joins l key (locations_in img i at) ≡ [] = joins_none l key (locations_in img i at) (λ m j e. omega (arith, d.front m j)) in
-      subst (λ (ls : List Location). Taken s s p ls (Some p)) (sym none) (taken_none v)
+      subst (λ (ls : List Location). Taken p p ls (Some tt)) (sym none) taken_none
 
   module _ (j : ℕ) where
     part : j ≤ n → joins l key (locations_in img n at) ≡ joins l key (locations_in img j at) ++ joins l key (locations_in img (n - j) (at + j * 24))
     part h = ap (joins l key) (locations_part img n at j h) ∙ joins_append l key (locations_in img j at) (locations_in img (n - j) (at + j * 24))
 
     -- one has no room, whatever else were added
-    pub key_refused : {s s' : List ℕ} {p : Places} → j ≤ n → JoinedTo img at key l s s' p j None → JoinedTo img at key l s s' p n None
+    pub key_refused : {p r : Places} → j ≤ n → JoinedTo img at key l p r j None → JoinedTo img at key l p r n None
     key_refused h t =
         taken_over t (subst (Within (joins l key (locations_in img j at))) (sym (part h)) (λ x i. append_left (joins l key (locations_in img (n - j) (at + j * 24))) i))
 
     -- one above the key, and so are all behind it
-    pub key_stop : {s s' : List ℕ} {p : Places} {o : Option Places} {m : Location} → j < n → Sorted Less (locations_in img n at) → m ≡ location_at img (at + j * 24) → key < m.address
-        → JoinedTo img at key l s s' p j o → JoinedTo img at key l s s' p n o
-    key_stop {s} {s'} {p} {o} {m} h up em above t =
+    pub key_stop : {p r : Places} {o : Option ⊤} {m : Location} → j < n → Sorted Less (locations_in img n at) → m ≡ location_at img (at + j * 24) → key < m.address
+        → JoinedTo img at key l p r j o → JoinedTo img at key l p r n o
+    key_stop {p} {r} {o} {m} h up em above t =
         let rest = locations_in img (n - j) (at + j * 24) in
         let first : rest ≡ m ∷ locations_in img (n - j - 1) (at + j * 24 + 24) =
         locations_first img (n - j) (at + j * 24) (omega arith) ∙ ap (λ (x : Location). x ∷ locations_in img (n - j - 1) (at + j * 24 + 24)) (sym em) in
@@ -105,36 +105,36 @@ module _ (img : List ℕ) (n at key i : ℕ) (d : Parted img n at key i) (l : Lo
         joins_none l key rest (λ x i e. omega (arith, sorted_from m (locations_in img (n - j - 1) (at + j * 24 + 24)) order x (subst (Mem x) first i))) in
         let whole : joins l key (locations_in img n at) ≡ joins l key (locations_in img j at) =
         part (omega arith) ∙ ap (λ (ls : List Location). joins l key (locations_in img j at) ++ ls) none ∙ append-nil (joins l key (locations_in img j at)) in
-        subst (λ (ls : List Location). Taken s s' p ls o) (sym whole) t
+        subst (λ (ls : List Location). Taken p r ls o) (sym whole) t
 
     -- one at the key was joined
-    pub key_next : {s s' s'' : List ℕ} {p r : Places} {o : Option Places} {m : Location} → i ≤ j → j < n → m ≡ location_at img (at + j * 24) → m.address ≤ key
-        → JoinedTo img at key l s s' p j (Some r) → Taken s' s'' r (joins l m.address (m ∷ [])) o → JoinedTo img at key l s s'' p (j + 1) o
-    key_next {s} {s'' = s''} {p} {o = o} {m} f h em le t u =
+    pub key_next : {p r r' : Places} {o : Option ⊤} {m : Location} → i ≤ j → j < n → m ≡ location_at img (at + j * 24) → m.address ≤ key
+        → JoinedTo img at key l p r j (Some tt) → Taken r r' (joins l m.address (m ∷ [])) o → JoinedTo img at key l p r' (j + 1) o
+    key_next {p} {r' = r'} {o = o} {m} f h em le t u =
         let where_it_is : at + i * 24 + (j - i) * 24 ≡ at + j * 24 = omega arith in
         let above : key ≤ m.address = d.behind m (rw (em, ← where_it_is) (location_listed (n - i) img (at + i * 24) (j - i) (omega arith))) in
         let e : m.address ≡ key = omega arith in
         let whole : joins l key (locations_in img (j + 1) at) ≡ joins l key (locations_in img j at) ++ joins l m.address (m ∷ []) =
         ap (joins l key) (locations_snoc j img at) ∙ joins_append l key (locations_in img j at) (location_at img (at + j * 24) ∷ [])
         ∙ ap (λ (x : Location). joins l key (locations_in img j at) ++ joins l key (x ∷ [])) (sym em) ∙ ap (λ (b : ℕ). joins l key (locations_in img j at) ++ joins l b (m ∷ [])) (sym e) in
-        subst (λ (ls : List Location). Taken s s'' p ls o) (sym whole) (taken_more t u)
+        subst (λ (ls : List Location). Taken p r' ls o) (sym whole) (taken_more t u)
 
-    pub key_done : {s s' : List ℕ} {p : Places} {o : Option Places} → j ≤ n → n ≤ j → JoinedTo img at key l s s' p j o → JoinedTo img at key l s s' p n o
-    key_done {s} {s'} {p} {o} h k t =
+    pub key_done : {p r : Places} {o : Option ⊤} → j ≤ n → n ≤ j → JoinedTo img at key l p r j o → JoinedTo img at key l p r n o
+    key_done {p} {r} {o} h k t =
         let e : j ≡ n = omega arith in
-        subst (λ (i : ℕ). JoinedTo img at key l s s' p i o) e t
+        subst (λ (i : ℕ). JoinedTo img at key l p r i o) e t
 
 -- none has the address
-pub none_joined_to : {img s : List ℕ} {list : Listing} {key : ℕ} {p : Places} (x : Location) → NoneAt img list key → Valid s p → Taken s s p (joins x key (listed img list)) (Some p)
-none_joined_to {img} {s} {list} {key} {p} x h v = subst (λ (ls : List Location). Taken s s p ls (Some p)) (sym (joins_none x key (listed img list) h.none)) (taken_none v)
+pub none_joined_to : {img : List ℕ} {list : Listing} {key : ℕ} {p : Places} (x : Location) → NoneAt img list key → Taken p p (joins x key (listed img list)) (Some tt)
+none_joined_to {img} {list} {key} {p} x h = subst (λ (ls : List Location). Taken p p ls (Some tt)) (sym (joins_none x key (listed img list) h.none)) taken_none
 
 -- by the first with the address a list parts
 pub parted_at : {img : List ℕ} {list : Listing} {key a i : ℕ} → Sorted Less (listed img list) → FirstAt img list key i → a ≡ key → Parted img list.count list.at a i
 parted_at {img} {list} {key} {a} {i} up f e = parted img list.count list.at a i up (f.below ∙ ap (λ (k : ℕ). below_count k (listed img list)) (sym e))
 
 -- the address by another name
-pub joined_to_key : (x : Location) (ls : List Location) {s s' : List ℕ} {p : Places} {o : Option Places} {a b : ℕ} → a ≡ b → Taken s s' p (joins x a ls) o → Taken s s' p (joins x b ls) o
-joined_to_key x ls {s} {s'} {p} {o} e t = subst (λ (key : ℕ). Taken s s' p (joins x key ls) o) e t
+pub joined_to_key : (x : Location) (ls : List Location) {p r : Places} {o : Option ⊤} {a b : ℕ} → a ≡ b → Taken p r (joins x a ls) o → Taken p r (joins x b ls) o
+joined_to_key x ls {p} {r} {o} e t = subst (λ (key : ℕ). Taken p r (joins x key ls) o) e t
 
 -- ── one place and the locations of a list ──
 
@@ -146,10 +146,10 @@ common_same l m =
     let c : min l.destroyed m.destroyed ≡ min m.destroyed l.destroyed = omega arith in
     λ i. record { address = a i; created = b i; destroyed = c i }
 
-module _ (k : ℕ) (ls : List Location) (m : Location) {s : List ℕ} {p : Places} where
+module _ (k : ℕ) (ls : List Location) (m : Location) {p : Places} where
   -- it begins before any location of k bytes could end
-  pub place_low : Valid s p → m.address < k → Taken s s p (joins_each k ls (m ∷ [])) (Some p)
-  place_low v h = taken_same (taken_none v) (λ x j. absurd (not-nil j)) (λ x j. absurd (none_joined k ls (m ∷ []) apart j))
+  pub place_low : m.address < k → Taken p p (joins_each k ls (m ∷ [])) (Some tt)
+  place_low h = taken_same taken_none (λ x j. absurd (not-nil j)) (λ x j. absurd (none_joined k ls (m ∷ []) apart j))
     where
       apart : (x y : Location) → Mem x ls → Mem y (m ∷ []) → y.address ≡ x.address + k → ⊥
       apart x y i j e =
@@ -157,7 +157,7 @@ module _ (k : ℕ) (ls : List Location) (m : Location) {s : List ℕ} {p : Place
           omega arith
 
   -- the locations that end where it begins have one address
-  pub place_joined : {s' : List ℕ} {o : Option Places} → k ≤ m.address → Taken s s' p (joins m (m.address - k) ls) o → Taken s s' p (joins_each k ls (m ∷ [])) o
+  pub place_joined : {r : Places} {o : Option ⊤} → k ≤ m.address → Taken p r (joins m (m.address - k) ls) o → Taken p r (joins_each k ls (m ∷ [])) o
   place_joined h t = taken_same t to from
     where
       to : Within (joins m (m.address - k) ls) (joins_each k ls (m ∷ []))
@@ -186,9 +186,9 @@ addresses_fit zero img at b m h = absurd (not-nil h)
 addresses_fit (suc n) img at b m (here e) = omega (arith, ap (λ (x : Location). x.address) e, le64_lt img at b)
 addresses_fit (suc n) img at b m (later h) = addresses_fit n img (at + 24) b m h
 
-module _ (img : List ℕ) (n at : ℕ) (l : Location) {s : List ℕ} {p : Places} where
+module _ (img : List ℕ) (n at : ℕ) (l : Location) {p : Places} where
   -- it ends beyond every address
-  pub location_far : (a : ℕ) → ((j : ℕ) → get_or img j 0 < 256) → Valid s p → 2 ^ 64 ≤ a → Taken s s p (joins l a (locations_in img n at)) (Some p)
-  location_far a b v h =
+  pub location_far : (a : ℕ) → ((j : ℕ) → get_or img j 0 < 256) → 2 ^ 64 ≤ a → Taken p p (joins l a (locations_in img n at)) (Some tt)
+  location_far a b h =
       let none : joins l a (locations_in img n at) ≡ [] = joins_none l a (locations_in img n at) (λ m i e. omega (arith, addresses_fit n img at b m i)) in
-      subst (λ (ls : List Location). Taken s s p ls (Some p)) (sym none) (taken_none v)
+      subst (λ (ls : List Location). Taken p p ls (Some tt)) (sym none) taken_none

@@ -7,7 +7,7 @@ ghost use Rattle.definitions.specs.Location.{location_at};
 ghost use Rattle.definitions.specs.Places.{joins};
 ghost use Rattle.location.specs.Plain.{plain};
 ghost use Rattle.trie.specs.Find.{joins_each};
-ghost use Rattle.place_buffer.specs.Buffer.{Valid, Taken};
+ghost use Rattle.place_buffer.specs.Buffer.{Taken};
 ghost use Rattle.joining.specs.Lists.{Inside, Ascends, listed, spanned};
 ghost use Rattle.joining.specs.Below.{below_count, NoneAt, FirstAt};
 
@@ -60,24 +60,22 @@ fn join_from(
     list: List,
     first: usize,
     x: SpacetimeLocation,
-    scratch: &mut [u8],
-    p: Places,
-) -> Option<Places>
-    requires { Ascends img.now list × FirstAt img.now list (le64 img.now (list.at + first * 24)) first × Valid scratch.old p }
-    ensures { Taken scratch.old scratch.new p (joins (plain x) (le64 img.now (list.at + first * 24)) (listed img.now list)) result }
+    places: &mut Places<'_>,
+) -> Option<()>
+    requires { Ascends img.now list × FirstAt img.now list (le64 img.now (list.at + first * 24)) first }
+    ensures { Taken places.old places.new (joins (plain x) (le64 img.now (list.at + first * 24)) (listed img.now list)) result }
 {
     let key = location_in(img, list, first).address.0;
-    let mut r = p;
     for i in first..list.count {
         let m = location_in(img, list, i);
         if key < m.address.0 {
-            return Some(r);
+            return Some(());
         }
         if let Some(both) = x.overlap(m) {
-            r = place_buffer::place(scratch, r, both)?;
+            places.place(both)?;
         }
     }
-    Some(r)
+    Some(())
 }
 
 // Joins a sorted list of locations of k bytes with the places of a span, which stands before the set.
@@ -87,27 +85,25 @@ pub fn filter_results(
     list: List,
     k: usize,
     behind: Span,
-    scratch: &mut [u8],
-    p: Places,
-) -> Option<Places>
-    requires { Ascends img.now list × Valid scratch.old p × (behind.from ≤ behind.to) × (behind.to ≤ p.base) }
-    ensures { Taken scratch.old scratch.new p (joins_each k (listed img.now list) (spanned scratch.old behind)) result }
+    places: &mut Places<'_>,
+) -> Option<()>
+    requires { Ascends img.now list × (behind.from ≤ behind.to) × (behind.to ≤ places.old.base) }
+    ensures { Taken places.old places.new (joins_each k (listed img.now list) (spanned places.old.scratch.now behind)) result }
 {
     if list.count == 0 {
-        return Some(p);
+        return Some(());
     }
-    let mut r = p;
     for t in behind.from..behind.to {
-        let m = location::location_at(scratch, t * LOCATION_SIZE);
+        let m = places.location(t);
         let Some(key) = m.address.0.checked_sub(k as u64) else {
             continue;
         };
         let Some(first) = first_at(img, list, key) else {
             continue;
         };
-        r = join_from(img, list, first, m, scratch, r)?;
+        join_from(img, list, first, m, places)?;
     }
-    Some(r)
+    Some(())
 }
 
 // Joins a list of locations of k bytes with a sorted list.
@@ -117,13 +113,11 @@ pub fn filter_lists(
     list: List,
     k: usize,
     to: List,
-    scratch: &mut [u8],
-    p: Places,
-) -> Option<Places>
-    requires { Inside img.now list × Ascends img.now to × Valid scratch.old p }
-    ensures { Taken scratch.old scratch.new p (joins_each k (listed img.now list) (listed img.now to)) result }
+    places: &mut Places<'_>,
+) -> Option<()>
+    requires { Inside img.now list × Ascends img.now to }
+    ensures { Taken places.old places.new (joins_each k (listed img.now list) (listed img.now to)) result }
 {
-    let mut r = p;
     for u in 0..list.count {
         let l = location_in(img, list, u);
         let Some(key) = l.address.0.checked_add(k as u64) else {
@@ -132,7 +126,7 @@ pub fn filter_lists(
         let Some(first) = first_at(img, to, key) else {
             continue;
         };
-        r = join_from(img, to, first, l, scratch, r)?;
+        join_from(img, to, first, l, places)?;
     }
-    Some(r)
+    Some(())
 }

@@ -18,7 +18,7 @@ use Rattle.definitions.proofs.Order.{location_path, length_normal}
 use Rattle.definitions.proofs.Locations.{length_locations, locations_snoc}
 use Rattle.location.specs.Fits.{Fits}
 use Rattle.location.proofs.Bytes.{location_written}
-use Rattle.place_buffer.specs.Buffer.{Tidied}
+use Rattle.place_buffer.specs.Scratch.{Tidied}
 use Rattle.place_buffer.proofs.Triples.{triples_path, length_triples, normal_triples}
 use Rattle.place_lookup.proofs.Triples.{triples, records_triples}
 

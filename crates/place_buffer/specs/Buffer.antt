@@ -1,48 +1,47 @@
--- A set of places in scratch: where it stands, what tidying and adding to it do, and when it is refused. Assumes nothing.
-use Rattle.std.specs.Prelude.{ℕ, ◌+◌, ◌-◌, ◌*◌, ◌/◌, ◌≤◌, ◌<◌, ◌≡◌, true, List, [], ◌∷◌, ◌++◌, length, get_or, Option, MatchOption}
+-- A set of places: what it holds, what tidying and adding to it do, and when it is refused. Assumes nothing.
+use Rattle.std.specs.Prelude.{ℕ, ◌-◌, ◌*◌, ◌<◌, ◌≡◌, false, List, [], ◌∷◌, ◌++◌, length, get_or, Option, MatchOption, ⊤}
+use Rattle.std.specs.Borrow.{MutBor}
 use Rattle.definitions.specs.Location.{Location, normal, locations_in}
-use Rattle.place_lookup.specs.Lookup.{Ascending, Within}
+use Rattle.place_lookup.specs.Lookup.{Within}
 use Rattle.place_buffer.specs.declared.Places.{Places}
-
--- s' is s with the places from base to count - 1 sorted, each once; the next one would be number r
-pub record Tidied (s s' : List ℕ) (base count r : ℕ) : Type 0 where
-  pub next : r ≡ base + length (normal (locations_in s (count - base) (base * 24)))
-  pub places : locations_in s' (length (normal (locations_in s (count - base) (base * 24)))) (base * 24) ≡ normal (locations_in s (count - base) (base * 24))
-  pub same_length : length s' ≡ length s
-  pub before : (k : ℕ) → k < base * 24 → get_or s' k 0 ≡ get_or s k 0
-  pub behind : (k : ℕ) → count * 24 ≤ k → get_or s' k 0 ≡ get_or s k 0
-
--- how many places there can be
-abbrev pub room : List ℕ → ℕ
-room s = length s / 24
+use Rattle.place_buffer.specs.Scratch.{Tidied, room}
 
 -- the places of the set
-abbrev pub held : List ℕ → Places → List Location
-held s p = locations_in s (p.count - p.base) (p.base * 24)
+abbrev pub held : Places → List Location
+held p = locations_in p.scratch.now (p.count - p.base) (p.base * 24)
 
-pub record Valid (s : List ℕ) (p : Places) : Type 0 where
-  pub from : p.base ≤ p.count
-  pub within : p.count * 24 ≤ length s
-  pub ascending : p.tight ≡ true → Ascending (held s p)
-  pub no_room : p.tight ≡ true → p.count ≡ room s
+-- p is an empty set in s, behind place number base
+pub record Behind (s : MutBor (List ℕ)) (base : ℕ) (p : Places) : Type 0 where
+  pub same_reference : p.scratch.ghost_name ≡ s.ghost_name
+  pub same_bytes : p.scratch.now ≡ s.now
+  pub from : p.base ≡ base
+  pub empty : p.count ≡ base
+  pub loose : p.tight ≡ false
 
--- the set r in s' has the places of the set p in s and the places ls
-pub record Added (s s' : List ℕ) (p : Places) (ls : List Location) (r : Places) : Type 0 where
+-- the set r is p with its places sorted, each once
+pub record TidiedTo (p r : Places) : Type 0 where
+  pub same_reference : r.scratch.ghost_name ≡ p.scratch.ghost_name
   pub same_base : r.base ≡ p.base
-  pub valid : Valid s' r
-  pub only : Within (held s' r) (ls ++ held s p)
-  pub all : Within (ls ++ held s p) (held s' r)
+  pub loose : r.tight ≡ false
+  pub tidied : Tidied p.scratch.now r.scratch.now p.base p.count r.count
+
+-- the set r has the places of the set p and the places ls
+pub record Added (p : Places) (ls : List Location) (r : Places) : Type 0 where
+  pub same_base : r.base ≡ p.base
+  pub only : Within (held r) (ls ++ held p)
+  pub all : Within (ls ++ held p) (held r)
 
 -- behind place number base there is no room for a set of the places xs
 abbrev pub Over : List ℕ → ℕ → List Location → Type 0
 Over s base xs = room s - base < length (normal xs)
 
--- adding the places ls to the set p in s made the set o in s'; there is none where a place had no room
-pub record Taken (s s' : List ℕ) (p : Places) (ls : List Location) (o : Option Places) : Type 0 where
-  pub same_length : length s' ≡ length s
-  pub before : (k : ℕ) → k < p.base * 24 → get_or s' k 0 ≡ get_or s k 0
-  pub set : MatchOption o (Over s p.base (ls ++ held s p)) (Added s s' p ls)
+-- adding the places ls to the set p made r of it, or o is None: a place had no room
+pub record Taken (p r : Places) (ls : List Location) (o : Option ⊤) : Type 0 where
+  pub same_reference : r.scratch.ghost_name ≡ p.scratch.ghost_name
+  pub same_length : length r.scratch.now ≡ length p.scratch.now
+  pub before : (k : ℕ) → k < p.base * 24 → get_or r.scratch.now k 0 ≡ get_or p.scratch.now k 0
+  pub set : MatchOption o (Over p.scratch.now p.base (ls ++ held p)) (λ _. Added p ls r)
 
 -- the same of one place
-abbrev pub Placed : List ℕ → List ℕ → Places → Location → Option Places → Type 0
-Placed s s' p l o = Taken s s' p (l ∷ []) o
+abbrev pub Placed : Places → Places → Location → Option ⊤ → Type 0
+Placed p r l o = Taken p r (l ∷ []) o

@@ -2,14 +2,14 @@
 use Rattle.std.specs.Prelude.{ℕ, ◌+◌, ◌-◌, ◌*◌, ◌≤◌, ◌≡◌, List, length}
 use Rattle.definitions.specs.Location.{Location, normal, locations_in}
 use Rattle.place_buffer.specs.declared.Places.{Places}
-use Rattle.place_buffer.specs.Buffer.{room, held, Valid}
+use Rattle.place_buffer.specs.Scratch.{room}
+use Rattle.place_buffer.specs.Buffer.{held}
 use Rattle.place_lookup.specs.Lookup.{Within}
 
--- the set p in s is that of the places xs
-pub record Holding (s : List ℕ) (p : Places) (xs : List Location) : Type 0 where
-  pub valid : Valid s p
-  pub only : Within (held s p) xs
-  pub all : Within xs (held s p)
+-- the set p is that of the places xs
+pub record Holding (p : Places) (xs : List Location) : Type 0 where
+  pub only : Within (held p) xs
+  pub all : Within xs (held p)
 
 -- the places from base to next - 1 are the set of the places xs, ascending
 pub record Settled (s : List ℕ) (base : ℕ) (xs : List Location) (next : ℕ) : Type 0 where

@@ -1,3 +1,4 @@
--- `Buffer` has what the contracts cite, `Holding` what a user's invariant is. Assumes nothing.
+-- `Scratch` has what a set asks of its places, `Buffer` what the contracts cite, `Holding` what a user's invariant is. Assumes nothing.
+pub mod Scratch
 pub mod Buffer
 pub mod Holding

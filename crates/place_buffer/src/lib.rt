@@ -1,22 +1,22 @@
 // A set of places in lent memory, 24 bytes a place. What has no room is refused only where the set itself is too large.
 #![tactic(auto)]
 
-ghost use Rattle.std.specs.Prelude.{◌≡◌, true, ◌+◌, ◌*◌, ◌≤◌, length};
-ghost use Rattle.definitions.specs.Location.{locations_in};
-ghost use Rattle.location.specs.Plain.{plain};
-ghost use Rattle.place_buffer.specs.Buffer.{Tidied, Valid, Placed, Taken};
+ghost use Rattle.std.specs.Prelude.{◌*◌, ◌≤◌, length};
+ghost use Rattle.place_buffer.specs.Scratch.{Tidied, Valid, valid_prop};
 
 use definitions::LOCATION_SIZE;
 use location::SpacetimeLocation;
 use location_lists::List;
 
-// The places from number base to count - 1 are a set.
+// The places of scratch from number base to count - 1 are a set.
 // tight: there is no room, and they ascend, so that a further place is only looked up.
-#[derive(Clone, Copy)]
-pub struct Places {
+#[derive(Drop)]
+pub struct Places<'s> {
+    pub scratch: &'s mut [u8],
     pub base: usize,
     pub count: usize,
     pub tight: bool,
+    pub ghost valid: { Valid scratch.now base count tight } by { valid_prop scratch.now base count tight },
 }
 
 // Sorts the places from base to count - 1 and drops those that repeat. Answers the new count.
@@ -31,80 +31,107 @@ pub fn tidy(scratch: &mut [u8], base: usize, count: usize) -> usize
     base + kept
 }
 
-// Adds l to a set that is tight: it is there already, or has no room.
-fn look_up(scratch: &[u8], p: Places, l: SpacetimeLocation) -> Option<Places>
-    requires { Valid scratch.now p × (p.tight ≡ true) }
-    ensures { Placed scratch.now scratch.now p (plain l) result }
-{
-    if place_lookup::is_there(scratch, p.base * LOCATION_SIZE, p.count - p.base, l) {
-        Some(p)
-    } else {
-        None
-    }
-}
+impl<'s> Places<'s> {
+    ghost use Rattle.std.specs.Prelude.{◌≡◌, true, false, ◌+◌, ◌*◌, ◌≤◌, ◌<◌, length, Some};
+    ghost use Rattle.definitions.specs.Location.{location_at, locations_in};
+    ghost use Rattle.location.specs.Plain.{plain};
+    ghost use Rattle.place_buffer.specs.Buffer.{Behind, TidiedTo, Placed, Taken};
 
-// Adds l behind the places of a set, where there is room.
-fn append(scratch: &mut [u8], p: Places, l: SpacetimeLocation) -> Places
-    requires { Valid scratch.old p × (p.count * 24 + 24 ≤ length scratch.old) }
-    ensures { Placed scratch.old scratch.new p (plain l) (Some result) }
-{
-    location::put_location(scratch, p.count * LOCATION_SIZE, l);
-    Places {
-        count: p.count + 1,
-        tight: false,
-        ..p
+    // An empty set behind place number base.
+    pub fn behind(scratch: &'s mut [u8], base: usize) -> Places<'s>
+        requires { base * 24 ≤ length scratch.old }
+        ensures { Behind scratch.entry base result }
+    {
+        Places {
+            scratch,
+            base,
+            count: base,
+            tight: false,
+        }
     }
-}
 
-// Adds l to a set. Where there is no room, those that repeat are dropped first; None where there is none even then.
-pub fn place(scratch: &mut [u8], p: Places, l: SpacetimeLocation) -> Option<Places>
-    requires { Valid scratch.old p }
-    ensures { Placed scratch.old scratch.new p (plain l) result }
-{
-    if p.tight {
-        return look_up(scratch, p, l);
+    // Place number i of scratch, within the set or before it.
+    pub fn location(&self, i: usize) -> SpacetimeLocation
+        requires { i < self.now.count }
+        ensures { plain result ≡ location_at self.now.scratch.now (i * 24) }
+    {
+        location::location_at(self.scratch, i * LOCATION_SIZE)
     }
-    if p.count < scratch.len() / LOCATION_SIZE {
-        return Some(append(scratch, p, l));
-    }
-    let kept = tidy(scratch, p.base, p.count);
-    if kept < p.count {
-        return Some(append(scratch, Places { count: kept, ..p }, l));
-    }
-    look_up(scratch, Places { tight: true, ..p }, l)
-}
 
-// Adds the locations of a list in img to a set, one by one.
-fn take_each(img: &[u8], list: List, scratch: &mut [u8], p: Places) -> Option<Places>
-    requires { (list.at + list.count * 24 ≤ length img.now) × Valid scratch.old p }
-    ensures { Taken scratch.old scratch.new p (locations_in img.now list.count list.at) result }
-{
-    let mut r = p;
-    for i in 0..list.count {
-        let l = location::location_at(img, list.at + i * LOCATION_SIZE);
-        r = place(scratch, r, l)?;
+    // Sorts the places and drops those that repeat.
+    pub fn tidy(&mut self)
+        ensures { TidiedTo self.old self.new }
+    {
+        self.tight = false;
+        self.count = tidy(self.scratch, self.base, self.count);
     }
-    Some(r)
-}
 
-// Adds the locations of a list in img to a set. Where there is room for all of them they are copied as they stand.
-pub fn take_list(img: &[u8], list: List, scratch: &mut [u8], p: Places) -> Option<Places>
-    requires { (list.at + list.count * 24 ≤ length img.now) × Valid scratch.old p }
-    ensures { Taken scratch.old scratch.new p (locations_in img.now list.count list.at) result }
-{
-    if scratch.len() / LOCATION_SIZE - p.count < list.count {
-        return take_each(img, list, scratch, p);
+    // Adds l to a set that is tight: it is there already, or has no room.
+    fn look_up(&self, l: SpacetimeLocation) -> Option<()>
+        requires { self.now.tight ≡ true }
+        ensures { Placed self.now self.now (plain l) result }
+    {
+        let at = self.base * LOCATION_SIZE;
+        if place_lookup::is_there(self.scratch, at, self.count - self.base, l) {
+            Some(())
+        } else {
+            None
+        }
     }
-    copying::copy(
-        img,
-        list.at,
-        scratch,
-        p.count * LOCATION_SIZE,
-        list.count * LOCATION_SIZE,
-    );
-    Some(Places {
-        count: p.count + list.count,
-        tight: false,
-        ..p
-    })
+
+    // Adds l behind the places of a set, where there is room.
+    fn append(&mut self, l: SpacetimeLocation)
+        requires { (self.old.tight ≡ false) × (self.old.count * 24 + 24 ≤ length self.old.scratch.now) }
+        ensures { Placed self.old self.new (plain l) (Some tt) }
+    {
+        location::put_location(self.scratch, self.count * LOCATION_SIZE, l);
+        self.count += 1;
+    }
+
+    // Adds l to a set. Where there is no room, those that repeat are dropped first; None where there is none even then.
+    pub fn place(&mut self, l: SpacetimeLocation) -> Option<()>
+        ensures { Placed self.old self.new (plain l) result }
+    {
+        if self.tight {
+            return self.look_up(l);
+        }
+        if self.count < self.scratch.len() / LOCATION_SIZE {
+            self.append(l);
+            return Some(());
+        }
+        let full = self.count;
+        self.tidy();
+        if self.count < full {
+            self.append(l);
+            return Some(());
+        }
+        self.tight = true;
+        self.look_up(l)
+    }
+
+    // Adds the locations of a list in img to a set, one by one.
+    fn take_each(&mut self, img: &[u8], list: List) -> Option<()>
+        requires { list.at + list.count * 24 ≤ length img.now }
+        ensures { Taken self.old self.new (locations_in img.now list.count list.at) result }
+    {
+        for i in 0..list.count {
+            self.place(location::location_at(img, list.at + i * LOCATION_SIZE))?;
+        }
+        Some(())
+    }
+
+    // Adds the locations of a list in img to a set. Where there is room for all of them they are copied as they stand.
+    pub fn take_list(&mut self, img: &[u8], list: List) -> Option<()>
+        requires { list.at + list.count * 24 ≤ length img.now }
+        ensures { Taken self.old self.new (locations_in img.now list.count list.at) result }
+    {
+        if self.scratch.len() / LOCATION_SIZE - self.count < list.count {
+            return self.take_each(img, list);
+        }
+        let to = self.count * LOCATION_SIZE;
+        self.tight = false;
+        copying::copy(img, list.at, self.scratch, to, list.count * LOCATION_SIZE);
+        self.count += list.count;
+        Some(())
+    }
 }

@@ -11,4 +11,4 @@ abbrev pub decreases-collect_children : goal.decreases-collect_children
 decreases-collect_children l = 2 * l.left + 1
 
 abbrev pub invariant-collect_children-loop-j : goal.invariant-collect_children-loop-j
-invariant-collect_children-loop-j l = Passing l.img l.left l.table.at l.table.count l.j l.initial.scratch l.scratch l.initial.r l.r
+invariant-collect_children-loop-j l = Passing l.img l.left l.table.at l.table.count l.j l.initial.places l.places

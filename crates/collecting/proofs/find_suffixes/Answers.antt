@@ -3,13 +3,13 @@ use Rattle.collecting.proofs.Nodes.{suffixes_within, chunks_within, ended, ended
 use Rattle.collecting.proofs.find_suffixes.Goals as goal
 
 pub take_list-requires : goal.take_list-requires
-take_list-requires c = (suffixes_within c.node_at-n.ensures c.requires.0, c.requires.1)
+take_list-requires c = suffixes_within c.node_at-n.ensures c.requires
 
-pub returns-in_err-a : goal.returns-in_err-a
-returns-in_err-a c = rw c.from_residual.ensures (ended_over c.node_at-n.ensures c.in_err-a.ensures)
+pub returns-in_err-take_list : goal.returns-in_err-take_list
+returns-in_err-take_list c = rw c.from_residual.ensures (ended_over c.node_at-n.ensures c.in_err-take_list.ensures)
 
 pub take_list-requires-2 : goal.take_list-requires-2
-take_list-requires-2 c = (chunks_within c.node_at-n.ensures c.requires.0, c.in_ok-a.ensures.set.valid)
+take_list-requires-2 c = chunks_within c.node_at-n.ensures c.requires
 
 pub returns : goal.returns
-returns c = ended c.node_at-n.ensures c.take_list-2.ensures c.in_ok-a.ensures
+returns c = ended c.node_at-n.ensures c.take_list-2.ensures c.in_ok-take_list.ensures

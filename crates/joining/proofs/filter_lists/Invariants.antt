@@ -7,4 +7,4 @@ use Rattle.joining.specs.Lists.{listed}
 use Rattle.joining.proofs.filter_lists.Given as goal
 
 abbrev pub invariant-loop-u : goal.invariant-loop-u
-invariant-loop-u l = Taken l.initial.scratch l.scratch l.initial.r (joins_each l.k (locations_in l.img l.u l.list.at) (listed l.img l.to)) (Some l.r)
+invariant-loop-u l = Taken l.initial.places l.places (joins_each l.k (locations_in l.img l.u l.list.at) (listed l.img l.to)) (Some tt)

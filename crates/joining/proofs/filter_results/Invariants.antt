@@ -8,4 +8,4 @@ use Rattle.joining.specs.Lists.{listed}
 use Rattle.joining.proofs.filter_results.Given as goal
 
 abbrev pub invariant-loop-t : goal.invariant-loop-t
-invariant-loop-t l = Taken l.initial.scratch l.scratch l.initial.r (joins_each l.k (listed l.img l.list) (locations_in l.initial.scratch (l.t - l.fn.behind.from) (l.fn.behind.from * 24))) (Some l.r)
+invariant-loop-t l = Taken l.initial.places l.places (joins_each l.k (listed l.img l.list) (locations_in l.initial.places.scratch.now (l.t - l.fn.behind.from) (l.fn.behind.from * 24))) (Some tt)

@@ -5,4 +5,4 @@ use Rattle.joining.proofs.Joining.{JoinedTo}
 use Rattle.joining.proofs.join_from.Given as goal
 
 abbrev pub invariant-loop-i : goal.invariant-loop-i
-invariant-loop-i l = JoinedTo l.img l.list.at l.key (plain l.x) l.initial.scratch l.scratch l.initial.r l.i (Some l.r)
+invariant-loop-i l = JoinedTo l.img l.list.at l.key (plain l.x) l.initial.places l.places l.i (Some tt)

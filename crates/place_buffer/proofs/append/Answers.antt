@@ -1,9 +1,0 @@
--- `place_buffer::append` meets its contract: a place that is written behind the others is one more. Assumes nothing.
-use Rattle.location.specs.Plain.{plain}
-use Rattle.place_buffer.proofs.Adding.{taken_behind}
-use Rattle.place_buffer.proofs.append.Goals as goal
-
-pub returns : goal.returns
-returns c =
-    let l = c.well_formed.1.1.0.1.1 in
-    taken_behind c.requires.0 (plain c.args.l) _ (record { address = l.0.1.1.0.1; created = l.1.0.1.1.0.1; destroyed = l.1.1.0.1.1.0.1 }) c.requires.1 c.put_location.ensures
