@@ -20,6 +20,7 @@ use Rattle.definitions.proofs.Locations.{length_locations}
 use Rattle.place_buffer.proofs.Holding.{holding_start, holding_taken, holding_over, holding_tidy, taken_elsewhere, tidied_elsewhere}
 use Rattle.node_joining.specs.Found.{rooted, last_of, along_from, table_from}
 use Rattle.node_joining.specs.Layout.{ending_in, Ending, starting, Part, LaidOut, EndFound, last_size, AllLaid, AllFound, Tabled, TableFound}
+use Rattle.node_joining.proofs.Asked.{ending_are}
 use Rattle.node_joining.proofs.Stages.{table_step, table_end, table_last, table_less}
 use Rattle.node_joining.specs.declared.Beyond.{Beyond}
 use Rattle.joining.specs.Lists.{listed}
@@ -119,10 +120,10 @@ pub kept_last : (n : Node) (q ends : List ℕ) (count : ℕ) → 1 < length q �
 kept_last n q ends count h l = omega (arith, get_or-set_same ends (length q - 1) count 0 (omega arith))
 
 -- what `last` holds
-module _ {img : List ℕ} (q : List ℕ) {m : Beyond} (h : 1 < length q) (x : Ending img (last_of q) m) where
+module _ {img : List ℕ} (q : List ℕ) {m : Beyond} (h : 1 < length q) (x : ∥ Ending img (last_of q) m ∥₁) where
   ending_size : length (normal (ending_in img m)) ≡ last_size (rooted img) q
   ending_size =
-      ap (λ (ls : List Location). length (normal ls)) x.lists ∙ omega (arith, ap sizes (table_last (rooted img) q (length q - 1) (omega arith) (omega arith)))
+      ap (λ (ls : List Location). length (normal ls)) (ending_are x) ∙ omega (arith, ap sizes (table_last (rooted img) q (length q - 1) (omega arith) (omega arith)))
 
   pub ending_counted : {count : ℕ} → count ≡ length (normal (ending_in img m)) → count ≡ last_size (rooted img) q
   ending_counted e = e ∙ ending_size

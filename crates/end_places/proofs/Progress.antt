@@ -31,6 +31,7 @@ use Rattle.place_buffer.specs.Buffer.{Valid, Taken}
 use Rattle.place_buffer.proofs.Adding.{taken_none, taken_over, taken_more}
 use Rattle.node_joining.specs.Found.{rooted, last_of, ended_lists, ending_lists, beyond_of, along_from, rest_along}
 use Rattle.node_joining.specs.Layout.{Sound, lists_of, Listed, Ending, Reached}
+use Rattle.node_joining.proofs.Asked.{sound_here, sound_sorted}
 use Rattle.node_joining.proofs.Stages.{beyond_some, rest_none, rest_next, rest_end, rest_start}
 
 -- ── the node at the end of a path ──
@@ -76,8 +77,8 @@ path_last q i j h l k =
     let e : j ≡ length q - 1 = omega arith in
     path_next q i j h l ∙ ap (λ (x : ℕ). take (j - i) (drop i q) ++ (get_or q x 0 ∷ [])) e
 
-pub root_found : {img : List ℕ} → Sound img → FoundAt img 16 0 (node_at (rooted img) [])
-root_found {img} sound = record { node = rooted img; there = refl; here = sound.here }
+pub root_found : {img : List ℕ} → ∥ Sound img ∥₁ → FoundAt img 16 0 (node_at (rooted img) [])
+root_found {img} sound = record { node = rooted img; there = refl; here = sound_here sound }
 
 module _ {img path : List ℕ} {m : Parts} (w : Walked img path m) where
   pub walked_table : TableHere img m.table.at m.table.count
@@ -113,17 +114,17 @@ module _ {img path : List ℕ} {m : Parts} (w : Walked img path m) where
       e ∙ ap lists_or_none (sym f.there)
 
   -- its lists lie within the image, each ascending
-  pub walked_listed : Sound img → Listed img m
+  pub walked_listed : ∥ Sound img ∥₁ → Listed img m
   walked_listed sound =
       let f = w.found in
       record {
         prefixes = rw w.parts (omega (arith, (here_bounds f.here).prefixes));
         chunks = rw w.parts (omega (arith, (here_bounds f.here).chunks));
         suffixes = rw w.parts (omega (arith, (here_bounds f.here).suffixes));
-        sorted = subst ListsSorted (sym walked_lists) (sound.rule.sorted path);
+        sorted = subst ListsSorted (sym walked_lists) (sound_sorted sound path);
       }
 
-  pub walked_ending : Sound img → Ending img path (record { suffixes = m.suffixes; chunks = m.chunks })
+  pub walked_ending : ∥ Sound img ∥₁ → Ending img path (record { suffixes = m.suffixes; chunks = m.chunks })
   walked_ending sound =
       let l = walked_listed sound in
       record {

@@ -25,6 +25,7 @@ use Rattle.node_joining.specs.Found.{rooted, last_of, ended_lists, ending_lists}
 use Rattle.node_joining.specs.declared.Beyond.{Beyond}
 use Rattle.node_joining.specs.declared.Ended.{Ended}
 use Rattle.node_joining.specs.Layout.{lists_of, Listed, ended_at, ended_in, EndedHere, EndsNothing, ending_in, Ending, Reached, LaidOut}
+use Rattle.node_joining.proofs.Asked.{ending_are}
 use Rattle.node_joining.proofs.Stages.{table_behind, table_last}
 
 -- ── what ends at a node ──
@@ -99,12 +100,12 @@ pub both_over : (k : ℕ) (ls ms ns : List Location) {s s₁ : List ℕ} {p : Pl
 both_over k ls ms ns t = taken_over t (each_within k ls ls ms (ms ++ ns) (λ x h. h) (λ x h. append_left ns h))
 
 -- those of the last byte
-pub behind_last : (k : ℕ) (ls : List Location) (img q : List ℕ) (j : ℕ) {last : Beyond} {s s₁ : List ℕ} {p : Places} {o : Option Places} → 1 ≤ j → j + 1 ≡ length q → Ending img (last_of q) last
+pub behind_last : (k : ℕ) (ls : List Location) (img q : List ℕ) (j : ℕ) {last : Beyond} {s s₁ : List ℕ} {p : Places} {o : Option Places} → 1 ≤ j → j + 1 ≡ length q → ∥ Ending img (last_of q) last ∥₁
     → Taken s s₁ p (joins_each k ls (ending_in img last)) o → Taken s s₁ p (joins_each k ls (first_of (ends_found (rooted img) (drop j q)))) o
 behind_last k ls img q j {last} {s} {s₁} {p} {o} h e x t =
     let f : length q - 1 ≡ j = omega arith in
     let xs = ending_in img last in
-    let same : xs ≡ ending_lists (lists_at (rooted img) (drop j q)) = x.lists ∙ ap (λ (i : ℕ). ending_lists (lists_at (rooted img) (drop i q))) f in
+    let same : xs ≡ ending_lists (lists_at (rooted img) (drop j q)) = ending_are x ∙ ap (λ (i : ℕ). ending_lists (lists_at (rooted img) (drop i q))) f in
     let whole : first_of (ends_found (rooted img) (drop j q)) ≡ normal xs =
     ap first_of (sym (table_behind (rooted img) q j h) ∙ table_last (rooted img) q j h e) ∙ ap normal (sym same) in
     subst (λ (ms : List Location). Taken s s₁ p (joins_each k ls ms) o) (sym whole)

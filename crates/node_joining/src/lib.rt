@@ -7,7 +7,7 @@ ghost use Rattle.trie.specs.Find.{joins_each, ends_found};
 ghost use Rattle.place_buffer.specs.Buffer.{Valid, Taken};
 ghost use Rattle.joining.specs.Lists.{Ascends, listed, spanned};
 ghost use Rattle.node_joining.specs.Found.{rooted, last_of, ended_lists};
-ghost use Rattle.node_joining.specs.Layout.{lists_of, Listed, ended_at, ended_in, EndedHere, EndsNothing, ending_in, EndingHere, Ending, LaidOut};
+ghost use Rattle.node_joining.specs.Layout.{lists_of, Listed, ended_at, ended_in, EndedHere, EndsNothing, ending_in, Ending, LaidOut};
 
 use image_walk::Node;
 use joining::Span;
@@ -28,13 +28,22 @@ pub struct Beyond {
     pub chunks: List,
 }
 
-// A step along a query from its byte i on: the node n is reached by those before byte j, and last are the places of the query's last byte.
+// What is asked of an image: the query's bytes, with the places of its last byte.
+#[derive(Clone, Copy)]
+pub struct Query<'a> {
+    pub img: &'a [u8],
+    pub bytes: &'a [u8],
+    pub last: Beyond,
+    pub ghost some: { 0 < length bytes.now },
+    pub ghost ending: { ∥ Ending img.now (last_of bytes.now) last ∥₁ },
+}
+
+// A step along a query from its byte i on: the node n is reached by those before byte j.
 #[derive(Clone, Copy)]
 pub struct Step {
     pub i: usize,
     pub j: usize,
     pub n: Node,
-    pub last: Beyond,
 }
 
 impl Ended {
@@ -96,32 +105,24 @@ fn join_list(
 }
 
 // Joins what ends at a node, k bytes long, with the places of the query's last byte, which are two lists.
-fn join_last(
-    img: &[u8],
-    e: Ended,
-    k: usize,
-    last: Beyond,
-    scratch: &mut [u8],
-    p: Places,
-) -> Option<Places>
-    requires { EndedHere img.now e × EndingHere img.now last × Valid scratch.old p }
-    ensures { Taken scratch.old scratch.new p (joins_each k (ended_in img.now e) (ending_in img.now last)) result }
+fn join_last(query: Query, e: Ended, k: usize, scratch: &mut [u8], p: Places) -> Option<Places>
+    requires { EndedHere query.img.now e × Valid scratch.old p }
+    ensures { Taken scratch.old scratch.new p (joins_each k (ended_in query.entry.img.now e) (ending_in query.entry.img.now query.entry.last)) result }
 {
-    let a = join_list(img, e, k, last.suffixes, scratch, p)?;
-    join_list(img, e, k, last.chunks, scratch, a)
+    let a = join_list(query.img, e, k, query.last.suffixes, scratch, p)?;
+    join_list(query.img, e, k, query.last.chunks, scratch, a)
 }
 
 // Joins what ends at the node of a step with the places of the query from j on, for those of the query from i on.
 pub fn join_behind(
-    img: &[u8],
-    q: &[u8],
+    query: Query,
     step: Step,
     ends: &[usize],
     scratch: &mut [u8],
     p: Places,
 ) -> Option<Places>
-    requires { Listed img.now step.n × Ending img.now (last_of q.now) step.last × (step.i < step.j) × (step.j < length q.now) × LaidOut (rooted img.now) q.now (step.i + 1) ends.now scratch.old × Valid scratch.old p × (p.base ≡ get_or ends.now (step.i + 1) 0) }
-    ensures { Taken scratch.old scratch.new p (joins_each (step.j - step.i) (ended_lists (eqb step.i 0) (lists_of img.now step.n)) (first_of (ends_found (rooted img.now) (drop step.j q.now)))) result }
+    requires { Listed query.img.now step.n × (step.i < step.j) × (step.j < length query.bytes.now) × LaidOut (rooted query.img.now) query.bytes.now (step.i + 1) ends.now scratch.old × Valid scratch.old p × (p.base ≡ get_or ends.now (step.i + 1) 0) }
+    ensures { Taken scratch.old scratch.new p (joins_each (step.j - step.i) (ended_lists (eqb step.i 0) (lists_of query.entry.img.now step.n)) (first_of (ends_found (rooted query.entry.img.now) (drop step.j query.entry.bytes.now)))) result }
 {
     let j = step.j;
     let k = j - step.i;
@@ -129,10 +130,10 @@ pub fn join_behind(
     if e.is_empty() {
         return Some(p);
     }
-    if j + 1 == q.len() {
-        return join_last(img, e, k, step.last, scratch, p);
+    if j + 1 == query.bytes.len() {
+        return join_last(query, e, k, scratch, p);
     }
     let from = ends[j + 1];
     let to = ends[j];
-    join_node(img, e, k, Span { from, to }, scratch, p)
+    join_node(query.img, e, k, Span { from, to }, scratch, p)
 }

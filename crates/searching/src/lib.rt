@@ -11,8 +11,9 @@ ghost use Rattle.node_joining.specs.Layout.{Sound, Ending, AllFound, Tabled, Tab
 ghost use Rattle.searching.specs.Search.{search_answer};
 
 use definitions::{LOCATION_SIZE, Refusal};
+use end_places::Search;
 use location_lists::List;
-use node_joining::Beyond;
+use node_joining::{Beyond, Query};
 
 const NO_LIST: List = List { at: 0, count: 0 };
 
@@ -37,54 +38,37 @@ fn last_places(img: &[u8], q: &[u8]) -> Beyond
 
 // Finds the places of all ends of the query, from its back, where so many are kept for those of its last byte: ends[i] counts
 // those from i on. None where they have no room.
-fn find_from(
-    img: &[u8],
-    q: &[u8],
-    last: Beyond,
-    count: usize,
-    ends: &mut [usize],
-    scratch: &mut [u8],
-) -> Option<()>
-    requires { Sound img.now × (1 < length q.now) × Ending img.now (last_of q.now) last × (length q.now < length ends.old) × (count ≤ length scratch.old / 24) }
-    ensures { AllFound (rooted img.now) q.now count scratch.old ends.new scratch.new result }
+fn find_from(search: Search, count: usize, ends: &mut [usize], scratch: &mut [u8]) -> Option<()>
+    requires { (1 < length search.query.bytes.now) × (length search.query.bytes.now < length ends.old) × (count ≤ length scratch.old / 24) }
+    ensures { AllFound (rooted search.entry.query.img.now) search.entry.query.bytes.now count scratch.old ends.new scratch.new result }
 {
-    let end = q.len() - 1;
+    let end = search.query.bytes.len() - 1;
     ends[end] = count;
     for i in (0..end).rev() {
-        ends[i] = end_places::find_end(img, q, i, last, ends, scratch)?;
+        ends[i] = end_places::find_end(search, i, ends, scratch)?;
     }
     Some(())
 }
 
 // Finds the places of all ends of the query, if they have room although those of the last byte that repeat count twice.
-fn find_loosely(
-    img: &[u8],
-    q: &[u8],
-    last: Beyond,
-    ends: &mut [usize],
-    scratch: &mut [u8],
-) -> Option<()>
-    requires { Sound img.now × (1 < length q.now) × Ending img.now (last_of q.now) last × (length q.now < length ends.old) }
-    ensures { OnSome result (Tabled (rooted img.now) q.now ends.new scratch.new) }
+fn find_loosely(search: Search, ends: &mut [usize], scratch: &mut [u8]) -> Option<()>
+    requires { (1 < length search.query.bytes.now) × (length search.query.bytes.now < length ends.old) }
+    ensures { OnSome result (Tabled (rooted search.entry.query.img.now) search.entry.query.bytes.now ends.new scratch.new) }
 {
+    let last = search.query.last;
     let most = last.suffixes.count + last.chunks.count;
     if scratch.len() / LOCATION_SIZE < most {
         return None;
     }
-    find_from(img, q, last, most, ends, scratch)
+    find_from(search, most, ends, scratch)
 }
 
 // Finds the places of all ends of the query. None where they have no room.
-fn find_exactly(
-    img: &[u8],
-    q: &[u8],
-    last: Beyond,
-    ends: &mut [usize],
-    scratch: &mut [u8],
-) -> Option<()>
-    requires { Sound img.now × (1 < length q.now) × Ending img.now (last_of q.now) last × (length q.now < length ends.old) }
-    ensures { TableFound (rooted img.now) q.now scratch.old ends.new scratch.new result }
+fn find_exactly(search: Search, ends: &mut [usize], scratch: &mut [u8]) -> Option<()>
+    requires { (1 < length search.query.bytes.now) × (length search.query.bytes.now < length ends.old) }
+    ensures { TableFound (rooted search.entry.query.img.now) search.entry.query.bytes.now scratch.old ends.new scratch.new result }
 {
+    let Query { img, last, .. } = search.query;
     let count = place_lookup::count_both(
         img,
         last.suffixes.at,
@@ -95,24 +79,23 @@ fn find_exactly(
     if scratch.len() / LOCATION_SIZE < count {
         return None;
     }
-    find_from(img, q, last, count, ends, scratch)
+    find_from(search, count, ends, scratch)
 }
 
 // Finds the places of all ends of the query. None where they have no room.
 // Those of the last byte are many, and stand sorted in the image: they are only counted, and exactly only where room is scarce.
-fn find_all(img: &[u8], q: &[u8], ends: &mut [usize], scratch: &mut [u8]) -> Option<()>
-    requires { Sound img.now × (0 < length q.now) × (length q.now < length ends.old) }
-    ensures { TableFound (rooted img.now) q.now scratch.old ends.new scratch.new result }
+fn find_all(search: Search, ends: &mut [usize], scratch: &mut [u8]) -> Option<()>
+    requires { length search.query.bytes.now < length ends.old }
+    ensures { TableFound (rooted search.entry.query.img.now) search.entry.query.bytes.now scratch.old ends.new scratch.new result }
 {
-    let last = last_places(img, q);
-    if q.len() == 1 {
+    if search.query.bytes.len() == 1 {
         ends[1] = 0;
-        ends[0] = end_places::find_end(img, q, 0, last, ends, scratch)?;
+        ends[0] = end_places::find_end(search, 0, ends, scratch)?;
         return Some(());
     }
-    match find_loosely(img, q, last, ends, scratch) {
+    match find_loosely(search, ends, scratch) {
         Some(()) => Some(()),
-        None => find_exactly(img, q, last, ends, scratch),
+        None => find_exactly(search, ends, scratch),
     }
 }
 
@@ -126,8 +109,13 @@ pub fn search_image(img: &[u8], q: &[u8], scratch: &mut [u8], room: usize) -> Re
     if q.is_empty() || image_walk::is_empty(img) {
         return Ok(0);
     }
+    let query = Query {
+        img,
+        bytes: q,
+        last: last_places(img, q),
+    };
     let mut ends = [0usize; 257];
-    let Some(()) = find_all(img, q, &mut ends, scratch) else {
+    let Some(()) = find_all(Search { query }, &mut ends, scratch) else {
         return Err(Refusal::ScratchTooSmall);
     };
     row_buffer::hand_over(scratch, ends[1], ends[0], room)

@@ -3,7 +3,7 @@ use Rattle.end_places.proofs.Laying.{end_over, end_laid}
 use Rattle.end_places.proofs.find_end.Goals as goal
 
 pub returns-in_err-p : goal.returns-in_err-p
-returns-in_err-p c = rw c.from_residual.ensures (end_over c.args.i c.requires.1 c.requires.3 c.in_err-p.ensures)
+returns-in_err-p c = rw c.from_residual.ensures (end_over c.args.i c.requires.0 c.requires.1 c.in_err-p.ensures)
 
 pub returns : goal.returns
-returns c = end_laid c.args.i c.requires.1 c.requires.3 c.in_ok-p.ensures c.tidy.ensures
+returns c = end_laid c.args.i c.requires.0 c.requires.1 c.in_ok-p.ensures c.tidy.ensures

@@ -9,33 +9,35 @@ use Rattle.node_joining.proofs.join_behind.Goals as goal
 
 pub returns-then-is_empty : goal.returns-then-is_empty
 returns-then-is_empty c =
+    let img = c.args.query.img.now in
     let step = c.args.step in
-    joined_at c.args.img.now (step.j - step.i) _ (eqb step.i 0) step.n c.at-e.ensures (joined_none c.args.img.now (step.j - step.i) _ _ (c.is_empty.ensures c.if-is_empty.true) c.requires.5)
+    joined_at img (step.j - step.i) _ (eqb step.i 0) step.n c.at-e.ensures (joined_none img (step.j - step.i) _ _ (c.is_empty.ensures c.if-is_empty.true) c.requires.4)
 
 pub join_last-requires : goal.join_last-requires
-join_last-requires c = (ended_here (eqb c.args.step.i 0) c.at-e.ensures c.requires.0, c.requires.1.here, c.requires.5)
+join_last-requires c = (ended_here (eqb c.args.step.i 0) c.at-e.ensures c.requires.0, c.requires.4)
 
-pub returns-then-j-q : goal.returns-then-j-q
-returns-then-j-q c =
-    let args = c.args in
-    let step = args.step in
-    joined_at args.img.now (step.j - step.i) _ (eqb step.i 0) step.n c.at-e.ensures (behind_last (step.j - step.i) (ended_in args.img.now _) args.img.now args.q.now step.j (omega arith) c.if-j-q.true c.requires.1 c.join_last.ensures)
+pub returns-then-j-query : goal.returns-then-j-query
+returns-then-j-query c =
+    let query = c.args.query in
+    let img = query.img.now in
+    let step = c.args.step in
+    joined_at img (step.j - step.i) _ (eqb step.i 0) step.n c.at-e.ensures (behind_last (step.j - step.i) (ended_in img _) img query.bytes.now step.j (omega arith) c.if-j-query.true query.ending c.join_last.ensures)
 
 pub offset_bounds-ends-j : goal.offset_bounds-ends-j
-offset_bounds-ends-j c = omega (arith, c.requires.4.long, c.well_formed)
+offset_bounds-ends-j c = omega (arith, c.requires.3.long, c.well_formed)
 
 pub offset_bounds-ends-j-2 : goal.offset_bounds-ends-j-2
-offset_bounds-ends-j-2 c = omega (arith, c.requires.4.long, c.well_formed)
+offset_bounds-ends-j-2 c = omega (arith, c.requires.3.long, c.well_formed)
 
 pub join_node-requires : goal.join_node-requires
 join_node-requires c =
     let step = c.args.step in
-    let more : step.j + 1 < length c.args.q.now = omega (arith, c.if-j-q.false) in
-    (ended_here (eqb step.i 0) c.at-e.ensures c.requires.0, c.requires.5, behind_order step.i step.j c.requires.4 c.requires.2 more, omega (arith, behind_below step.i step.j c.requires.4 c.requires.2 more, c.requires.6))
+    let more : step.j + 1 < length c.args.query.bytes.now = omega (arith, c.if-j-query.false) in
+    (ended_here (eqb step.i 0) c.at-e.ensures c.requires.0, c.requires.4, behind_order step.i step.j c.requires.3 c.requires.1 more, omega (arith, behind_below step.i step.j c.requires.3 c.requires.1 more, c.requires.5))
 
 pub returns : goal.returns
 returns c =
-    let args = c.args in
-    let step = args.step in
-    let more : step.j + 1 < length args.q.now = omega (arith, c.if-j-q.false) in
-    joined_at args.img.now (step.j - step.i) _ (eqb step.i 0) step.n c.at-e.ensures (joined_with (step.j - step.i) (ended_in args.img.now _) (behind_places step.i step.j c.requires.4 c.requires.2 more) c.join_node.ensures)
+    let img = c.args.query.img.now in
+    let step = c.args.step in
+    let more : step.j + 1 < length c.args.query.bytes.now = omega (arith, c.if-j-query.false) in
+    joined_at img (step.j - step.i) _ (eqb step.i 0) step.n c.at-e.ensures (joined_with (step.j - step.i) (ended_in img _) (behind_places step.i step.j c.requires.3 c.requires.1 more) c.join_node.ensures)

@@ -9,20 +9,20 @@ use Rattle.searching.proofs.find_all.Goals as goal
 pub find_end-requires : goal.find_end-requires
 find_end-requires c =
     let args = c.args in
-    (c.requires.0, omega arith, c.last_places-last.ensures, laid_one (rooted args.img.now) args.q.now args.ends.now args.scratch.now c.if-q-eq1.true (omega arith))
+    (omega arith, laid_one (rooted args.search.query.img.now) args.search.query.bytes.now args.ends.now args.scratch.now c.if-search-eq1.true (omega arith))
 
 pub returns-in_err-ends : goal.returns-in_err-ends
 returns-in_err-ends c =
-    rw c.from_residual.ensures (one_over _ _ c.if-q-eq1.true (get_or-set_same c.args.ends.now 1 0 0 (omega arith)) c.in_err-ends.ensures)
+    rw c.from_residual.ensures (one_over _ _ c.if-search-eq1.true (get_or-set_same c.args.ends.now 1 0 0 (omega arith)) c.in_err-ends.ensures)
 
-pub returns-then-q-eq1 : goal.returns-then-q-eq1
-returns-then-q-eq1 c = one_laid _ _ c.if-q-eq1.true (get_or-set_same c.args.ends.now 1 0 0 (omega arith)) c.in_ok-ends.ensures
+pub returns-then-search-eq1 : goal.returns-then-search-eq1
+returns-then-search-eq1 c = one_laid _ _ c.if-search-eq1.true (get_or-set_same c.args.ends.now 1 0 0 (omega arith)) c.in_ok-ends.ensures
 
 pub returns-in-Some : goal.returns-in-Some
 returns-in-Some c = record { found = c.in-Some.ensures }
 
 pub find_exactly-requires : goal.find_exactly-requires
-find_exactly-requires c = (c.requires.0, omega arith, c.last_places-last.ensures, omega (arith, c.find_loosely.auto))
+find_exactly-requires c = (omega arith, omega (arith, c.find_loosely.auto))
 
 pub returns-in-None : goal.returns-in-None
 returns-in-None c = found_after c.find_exactly.ensures (search rules)

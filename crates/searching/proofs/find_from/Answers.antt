@@ -10,12 +10,12 @@ use Rattle.searching.proofs.find_from.Goals as goal
 pub loop-i-init : goal.loop-i-init
 loop-i-init c =
     let args = c.args in
-    (laid_last (rooted args.img.now) args.q.now args.ends.now args.scratch.now args.count c.requires.1 c.requires.3 c.requires.4, kept_last (rooted args.img.now) args.q.now args.ends.now args.count c.requires.1 c.requires.3)
+    (laid_last (rooted args.search.query.img.now) args.search.query.bytes.now args.ends.now args.scratch.now args.count c.requires.0 c.requires.1 c.requires.2, kept_last (rooted args.search.query.img.now) args.search.query.bytes.now args.ends.now args.count c.requires.0 c.requires.1)
 
 pub find_end-requires : goal.find_end-requires
 find_end-requires c =
     let turn = c.loop-i in
-    (c.requires.0, omega arith, c.requires.2, laid_at turn.i (turn.i - 1 + 1) (omega arith) turn.invariant.0)
+    (omega arith, laid_at turn.i (turn.i - 1 + 1) (omega arith) turn.invariant.0)
 
 pub returns-in_err-ends : goal.returns-in_err-ends
 returns-in_err-ends c =

@@ -8,4 +8,4 @@ use Rattle.node_joining.specs.Layout.{LaidOut, last_size}
 use Rattle.searching.proofs.find_from.Given as goal
 
 abbrev pub invariant-loop-i : goal.invariant-loop-i
-invariant-loop-i l = LaidOut (rooted l.img) l.q l.i l.ends l.scratch × (get_or l.ends l.i 0 + last_size (rooted l.img) l.q ≡ l.count + sizes (table_from (rooted l.img) l.q l.i))
+invariant-loop-i l = LaidOut (rooted l.search.query.img.now) l.search.query.bytes.now l.i l.ends l.scratch × (get_or l.ends l.i 0 + last_size (rooted l.search.query.img.now) l.search.query.bytes.now ≡ l.count + sizes (table_from (rooted l.search.query.img.now) l.search.query.bytes.now l.i))

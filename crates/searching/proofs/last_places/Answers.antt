@@ -5,22 +5,22 @@ use Rattle.end_places.proofs.Progress.{root_found, laid_found, walked_at, walked
 use Rattle.searching.proofs.last_places.Goals as goal
 
 pub child_of-requires : goal.child_of-requires
-child_of-requires c = walked_table (walked_at [] c.node_at-root.ensures (root_found c.requires.0))
+child_of-requires c = walked_table (walked_at [] c.node_at-root.ensures (root_found ∣ c.requires.0 ∣₁))
 
 pub returns-in_default : goal.returns-in_default
 returns-in_default c =
     let args = c.args in
-    let root = walked_at [] c.node_at-root.ensures (root_found c.requires.0) in
+    let root = walked_at [] c.node_at-root.ensures (root_found ∣ c.requires.0 ∣₁) in
     nothing_ending args.img.now (last_of args.q.now) (child_nothing root _ (last_byte args.q.now c.requires.1) c.in_default.ensures)
 
 pub node_at-n-requires : goal.node_at-n-requires
 node_at-n-requires c =
     let args = c.args in
-    let root = walked_at [] c.node_at-root.ensures (root_found c.requires.0) in
+    let root = walked_at [] c.node_at-root.ensures (root_found ∣ c.requires.0 ∣₁) in
     laid_found (child_found root _ (last_byte args.q.now c.requires.1) c.in-Some.ensures)
 
 pub returns : goal.returns
 returns c =
     let args = c.args in
-    let root = walked_at [] c.node_at-root.ensures (root_found c.requires.0) in
-    walked_ending (walked_at (last_of args.q.now) c.node_at-n.ensures (child_found root _ (last_byte args.q.now c.requires.1) c.in-Some.ensures)) c.requires.0
+    let root = walked_at [] c.node_at-root.ensures (root_found ∣ c.requires.0 ∣₁) in
+    walked_ending (walked_at (last_of args.q.now) c.node_at-n.ensures (child_found root _ (last_byte args.q.now c.requires.1) c.in-Some.ensures)) ∣ c.requires.0 ∣₁

@@ -17,11 +17,21 @@ returns-then-is_empty c =
       | then-is_empty-via-else-is_empty+then-is_empty-2 w ↦ let a = no_index _ _ _ _ _ (sym w.is_empty-else-is_empty.ensures ∙ w.if-is_empty-2.true) refl in record { found = a.0; rows = a.1 }
     ]
 
-pub find_all-requires : goal.find_all-requires
-find_all-requires c =
+pub last_places-requires : goal.last_places-requires
+last_places-requires c =
     let sound = sound_image (λ j. omega (arith, c.type_inv.img j)) (omega arith) c.requires.0 c.requires.1 (sym c.is_empty-else-is_empty.ensures ∙ c.if-is_empty-2.false) in
     let some = eqb-false _ 0 (sym c.is_empty.ensures ∙ c.if-is_empty.false) in
-    (sound, omega (arith, some), search rules)
+    (sound, omega (arith, some))
+
+pub invariant_of-query : goal.invariant_of-query
+invariant_of-query c =
+    let some = eqb-false _ 0 (sym c.is_empty.ensures ∙ c.if-is_empty.false) in
+    record { some = omega (arith, some); ending = ∣ c.last_places.ensures ∣₁ }
+
+pub invariant_of-find_all : goal.invariant_of-find_all
+invariant_of-find_all c =
+    let sound = sound_image (λ j. omega (arith, c.type_inv.img j)) (omega arith) c.requires.0 c.requires.1 (sym c.is_empty-else-is_empty.ensures ∙ c.if-is_empty-2.false) in
+    record { sound = ∣ sound ∣₁ }
 
 pub returns-in_default : goal.returns-in_default
 returns-in_default c =
