@@ -31,9 +31,12 @@ entry_at m base i = location_by Logged m base i
 abbrev pub entry_end : List ℕ → (base i : ℕ) → ℕ
 entry_end m base i = (entry_at m base i).address + le64 m (piece_at m base i)
 
--- the same of a line
+-- of a line: the bytes of the piece of entry i, and where it ends
+abbrev pub length_of : Line → ℕ → ℕ
+length_of v i = le64 v.bytes.now (piece_at v.bytes.now v.base i)
+
 abbrev pub piece_end : Line → ℕ → ℕ
-piece_end v i = (location_of v i).address + le64 v.bytes.now (piece_at v.bytes.now v.base i)
+piece_end v i = (location_of v i).address + length_of v i
 
 -- one of the n entries behind entry i lives together with its piece at an address inside it
 abbrev pub lives_inside : (at : ℕ → Location) (end : ℕ → ℕ) (n i : ℕ) → Bool

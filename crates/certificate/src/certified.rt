@@ -1,11 +1,10 @@
 // The entries of a certificate in the order of their pieces, and whether a piece behind another lives together with it inside it.
 
 ghost use Rattle.std.specs.Prelude.{◌≡◌, not, ◌&&◌, ℕ, ◌+◌, ◌-◌, ◌≤◌, ◌<◌, ltb};
-ghost use Rattle.words.specs.Words.{le64};
 ghost use Rattle.definitions.specs.Calls.{last_number};
 ghost use Rattle.lined_locations.specs.declared.LineKind.TheVariants.{Logged};
 ghost use Rattle.lined_locations.specs.Line.{location_of};
-ghost use Rattle.certificate.specs.Entries.{all, piece_at, piece_end, lives_inside};
+ghost use Rattle.certificate.specs.Entries.{all, length_of, piece_end, lives_inside};
 ghost use Rattle.certificate.specs.Groups.{Group, NoneBeyond, CreatedBefore, Apart};
 
 use lined_locations::{CERTIFIED_SIZE, Ordered};
@@ -23,7 +22,7 @@ impl Certified<'_> {
     // The length of the piece of entry i.
     pub fn piece_size(self, i: usize) -> u64
         requires { i < self.entries.line.count }
-        ensures { result ≡ le64 self.entry.entries.line.bytes.now (piece_at self.entry.entries.line.bytes.now self.entry.entries.line.base i) }
+        ensures { result ≡ length_of self.entry.entries.line i }
     {
         let line = self.entries.line;
         let number = words::get64(line.bytes, line.base + CERTIFIED_SIZE * i) as usize;

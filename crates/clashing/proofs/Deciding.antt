@@ -25,10 +25,11 @@ use Rattle.lined_locations.specs.declared.LineKind.{LineKind}
 use Rattle.lined_locations.specs.declared.LineKind.TheVariants.{Logged}
 use Rattle.lined_locations.specs.Places.{location_by}
 use Rattle.lined_locations.specs.Line.{location_of}
+use Rattle.certificate.specs.Entries.{piece_end}
 use Rattle.certificate.specs.Stored.{pieces_in, Stored}
 use Rattle.certificate.proofs.Stored.{stored_count, stored_location, stored_length, stored_some, stored_small}
 use Rattle.clashing.specs.Strikes.{strikes}
-use Rattle.clashing.proofs.Striking.{end_of, Struck, strikes_is}
+use Rattle.clashing.proofs.Striking.{Struck, strikes_is}
 use Rattle.clashing.proofs.Splitting.{Split}
 
 -- a block of n bytes, one or more, that lives at x
@@ -41,7 +42,7 @@ pub record Asked (x : Location) (n : ℕ) (b : Block) : Type 0 where
 -- entry i of the line lives together with x, and the two have an address in common
 record Hit (v : Line) (x : Location) (n i : ℕ) : Type 0 where
   together : Together x (location_of v i)
-  across : x.address < end_of v i
+  across : x.address < piece_end v i
   across' : (location_of v i).address < x.address + n
 
 -- the line is that of the certificate of the pieces that h counts
@@ -69,7 +70,7 @@ module _ (h : Header) (v : Line) (s : Known h v) (x : Location) (n : ℕ) (b : B
     has_address : (location_of v i).address ≡ (entry es i).piece.at.address
     has_address = ap (λ (y : Location). y.address) here
 
-    has_size : end_of v i ≡ (location_of v i).address + length (entry es i).piece.bytes
+    has_size : piece_end v i ≡ (location_of v i).address + length (entry es i).piece.bytes
     has_size = ap (λ (k : ℕ). (location_of v i).address + k) (stored_length v.bytes.now s.bytes h v.count s.stored v.base s.base i l)
 
     some_bytes : 0 < length (entry es i).piece.bytes

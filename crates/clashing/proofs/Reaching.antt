@@ -11,8 +11,9 @@ use Rattle.conflicts.specs.Lined.{Lined}
 use Rattle.conflicts.proofs.Line.{upto}
 use Rattle.lined_locations.specs.declared.Line.{Line}
 use Rattle.lined_locations.specs.Line.{location_of}
+use Rattle.certificate.specs.Entries.{piece_end}
 use Rattle.clashing.specs.Strikes.{strikes, OneAddress}
-use Rattle.clashing.proofs.Striking.{end_of, Struck, strikes_is}
+use Rattle.clashing.proofs.Striking.{Struck, strikes_is}
 
 module _ (v : Line) (x : Location) (g : ℕ) where
   -- nothing is left
@@ -37,7 +38,7 @@ module _ (v : Line) (x : Location) (g : ℕ) where
             )
 
     -- the last lives together with x and goes beyond its address
-    pub reach_found : x.created < (location_of v (k - 1)).destroyed → x.address < end_of v (k - 1) → true ≡ strikes v (k - g) g x
+    pub reach_found : x.created < (location_of v (k - 1)).destroyed → x.address < piece_end v (k - 1) → true ≡ strikes v (k - g) g x
     reach_found d b = sym ((strikes_is v x g k (omega arith)).1 (record {
       index = k - 1;
       low = omega arith;
@@ -47,7 +48,7 @@ module _ (v : Line) (x : Location) (g : ℕ) where
     }))
 
   -- the last does not go beyond its address
-  pub reach_on : (k : ℕ) → g < k → end_of v (k - 1) ≤ x.address → strikes v (k - 1 - g) g x ≡ strikes v (k - g) g x
+  pub reach_on : (k : ℕ) → g < k → piece_end v (k - 1) ≤ x.address → strikes v (k - 1 - g) g x ≡ strikes v (k - g) g x
   reach_on k h b = same_test (strikes v (k - 1 - g) g x) (strikes v (k - g) g x)
       (λ e. (strikes_is v x g k (omega arith)).1 (back ((strikes_is v x g (k - 1) (omega arith)).0 e)))
       (λ e. (strikes_is v x g (k - 1) (omega arith)).1 (on ((strikes_is v x g k (omega arith)).0 e)))
@@ -60,4 +61,4 @@ module _ (v : Line) (x : Location) (g : ℕ) where
         where
           go : (w.index < k - 1) ⊎ (k - 1 ≤ w.index) → Struck v x g (k - 1)
           go (inl l) = record { index = w.index; low = w.low; high = l; together = w.together; beyond = w.beyond }
-          go (inr l) = absurd (let z : w.index ≡ k - 1 = omega (arith, w.high) in omega (arith, subst (λ (j : ℕ). x.address < end_of v j) z w.beyond))
+          go (inr l) = absurd (let z : w.index ≡ k - 1 = omega (arith, w.high) in omega (arith, subst (λ (j : ℕ). x.address < piece_end v j) z w.beyond))

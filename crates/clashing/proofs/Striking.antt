@@ -12,11 +12,8 @@ use Rattle.definitions.proofs.Views.{lt_or_le}
 use Rattle.conflicts.proofs.Together.{Together, meets_is}
 use Rattle.lined_locations.specs.declared.Line.{Line}
 use Rattle.lined_locations.specs.Line.{location_of}
-use Rattle.clashing.specs.Strikes.{length_of, strikes}
-
--- the first address behind the piece of entry i
-abbrev pub end_of : Line → ℕ → ℕ
-end_of v i = (location_of v i).address + length_of v i
+use Rattle.certificate.specs.Entries.{piece_end}
+use Rattle.clashing.specs.Strikes.{strikes}
 
 module _ (v : Line) (x : Location) where
   -- an entry from g on and below q that lives together with x and goes beyond its address
@@ -25,11 +22,11 @@ module _ (v : Line) (x : Location) where
     pub low : g ≤ index
     pub high : index < q
     pub together : Together x (location_of v index)
-    pub beyond : x.address < end_of v index
+    pub beyond : x.address < piece_end v index
 
   -- the test of one entry
   abbrev one : ℕ → Bool
-  one i = meets x (location_of v i) && ltb x.address (end_of v i)
+  one i = meets x (location_of v i) && ltb x.address (piece_end v i)
 
   struck_is : (q k i : ℕ) → q ≡ i + k → strikes v k i x ≡ true ↔ Struck i q
   unfolding strikes
@@ -38,15 +35,15 @@ module _ (v : Line) (x : Location) where
     where
       to : (strikes v k (suc i) x ≡ true ↔ Struck (suc i) q) → (one i ≡ true) ⊎ (strikes v k (suc i) x ≡ true) → Struck i q
       to ih (inl e) =
-          let b : (meets x (location_of v i) ≡ true) × (ltb x.address (end_of v i) ≡ true) = both (meets x (location_of v i)) (ltb x.address (end_of v i)) e in
-          record { index = i; low = omega arith; high = omega arith; together = (meets_is x (location_of v i)).0 b.0; beyond = ltb-true x.address (end_of v i) b.1 }
+          let b : (meets x (location_of v i) ≡ true) × (ltb x.address (piece_end v i) ≡ true) = both (meets x (location_of v i)) (ltb x.address (piece_end v i)) e in
+          record { index = i; low = omega arith; high = omega arith; together = (meets_is x (location_of v i)).0 b.0; beyond = ltb-true x.address (piece_end v i) b.1 }
       to ih (inr e) = let w : Struck (suc i) q = ih.0 e in record { index = w.index; low = omega (arith, w.low); high = w.high; together = w.together; beyond = w.beyond }
 
       fro : (strikes v k (suc i) x ≡ true ↔ Struck (suc i) q) → (w : Struck i q) → (i < w.index) ⊎ (w.index ≤ i) → (one i || strikes v k (suc i) x) ≡ true
       fro ih w (inl l) = or_right (one i) (ih.1 (record { index = w.index; low = l; high = w.high; together = w.together; beyond = w.beyond }))
       fro ih w (inr l) =
           let z : w.index ≡ i = omega (arith, w.low) in
-          or_left (strikes v k (suc i) x) (subst (λ (j : ℕ). one j ≡ true) z (and_true ((meets_is x (location_of v w.index)).1 w.together) (lt-ltb x.address (end_of v w.index) w.beyond)))
+          or_left (strikes v k (suc i) x) (subst (λ (j : ℕ). one j ≡ true) z (and_true ((meets_is x (location_of v w.index)).1 w.together) (lt-ltb x.address (piece_end v w.index) w.beyond)))
 
       go : (strikes v k (suc i) x ≡ true ↔ Struck (suc i) q) → (one i || strikes v k (suc i) x) ≡ true ↔ Struck i q
       go ih = ((λ e. to ih (either (one i) (strikes v k (suc i) x) e)), λ w. fro ih w (lt_or_le i w.index))

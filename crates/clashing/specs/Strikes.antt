@@ -1,23 +1,18 @@
 -- Which entries of a certificate a block strikes. Assumes nothing.
-use Rattle.std.specs.Prelude.{ℕ, zero, suc, ◌+◌, ◌≤◌, ◌<◌, ◌≡◌, Bool, false, ◌&&◌, ◌||◌, List, length, ltb}
-use Rattle.words.specs.Words.{le64}
+use Rattle.std.specs.Prelude.{ℕ, zero, suc, ◌≤◌, ◌<◌, ◌≡◌, Bool, false, ◌&&◌, ◌||◌, List, length, ltb}
 use Rattle.definitions.specs.Location.{Location, meets}
 use Rattle.definitions.specs.Blocks.{Block}
 use Rattle.definitions.specs.Conflicts.{conflicts_with}
 use Rattle.memory_header.specs.Layout.{Header}
 use Rattle.lined_locations.specs.declared.Line.{Line}
 use Rattle.lined_locations.specs.Line.{location_of}
-use Rattle.certificate.specs.Entries.{piece_at}
+use Rattle.certificate.specs.Entries.{piece_end}
 use Rattle.certificate.specs.Stored.{pieces_in}
-
--- the bytes of the piece of entry i
-abbrev pub length_of : Line → ℕ → ℕ
-length_of v i = le64 v.bytes.now (piece_at v.bytes.now v.base i)
 
 -- one of k entries from i on lives together with x and goes beyond its address
 unfoldable pub strikes : Line → (k i : ℕ) → Location → Bool
 strikes v zero i x = false
-strikes v (suc k) i x = (meets x (location_of v i) && ltb x.address ((location_of v i).address + length_of v i)) || strikes v k (suc i) x
+strikes v (suc k) i x = (meets x (location_of v i) && ltb x.address (piece_end v i)) || strikes v k (suc i) x
 
 -- the entries from g on and below q are at one address, and created before x ends
 pub record OneAddress (v : Line) (g q : ℕ) (x : Location) : Type 0 where
