@@ -1,12 +1,10 @@
 -- Nodes with one child and no lists read one as another. Assumes nothing.
 use Prim.Native.Nat.{ℕ, ◌+◌, ◌*◌, ◌-◌, ◌≤◌, ◌<◌}
 use native.Mathlib.Omega.{arith}
-use mathlib.Core.Bool.{false, true}
+use mathlib.Core.Bool.{true}
 use mathlib.Core.List.{List}
 use mathlib.Core.Path.{◌∙◌, ◌≡◌, ap, refl, subst, sym}
-use lib.Dec.{eqb}
 use lib.ListN.{get_or, length}
-use borrow.Author.Tests.{eqb-true}
 use Rattle.words.specs.Words.{le64}
 use Rattle.image_format.proofs.Heads.{head_lists, list_past, lists_ready}
 use Rattle.image_format.proofs.Nodes.{child_node, end_sparse, node_done, node_table, run_end, run_on, run_refused, run_start}
@@ -15,13 +13,6 @@ use Rattle.image_format.proofs.Entries.{fault_end, fault_on}
 use Rattle.kinds.specs.Kinds.{fits}
 use Rattle.image_format.specs.Reading.{Step, Table, done, fault, head, open_table, read_child, read_head, read_node, sparse_table, table}
 use Rattle.fields.specs.Singles.{SingleBeforeChild, SinglesBelow}
-
-pub not_so : {P : Type 0} → false ≡ true → P
-not_so e = let z : ◌≡◌ {A = ℕ} 0 1 = cc in absurd (omega arith)
-
--- with a test that holds
-pub by_test : {P : Type 0} (n m : ℕ) → (n ≡ m → P) → eqb n m ≡ true → P
-by_test n m f e = f (eqb-true n m e)
 
 fits_one : fits 3 1 ≡ true
 unfolding fits

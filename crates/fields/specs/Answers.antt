@@ -8,7 +8,7 @@ use Rattle.fields.specs.declared.Counts.{Counts}
 use Rattle.fields.specs.declared.Past.{Past}
 use Rattle.fields.specs.declared.ListEnd.{ListEnd}
 use Rattle.fields.specs.declared.Head.{Head}
-use Rattle.fields.specs.declared.Children.{Children}
+use Rattle.fields.specs.declared.children.Children.{Children}
 use Rattle.fields.specs.declared.Due.{Due}
 use Rattle.fields.specs.declared.Due.TheVariants as due
 

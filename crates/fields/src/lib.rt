@@ -1,13 +1,15 @@
 // The fields of one node of an image in layout order.
 #![tactic(auto)]
 
-ghost use Rattle.std.specs.Prelude.{◌≡◌, ◌+◌, ◌*◌, ◌≤◌, ◌<◌, length, eqb, cond, true, IfErr};
+ghost use Rattle.std.specs.Prelude.{◌≡◌, ◌+◌, ◌*◌, ◌≤◌, length, eqb, cond, true, IfOk, IfErr};
 ghost use Rattle.kinds.specs.Kinds.{kind_number};
-ghost use Rattle.image_format.specs.Reading.{offset, slot_turn, slot_at, turn_at, all_met, read_list, read_head, open_table};
-ghost use Rattle.fields.specs.Answers.{step_of, list_of, head_of, table_in, table_of, slot_of, turn_of};
-ghost use Rattle.image_format.specs.Turns.{Within, Skips};
+ghost use Rattle.image_format.specs.Reading.{Table, all_met, read_list, read_head, open_table};
+ghost use Rattle.fields.specs.Answers.{step_of, list_of, head_of, table_of};
 ghost use Rattle.fields.specs.Singles.{Bare, SingleWithoutLists, SingleBeforeChild, SinglesBelow};
 
+pub mod children;
+
+pub use children::Children;
 use definitions::{LOCATION_SIZE, Refusal};
 use image_format::{DENSE_ENTRIES, DENSE_SIZE, SLOT_SIZE};
 use kinds::NodeKind;
@@ -40,17 +42,6 @@ pub struct Head {
     pub kind: NodeKind,
     pub at: usize,
     pub entries: usize,
-}
-
-// The children of a node: where its table stands and how many entries that has, where the first flag is due, and how
-// many turns there are.
-#[derive(Clone, Copy)]
-pub struct Children {
-    pub kind: NodeKind,
-    pub base: usize,
-    pub count: usize,
-    pub start: usize,
-    pub turns: usize,
 }
 
 // What stands where a child is due.
@@ -110,14 +101,16 @@ pub fn read_head(s: &[u8], at: usize) -> Result<Head, Refusal>
 }
 
 // The table of a node of kind Dense at an index.
-fn open_dense(s: &[u8], at: usize) -> Result<Children, Refusal>
+fn open_dense<'a>(s: &'a [u8], at: usize) -> Result<Children<'a>, Refusal>
     requires { at ≤ length s.now }
-    ensures { table_of result ≡ open_table s.now 1 at }
+    ensures table { table_of result ≡ open_table s.now 1 at }
+    ensures bytes { IfOk result (λ c. c.bytes.now ≡ s.now) }
 {
     if s.len() - at < DENSE_SIZE {
         return Err(Refusal::CutShort);
     }
     Ok(Children {
+        bytes: s,
         kind: NodeKind::Dense,
         base: at,
         count: 0,
@@ -138,9 +131,10 @@ fn turns_of(kind: NodeKind, n: usize) -> usize
 }
 
 // The table at an index, of a node of a kind.
-pub fn open_table(s: &[u8], kind: NodeKind, at: usize) -> Result<Children, Refusal>
+pub fn open_table<'a>(s: &'a [u8], kind: NodeKind, at: usize) -> Result<Children<'a>, Refusal>
     requires { at ≤ length s.now }
-    ensures { table_of result ≡ open_table s.now (kind_number kind) at }
+    ensures table { table_of result ≡ open_table s.now (kind_number kind) at }
+    ensures bytes { IfOk result (λ c. c.bytes.now ≡ s.now) }
 {
     if kind == NodeKind::Dense {
         return open_dense(s, at);
@@ -155,6 +149,7 @@ pub fn open_table(s: &[u8], kind: NodeKind, at: usize) -> Result<Children, Refus
     let base = at + 8;
     tables::table_fault(s, base, count)?;
     Ok(Children {
+        bytes: s,
         kind,
         base,
         count,
@@ -163,66 +158,11 @@ pub fn open_table(s: &[u8], kind: NodeKind, at: usize) -> Result<Children, Refus
     })
 }
 
-// What stands at an index where the flag for an offset is due.
-fn flag_at(s: &[u8], kind: NodeKind, off: u64, at: usize) -> Result<Due, Refusal>
-    ensures { turn_of result ≡ slot_turn s.now (kind_number kind) at (offset off) }
+// The end of the children of a node of a kind, so many met: of kind Dense they must be enough.
+pub fn all_met(kind: NodeKind, met: usize, past: Past) -> Result<Past, Refusal>
+    ensures { (t : Table) → t.kind ≡ kind_number kind → step_of result ≡ all_met t past.at met past.nodes past.entries }
 {
-    if off != at as u64 {
-        return Err(Refusal::ImageBroken);
-    }
-    if s.len() <= at {
-        return Err(Refusal::CutShort);
-    }
-    match s[at] {
-        1 => Ok(Due::Child),
-        0 if kind == NodeKind::Dense => Ok(Due::Gap),
-        _ => Err(Refusal::ImageBroken),
-    }
-}
-
-// The offset that turn i judges: kinds Dense and ByArrival have one for each turn, kind ByByte for each byte that its table has.
-fn offset_at(s: &[u8], c: Children, i: usize) -> Option<u64>
-    requires { Within (length s.now) (table_in c) × (i < c.turns) }
-    ensures { slot_of result ≡ slot_at s.now (table_in c) i }
-{
-    match c.kind {
-        NodeKind::Dense => Some(words::get64(s, c.base + i * 8)),
-        NodeKind::ByArrival => Some(words::get64(s, c.base + i * SLOT_SIZE + 1)),
-        NodeKind::ByByte => {
-            let j = tables::find_byte(s, c.base, c.count, i as u8)?;
-            Some(words::get64(s, c.base + j * SLOT_SIZE + 1))
-        }
-    }
-}
-
-// What stands at an index at turn i.
-pub fn turn_at(s: &[u8], c: Children, i: usize, at: usize) -> Result<Due, Refusal>
-    requires { Within (length s.now) (table_in c) × (i < c.turns) }
-    ensures { turn_of result ≡ turn_at s.now (table_in c) i at }
-{
-    let Some(off) = offset_at(s, c, i) else {
-        return Ok(Due::Nothing);
-    };
-    flag_at(s, c.kind, off, at)
-}
-
-// The next turn from turn i on at which an offset is judged, or the last: of kind ByByte the bytes between are not in the table.
-pub fn next_turn(s: &[u8], c: Children, i: usize) -> usize
-    requires { Within (length s.now) (table_in c) × (i < c.turns) }
-    ensures { Skips s.now (table_in c) i result }
-{
-    if c.kind == NodeKind::ByByte {
-        tables::least_byte(s, c.base, c.count, i)
-    } else {
-        i
-    }
-}
-
-// The end of the children, so many met: of kind Dense they must be enough.
-pub fn all_met(c: Children, met: usize, past: Past) -> Result<Past, Refusal>
-    ensures { step_of result ≡ all_met (table_in c) past.at met past.nodes past.entries }
-{
-    if c.kind == NodeKind::Dense && !kinds::fits_kind(NodeKind::Dense, met) {
+    if kind == NodeKind::Dense && !kinds::fits_kind(NodeKind::Dense, met) {
         return Err(Refusal::ImageBroken);
     }
     Ok(past)

@@ -4,16 +4,14 @@
 ghost use Rattle.std.specs.Prelude.{◌≡◌, ◌+◌, ◌*◌, ◌≤◌, ◌<◌, length};
 ghost use Rattle.image_format.specs.Reading.{read_table, read_node, read_counts, read_root, read_image};
 ghost use Rattle.fields.specs.Answers.{layout_of, step_of, table_in};
-ghost use Rattle.image_format.specs.Turns.{Within};
 
 use definitions::Refusal;
 use fields::{Children, Counts, Due, Past};
 
 // The children of a node, in the order of the layout, with as many levels yet allowed as left says.
 #[cycle(read_node_read_table)]
-fn read_table(s: &[u8], c: Children, left: usize) -> Result<Past, Refusal>
-    requires { Within (length s.now) (table_in c) }
-    ensures { step_of result ≡ read_table s.now (read_node s.now left) (table_in c) }
+fn read_table(c: Children, left: usize) -> Result<Past, Refusal>
+    ensures { step_of result ≡ read_table c.entry.bytes.now (read_node c.entry.bytes.now left) (table_in c.entry) }
 {
     let mut past = Past {
         at: c.start,
@@ -23,13 +21,13 @@ fn read_table(s: &[u8], c: Children, left: usize) -> Result<Past, Refusal>
     let mut met = 0;
     let mut i = 0;
     while i < c.turns {
-        let turn = fields::next_turn(s, c, i);
+        let turn = c.next_turn(i);
         i = turn + 1;
-        match fields::turn_at(s, c, turn, past.at)? {
+        match c.turn_at(turn, past.at)? {
             Due::Nothing => {}
             Due::Gap => past.at += 1,
             Due::Child => {
-                let child = read_node(s, past.at + 1, left)?;
+                let child = read_node(c.bytes, past.at + 1, left)?;
                 met += 1;
                 past = Past {
                     at: child.at,
@@ -39,7 +37,7 @@ fn read_table(s: &[u8], c: Children, left: usize) -> Result<Past, Refusal>
             }
         }
     }
-    fields::all_met(c, met, past)
+    fields::all_met(c.kind, met, past)
 }
 
 // The node at an index, with as many levels yet allowed as left says: where there is none, the flag before it is wrong.
@@ -56,7 +54,7 @@ fn read_node(s: &[u8], at: usize, left: usize) -> Result<Past, Refusal>
     }
     let head = fields::read_head(s, at + fields::SINGLE_SIZE * singles)?;
     let children = fields::open_table(s, head.kind, head.at)?;
-    let past = read_table(s, children, levels - 1)?;
+    let past = read_table(children, levels - 1)?;
     Ok(Past {
         at: past.at,
         nodes: past.nodes + 1 + singles,

@@ -20,7 +20,6 @@ use Rattle.location_lists.specs.Lists.{held, Within, AreLists, lists_in}
 use Rattle.location_lists.specs.declared.List.{List as Listing}
 use Rattle.location_lists.specs.declared.Lists.{Lists as Walked}
 use Rattle.image_format.specs.Held.{Entry}
-pub use Rattle.fields.proofs.Singles.{by_test}
 use Rattle.fields.specs.Singles.{Bare, SingleWithoutLists}
 use Rattle.image_walk.specs.Parts.{list_in, parts_at}
 use Rattle.image_walk.specs.Tables.{slot_in}

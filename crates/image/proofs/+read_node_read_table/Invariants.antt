@@ -14,8 +14,8 @@ decreases-read_table l = 2 * l.left + 1
 
 abbrev pub invariant-read_table-loop-i : goal.invariant-read_table-loop-i
 invariant-read_table-loop-i l =
-    (l.i ≤ l.c.turns) × (l.past.at ≤ length l.s) × (l.met + l.past.nodes + l.past.entries ≤ l.past.at) ×
-    (read_turns l.s (read_node l.s l.left) (table_in l.c) (l.c.turns - l.i) l.i l.past.at l.met l.past.nodes l.past.entries ≡ read_table l.s (read_node l.s l.left) (table_in l.c))
+    (l.i ≤ l.c.turns) × (l.past.at ≤ length l.c.bytes.now) × (l.met + l.past.nodes + l.past.entries ≤ l.past.at) ×
+    (read_turns l.c.bytes.now (read_node l.c.bytes.now l.left) (table_in l.c) (l.c.turns - l.i) l.i l.past.at l.met l.past.nodes l.past.entries ≡ read_table l.c.bytes.now (read_node l.c.bytes.now l.left) (table_in l.c))
 
 abbrev pub decreases-read_table-loop-i : goal.decreases-read_table-loop-i
 decreases-read_table-loop-i l = l.c.turns - l.i
