@@ -13,6 +13,7 @@ use lib.ListN.{length}
 use lib.Dec.{leb, eqb}
 use Rattle.definitions.proofs.Views.{Eq, eq, Le, le}
 use Rattle.trie.specs.Build.{arrived, by_byte, ascending, kept_order, Rising}
+use Rattle.trie.proofs.Placed.{behind_mem, placed_mem, mem_placed}
 
 -- no byte twice
 abbrev pub Distinct : List ℕ → Type 0
@@ -25,17 +26,9 @@ pub arrived_mem : {x : ℕ} (b : ℕ) (cs : List ℕ) → Mem x (arrived b cs) �
 arrived_mem b [] h = split h
 arrived_mem {x} b (c ∷ cs) h = go (eqb c b) (arrived_mem b cs) h
   where
-    tail : (x ≡ b) ⊎ Mem x cs → (x ≡ b) ⊎ Mem x (c ∷ cs)
-    tail (inl e) = inl e
-    tail (inr k) = inr (later k)
-
-    put : (Mem x (arrived b cs) → (x ≡ b) ⊎ Mem x cs) → (x ≡ c) ⊎ Mem x (arrived b cs) → (x ≡ b) ⊎ Mem x (c ∷ cs)
-    put ih (inl e) = inr (here e)
-    put ih (inr k) = tail (ih k)
-
     go : (o : Bool) → (Mem x (arrived b cs) → (x ≡ b) ⊎ Mem x cs) → Mem x (cond o (c ∷ cs) (c ∷ arrived b cs)) → (x ≡ b) ⊎ Mem x (c ∷ cs)
     go true ih h = inr h
-    go false ih h = put ih (split h)
+    go false ih h = behind_mem ih h
 
 pub arrived_new : (b : ℕ) (cs : List ℕ) → Mem b (arrived b cs)
 arrived_new b [] = here refl
@@ -49,13 +42,10 @@ pub arrived_old : {x : ℕ} (b : ℕ) (cs : List ℕ) → Mem x cs → Mem x (ar
 arrived_old b [] h = later h
 arrived_old {x} b (c ∷ cs) h = go (eqb c b) (arrived_old b cs) h
   where
-    put : (Mem x cs → Mem x (arrived b cs)) → (x ≡ c) ⊎ Mem x cs → Mem x (c ∷ arrived b cs)
-    put ih (inl e) = here e
-    put ih (inr k) = later (ih k)
-
     go : (o : Bool) → (Mem x cs → Mem x (arrived b cs)) → Mem x (c ∷ cs) → Mem x (cond o (c ∷ cs) (c ∷ arrived b cs))
     go true ih h = h
-    go false ih h = put ih (split h)
+    go false ih (here e) = here e
+    go false ih (later k) = later (ih k)
 
 pub distinct_arrived : (b : ℕ) (cs : List ℕ) → Distinct cs → Distinct (arrived b cs)
 distinct_arrived b [] d = ((λ h. not-nil h), tt)
@@ -73,34 +63,12 @@ distinct_arrived b (c ∷ cs) d = go (eqb c b) (eq c b) (distinct_arrived b cs d
 
 pub by_byte_mem : {x : ℕ} (b : ℕ) (cs : List ℕ) → Mem x (by_byte b cs) → (x ≡ b) ⊎ Mem x cs
 by_byte_mem b [] h = split h
-by_byte_mem {x} b (c ∷ cs) h = go (leb b c) (by_byte_mem b cs) h
-  where
-    tail : (x ≡ b) ⊎ Mem x cs → (x ≡ b) ⊎ Mem x (c ∷ cs)
-    tail (inl e) = inl e
-    tail (inr k) = inr (later k)
-
-    put : (Mem x (by_byte b cs) → (x ≡ b) ⊎ Mem x cs) → (x ≡ c) ⊎ Mem x (by_byte b cs) → (x ≡ b) ⊎ Mem x (c ∷ cs)
-    put ih (inl e) = inr (here e)
-    put ih (inr k) = tail (ih k)
-
-    go : (o : Bool) → (Mem x (by_byte b cs) → (x ≡ b) ⊎ Mem x cs) → Mem x (cond o (b ∷ c ∷ cs) (c ∷ by_byte b cs)) → (x ≡ b) ⊎ Mem x (c ∷ cs)
-    go true ih h = split h
-    go false ih h = put ih (split h)
+by_byte_mem b (c ∷ cs) h = placed_mem b c cs (by_byte b cs) (leb b c) (by_byte_mem b cs) h
 
 pub mem_by_byte : {x : ℕ} (b : ℕ) (cs : List ℕ) → (x ≡ b) ⊎ Mem x cs → Mem x (by_byte b cs)
 mem_by_byte b [] (inl e) = here e
 mem_by_byte b [] (inr h) = later h
-mem_by_byte {x} b (c ∷ cs) h = go (leb b c) (mem_by_byte b cs) h
-  where
-    put : ((x ≡ b) ⊎ Mem x cs → Mem x (by_byte b cs)) → (x ≡ c) ⊎ Mem x cs → Mem x (c ∷ by_byte b cs)
-    put ih (inl e) = here e
-    put ih (inr k) = later (ih (inr k))
-
-    go : (o : Bool) → ((x ≡ b) ⊎ Mem x cs → Mem x (by_byte b cs)) → (x ≡ b) ⊎ Mem x (c ∷ cs) → Mem x (cond o (b ∷ c ∷ cs) (c ∷ by_byte b cs))
-    go true ih (inl e) = here e
-    go true ih (inr k) = later k
-    go false ih (inl e) = later (ih (inl e))
-    go false ih (inr k) = put ih (split k)
+mem_by_byte b (c ∷ cs) h = mem_placed b c cs (by_byte b cs) (leb b c) (mem_by_byte b cs) h
 
 pub ascending_mem : {x : ℕ} (bs : List ℕ) → Mem x (ascending bs) → Mem x bs
 ascending_mem {x = x} [] h = elim h [ ]

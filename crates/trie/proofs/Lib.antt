@@ -8,6 +8,7 @@ pub mod Local
 pub mod Union
 pub mod Fronts
 pub mod Test
+pub mod Placed
 pub mod BuildBytes
 pub mod BuildPaths
 pub mod BuildLists

@@ -7,7 +7,7 @@ use mathlib.Core.List.{List, [], ◌∷◌, ◌++◌, Memᴰ as Mem}
 use mathlib.Core.Option.{Option, none, some}
 use lib.Seq.{append_snoc}
 use Rattle.definitions.specs.Location.{Location}
-use Rattle.trie.specs.Trie.{Node, child_of, walk, node_at, IsNode, lists_or_none, lists_at}
+use Rattle.trie.specs.Trie.{Lists, Node, child_of, walk, node_at, IsNode, lists_or_none, lists_at}
 
 pub walk_append : (p q : List ℕ) (o : Option Node) → walk (p ++ q) o ≡ walk q (walk p o)
 walk_append [] q o = refl
@@ -42,26 +42,21 @@ module _ (n : Node) where
 
   -- ── a list with a member is a node's ──
 
-  pub in_chunks_node : {l : Location} (p : List ℕ) → Mem l (lists_at n p).chunks → IsNode n p
-  in_chunks_node {l} p h = go (node_at n p) refl h
+  in_list_node : {l : Location} (f : Lists → List Location) → f (lists_or_none none) ≡ [] → (p : List ℕ) → Mem l (f (lists_at n p)) → IsNode n p
+  in_list_node {l} f z p h = go (node_at n p) refl h
     where
-      go : (o : Option Node) → node_at n p ≡ o → Mem l (lists_or_none o).chunks → IsNode n p
-      go none e k = absurd (not-nil k)
+      go : (o : Option Node) → node_at n p ≡ o → Mem l (f (lists_or_none o)) → IsNode n p
+      go none e k = absurd (not-nil (subst (Mem l) z k))
       go (some m) e k = record { node = m; there = e }
+
+  pub in_chunks_node : {l : Location} (p : List ℕ) → Mem l (lists_at n p).chunks → IsNode n p
+  in_chunks_node p h = in_list_node (λ (x : Lists). x.chunks) refl p h
 
   pub in_prefixes_node : {l : Location} (p : List ℕ) → Mem l (lists_at n p).prefixes → IsNode n p
-  in_prefixes_node {l} p h = go (node_at n p) refl h
-    where
-      go : (o : Option Node) → node_at n p ≡ o → Mem l (lists_or_none o).prefixes → IsNode n p
-      go none e k = absurd (not-nil k)
-      go (some m) e k = record { node = m; there = e }
+  in_prefixes_node p h = in_list_node (λ (x : Lists). x.prefixes) refl p h
 
   pub in_suffixes_node : {l : Location} (p : List ℕ) → Mem l (lists_at n p).suffixes → IsNode n p
-  in_suffixes_node {l} p h = go (node_at n p) refl h
-    where
-      go : (o : Option Node) → node_at n p ≡ o → Mem l (lists_or_none o).suffixes → IsNode n p
-      go none e k = absurd (not-nil k)
-      go (some m) e k = record { node = m; there = e }
+  in_suffixes_node p h = in_list_node (λ (x : Lists). x.suffixes) refl p h
 
   -- what stands behind a node's path, by a walk from the node
   pub lists_behind : (p : List ℕ) (m : Node) → node_at n p ≡ some m → (q : List ℕ) → lists_at n (p ++ q) ≡ lists_at m q
