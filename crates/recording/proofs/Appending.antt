@@ -8,10 +8,11 @@ use mathlib.Core.List.Memᴰ.{append_cases}
 use mathlib.Core.List.{List, ◌++◌, Memᴰ as Mem}
 use lib.ListN.{length, get_or, length-append}
 use lib.Seq.{sets, length-sets}
+use Rattle.std.proofs.lemmas.Bool.{cases_lt}
 use Rattle.words.specs.Holding.{Holds}
 use Rattle.words.proofs.Laws.{Outside}
 use Rattle.words.proofs.Holding.{holds_sets}
-use Rattle.words.proofs.Parts.{lt_or_ge, get_d_sets, get_or_sets_out, sets_over}
+use Rattle.words.proofs.Parts.{get_d_sets, get_or_sets_out, sets_over}
 use Rattle.definitions.specs.Blocks.{Piece, nodes_tallied, entries_tallied}
 use Rattle.definitions.specs.Conflicts.{free}
 use Rattle.definitions.specs.Calls.{Capacity}
@@ -105,7 +106,7 @@ length_appended m c ps new = length-sets (behind m c ps new) 0 (header_bytes (op
 
 -- a byte that two lists share they share where others are written
 shared : (zs xs ys : List ℕ) (at k : ℕ) → length xs ≡ length ys → at + length zs ≤ length xs → get_or xs k 0 ≡ get_or ys k 0 → get_or (sets xs at zs) k 0 ≡ get_or (sets ys at zs) k 0
-shared zs xs ys at k l h e = go (lt_or_ge k at) (lt_or_ge k (at + length zs))
+shared zs xs ys at k l h e = go (cases_lt k at) (cases_lt k (at + length zs))
   where
     go : (k < at) ⊎ (at ≤ k) → (k < at + length zs) ⊎ (at + length zs ≤ k) → get_or (sets xs at zs) k 0 ≡ get_or (sets ys at zs) k 0
     go (inl a) b = get_or_sets_out zs xs at k (inl a) ∙ e ∙ sym (get_or_sets_out zs ys at k (inl a))

@@ -9,9 +9,10 @@ use mathlib.Core.List.{List, [], ◌∷◌, ◌++◌}
 use lib.ListN.{length, take, drop, length-take, length-drop}
 use lib.Seq.{take_all, drop-drop}
 use lib.Dec.{leb}
+use Rattle.std.proofs.lemmas.Bool.{cases_lt}
 use Rattle.definitions.specs.Location.{Location, moved}
 use Rattle.definitions.specs.Blocks.{Block, Piece, cut, pieces, node_charge, entry_charge, charge}
-use Rattle.definitions.proofs.Views.{Le, le, lt_or_le}
+use Rattle.definitions.proofs.Views.{Le, le}
 use Rattle.definitions.proofs.Tallied.{charge_append}
 use Rattle.recording.specs.Cut.{part, parts}
 use Rattle.judging.specs.Judged.{piece_count, block_nodes}
@@ -47,7 +48,7 @@ cut_charge f total one more (suc n) l bs h = go (leb (length bs) 16) (le (length
         omega (arith, charge_append f rest (front ∷ []), more (length bs) v)
 
 nodes_one : (m : ℕ) → m ≤ 16 → node_charge m ≡ block_nodes m
-nodes_one m h = go (lt_or_le m 16)
+nodes_one m h = go (cases_lt m 16)
   where
     go : (m < 16) ⊎ (16 ≤ m) → node_charge m ≡ block_nodes m
     go (inl k) =

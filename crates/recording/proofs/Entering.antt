@@ -11,7 +11,7 @@ use mathlib.Core.Option.{Option, none, some}
 use lib.ListN.{length, get_or}
 use lib.Seq.{length-sets}
 use lib.Dec.{ltb, eqb}
-use borrow.Author.Tests.{ltb-false, lt-ltb, le-ltb, eq-eqb, ne_eqb}
+use borrow.Author.Tests.{ltb-false, le-ltb, eq-eqb, ne_eqb}
 use Rattle.words.specs.Holding.{Holds}
 use Rattle.words.proofs.Holding.{holds_ext}
 use Rattle.words.proofs.Parts.{get_or_sets_out}
@@ -52,13 +52,7 @@ module _ (m : List ℕ) (h : Header) (kind : ℕ) (b : Block) where
   abbrev pub Enters : Verdict → List ℕ → Type 0
   Enters v m' = (v ≡ judged_by_kind m h kind b) × (m' ≡ entered m h kind b)
 
-  pub kind_unknown : 4 < kind → Enters (refused 14) m
-  kind_unknown k = rw (lt-ltb 4 kind k) (refl, refl)
-
   module _ (k : kind ≤ 4) where
-    pub kind_other : (kind ≡ 1 → ⊥) → Enters (counted h) m
-    kind_other d = rw (le-ltb 4 kind k, ne_eqb kind 1 d) (refl, refl)
-
     pub kind_memory : kind ≡ 1 → (v : Verdict) → v ≡ judged h (clash (pieces b) (pieces_in m h)) (length b.bytes) b.at → Enters v (unless_turned_back v m (logged m h (pieces b)))
     kind_memory l v e = rw (le-ltb 4 kind k, eq-eqb kind 1 l, ← e) (refl, refl)
 

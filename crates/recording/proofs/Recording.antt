@@ -6,10 +6,10 @@ use mathlib.Core.Logic.{◌⊎◌, inl, inr}
 use mathlib.Core.List.{List}
 use lib.ListN.{length, take, drop, replicate, length-take, length-drop}
 use lib.Seq.{sets, length-sets, take-length, take_all}
+use Rattle.std.proofs.lemmas.Bool.{cases_lt}
 use Rattle.words.specs.Words.{set_le64}
-use Rattle.definitions.specs.Location.{Location, moved, location_bytes}
+use Rattle.definitions.specs.Location.{location_bytes}
 use Rattle.definitions.specs.Blocks.{Block, Piece, pieces}
-use Rattle.definitions.proofs.Views.{lt_or_le}
 use Rattle.index_memory.specs.Log.{piece_bytes, log_bytes}
 use Rattle.judging.specs.Judged.{piece_count}
 use Rattle.recording.specs.Cut.{part, parts}
@@ -30,7 +30,7 @@ put_in_turn m₀ m₁ m₂ m₃ m₄ at p h e₁ e₂ e₃ e₄ =
 -- the bytes of a piece, up to where it ends
 pub part_bytes : (xs : List ℕ) (start end : ℕ) → start ≤ length xs → end ≡ start + min 16 (length xs - start)
     → take (end - start) (drop start xs) ≡ take 16 (drop start xs)
-part_bytes xs start end h e = go (lt_or_le (length xs - start) 16)
+part_bytes xs start end h e = go (cases_lt (length xs - start) 16)
   where
     go : (length xs - start < 16) ⊎ (16 ≤ length xs - start) → take (end - start) (drop start xs) ≡ take 16 (drop start xs)
     go (inl k) =
@@ -39,10 +39,6 @@ part_bytes xs start end h e = go (lt_or_le (length xs - start) 16)
     go (inr k) =
         let n : end - start ≡ 16 = omega arith in
         rw n
-
-pub part_written : (m m' xs : List ℕ) (at start end : ℕ) (l l' : Location) → start ≤ length xs → end ≡ start + min 16 (length xs - start) → l' ≡ moved l start
-    → m' ≡ sets m at (piece_bytes (record { bytes = take (end - start) (drop start xs); at = l' })) → m' ≡ sets m at (piece_bytes (part (record { bytes = xs; at = l }) start))
-part_written m m' xs at start end l l' h e f g = g ∙ rw (part_bytes xs start end h e, f) refl
 
 -- what is left to be written behind what is done, written, is always the same
 pub record Writing (b : Block) (from : ℕ) (m₀ m : List ℕ) (done left : ℕ) : Type 0 where

@@ -24,8 +24,7 @@ pub returns-in_ok-counted-in-Ok-Memory-clause-filled : goal.returns-in_ok-counte
 returns-in_ok-counted-in-Ok-Memory-clause-filled c =
     let a = c.args in
     let b : Block = record { bytes = a.«data».now; at = plain a.l } in
-    let l = c.well_formed.1.1.1.1.0.1.1 in
-    let t : Fits (plain a.l) = record { address = l.0.1.1.0.1; created = l.1.0.1.1.0.1; destroyed = l.1.1.0.1.1.0.1 } in
+    let t : Fits (plain a.l) = record { address = grind arith; created = grind arith; destroyed = grind arith } in
     let h' = header_of c.in_ok-counted-in-Ok-Memory.counted in
     let one : a.kind ≡ 1 = sym c.in-Ok-Memory.ensures ∙ ap kind_number c.in-Ok-Memory.field-0-is in
     let k = kind_memory a.mem.now (header_of a.h) a.kind b (omega (arith, one)) one (counted h') c.in_ok-counted-in-Ok-Memory.ensures in

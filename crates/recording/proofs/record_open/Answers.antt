@@ -13,38 +13,24 @@ pub filled-count-requires : goal.filled-count-requires
 filled-count-requires c = log_asked _ _ c.requires.0 c.requires.1
 
 pub enter-requires : goal.enter-requires
-enter-requires c = (pending _ _ c.requires.0 c.requires.1 (λ j. omega (arith, c.slice_known-1.given j)), c.filled-count.ensures)
+enter-requires c = (pending _ _ c.requires.0 c.requires.1 (λ j. grind arith), c.filled-count.ensures)
 
 pub put_header-requires : goal.put_header-requires
 put_header-requires c =
-    let p = pending _ _ c.requires.0 c.requires.1 (λ j. omega (arith, c.slice_known-1.given j)) in
+    let p = pending _ _ c.requires.0 c.requires.1 (λ j. grind arith) in
     omega (arith, header_room _ _ p, c.enter.auto.mem)
 
-pub returns-in_err-counted-clause-answer : goal.returns-in_err-counted-clause-answer
-returns-in_err-counted-clause-answer c =
+pub returns-in_err-counted : goal.returns-in_err-counted
+returns-in_err-counted c =
     let b : Block = record { bytes = c.args.«data».now; at = plain c.args.l } in
     let r = c.in_err-counted in
-    let w = refused_by _ _ c.requires.0 c.requires.1 (λ j. omega (arith, c.slice_known-1.given j)) _ b (number_of r.field-0.0) c.enter.new.mem (r.ensures.verdict, r.ensures.memory) in
+    let w = refused_by _ _ c.requires.0 c.requires.1 (λ j. grind arith) _ b (number_of r.field-0.0) c.enter.new.mem (r.ensures.verdict, r.ensures.memory) in
     let p = err_from_is_err_and c.from_residual.result c.from_residual.ensures.1 in
-    rw (p.1, p.2) w.0
+    record { answer = rw (p.1, p.2) w.0; memory = w.1 }
 
-pub returns-in_err-counted-clause-memory : goal.returns-in_err-counted-clause-memory
-returns-in_err-counted-clause-memory c =
-    let b : Block = record { bytes = c.args.«data».now; at = plain c.args.l } in
-    let r = c.in_err-counted in
-    let w = refused_by _ _ c.requires.0 c.requires.1 (λ j. omega (arith, c.slice_known-1.given j)) _ b (number_of r.field-0.0) c.enter.new.mem (r.ensures.verdict, r.ensures.memory) in
-    w.1
-
-pub returns-clause-answer : goal.returns-clause-answer
-returns-clause-answer c =
+pub returns : goal.returns
+returns c =
     let b : Block = record { bytes = c.args.«data».now; at = plain c.args.l } in
     let r = c.in_ok-counted in
-    let w = taken_by _ _ c.requires.0 c.requires.1 (λ j. omega (arith, c.slice_known-1.given j)) _ b (header_of r.counted) c.enter.new.mem c.put_header.new.mem (r.ensures.verdict, r.ensures.memory) c.put_header.ensures in
-    w.0
-
-pub returns-clause-memory : goal.returns-clause-memory
-returns-clause-memory c =
-    let b : Block = record { bytes = c.args.«data».now; at = plain c.args.l } in
-    let r = c.in_ok-counted in
-    let w = taken_by _ _ c.requires.0 c.requires.1 (λ j. omega (arith, c.slice_known-1.given j)) _ b (header_of r.counted) c.enter.new.mem c.put_header.new.mem (r.ensures.verdict, r.ensures.memory) c.put_header.ensures in
-    w.1
+    let w = taken_by _ _ c.requires.0 c.requires.1 (λ j. grind arith) _ b (header_of r.counted) c.enter.new.mem c.put_header.new.mem (r.ensures.verdict, r.ensures.memory) c.put_header.ensures in
+    record { answer = w.0; memory = w.1 }
