@@ -1,7 +1,6 @@
 -- `stream_recording::record_blocks` meets its contract: what is left to be recorded, recorded, is always the same. Assumes nothing.
-use Rattle.std.proofs.Common.{ℕ, ◌≡◌, ◌<◌, ap, refl, subst, ◌∙◌, List, length, get_or, arith, Ok, Option}
+use Rattle.std.proofs.Common.{ℕ, ◌≡◌, ◌<◌, ap, refl, ◌∙◌, List, length, get_or, arith}
 use Rattle.definitions.specs.BlockStream.{read_block}
-use Rattle.definitions.specs.Refusals.{number_of}
 use Rattle.memory_header.specs.declared.Header as H
 use Rattle.memory_header.specs.Answers.{header_of}
 use Rattle.memory_header.specs.Layout.{with_header}
@@ -12,7 +11,7 @@ use Rattle.recording.proofs.Outcome.{log_asked, standing, pending}
 use Rattle.stream_recording.specs.declared.Progress as C
 use Rattle.stream_recording.specs.Stream.{StreamDone, record_stream}
 use Rattle.stream_recording.specs.Progress.{halted, next_progress, entered_next}
-use Rattle.stream_recording.specs.Answers.{progress_of, next_of, FilledNext}
+use Rattle.stream_recording.specs.Answers.{progress_of}
 use Rattle.stream_recording.proofs.Streaming.{Going, stream_as, going_start, going_on, fewer_left, going_end}
 use Rattle.stream_recording.proofs.record_blocks.Goals as goal
 
@@ -22,31 +21,23 @@ filled-filled-requires c = log_asked _ _ c.requires.0 c.requires.1
 pub loop-next-init : goal.loop-next-init
 loop-next-init c =
     let m = c.args.mem.now in
-    let bytes : (k : ℕ) → get_or m k 0 < 256 = λ j. omega (arith, c.slice_known-1.given j) in
-    (going_start c.args.stream.now m (header_of c.args.h) (pending m _ c.requires.0 c.requires.1 bytes) (standing m _ c.requires.0 c.requires.1 bytes), c.filled-filled.ensures)
+    let bytes : (k : ℕ) → get_or m k 0 < 256 = λ j. grind arith in
+    (going_start _ _ _ (pending m _ c.requires.0 c.requires.1 bytes) (standing m _ c.requires.0 c.requires.1 bytes), c.filled-filled.ensures)
 
 pub loop-next-smaller : goal.loop-next-smaller
 loop-next-smaller c =
-    let a = c.args in
-    let r = c.record_next in
     let n = c.in-Ok-Some in
+    let e = rw n.field-0-is at n.ensures.progress in
     let p = progress_of c.loop-next.p in
-    let bytes : (k : ℕ) → get_or a.stream.now k 0 < 256 = λ j. omega (arith, c.type_inv.stream j) in
-    let e = subst (λ (o : Option C.Progress). next_of c.loop-next.p (Ok o) ≡ next_progress c.loop-next.mem p (read_block a.stream.now p.at)) n.field-0-is n.ensures.progress in
-    let on = going_on a.stream.now a.mem.now bytes _ p c.loop-next.invariant.0 refl r.new.mem (progress_of n.next) e r.ensures.memory r.auto.mem in
-    fewer_left a.stream.now a.mem.now _ _ p (progress_of n.next) refl e on
+    let q = progress_of n.next in
+    fewer_left _ c.args.mem.now _ _ p q refl e (going_on _ _ (λ j. grind arith) _ p c.loop-next.invariant.0 refl _ q e c.record_next.ensures.memory c.record_next.auto.mem)
 
 pub loop-next-preserved : goal.loop-next-preserved
 loop-next-preserved c =
-    let a = c.args in
-    let r = c.record_next in
     let n = c.in-Ok-Some in
-    let p = progress_of c.loop-next.p in
-    let bytes : (k : ℕ) → get_or a.stream.now k 0 < 256 = λ j. omega (arith, c.type_inv.stream j) in
-    let e = subst (λ (o : Option C.Progress). next_of c.loop-next.p (Ok o) ≡ next_progress c.loop-next.mem p (read_block a.stream.now p.at)) n.field-0-is n.ensures.progress in (
-      going_on a.stream.now a.mem.now bytes _ p c.loop-next.invariant.0 refl r.new.mem (progress_of n.next) e r.ensures.memory r.auto.mem,
-      subst (λ (o : Option C.Progress). FilledNext r.new.mem (Ok o)) n.field-0-is n.ensures.filled,
-    )
+    let e = rw n.field-0-is at n.ensures.progress in
+    let r = c.record_next in
+    (going_on _ _ (λ j. grind arith) _ _ c.loop-next.invariant.0 refl _ _ e r.ensures.memory r.auto.mem, rw n.field-0-is at n.ensures.filled)
 
 -- the stream ended, or a block was refused with a number: what was asked of all of it
 ended : (s m₀ : List ℕ) → ((k : ℕ) → get_or s k 0 < 256) → (m : List ℕ) (p : C.Progress) → Going s m₀ m (progress_of p) → (n : ℕ) (m' : List ℕ)
@@ -58,47 +49,20 @@ ended s m₀ bytes m p g n m' e f l h q =
 pub close-requires : goal.close-requires
 close-requires c = omega (arith, header_room _ _ c.loop-next.invariant.0.pending, c.record_next.auto.mem)
 
-pub returns-in-Ok-None-clause-number : goal.returns-in-Ok-None-clause-number
-returns-in-Ok-None-clause-number c =
-    let a = c.args in
+pub returns-in-Ok-None : goal.returns-in-Ok-None
+returns-in-Ok-None c =
     let r = c.record_next in
-    let d = ended a.stream.now a.mem.now (λ j. omega (arith, c.type_inv.stream j)) _ c.loop-next.p c.loop-next.invariant.0 0 r.new.mem (subst (λ (o : Option C.Progress). next_of c.loop-next.p (Ok o) ≡ next_progress c.loop-next.mem (progress_of c.loop-next.p) (read_block a.stream.now c.loop-next.p.at)) c.in-Ok-None.field-0-is c.in-Ok-None.ensures.progress) r.ensures.memory r.auto.mem a.h c.requires.1 in
-    c.close.ensures.number ∙ ap (λ (x : StreamDone). x.refusal) d
-
-pub returns-in-Ok-None-clause-taken : goal.returns-in-Ok-None-clause-taken
-returns-in-Ok-None-clause-taken c =
-    let a = c.args in
-    let r = c.record_next in
-    let d = ended a.stream.now a.mem.now (λ j. omega (arith, c.type_inv.stream j)) _ c.loop-next.p c.loop-next.invariant.0 0 r.new.mem (subst (λ (o : Option C.Progress). next_of c.loop-next.p (Ok o) ≡ next_progress c.loop-next.mem (progress_of c.loop-next.p) (read_block a.stream.now c.loop-next.p.at)) c.in-Ok-None.field-0-is c.in-Ok-None.ensures.progress) r.ensures.memory r.auto.mem a.h c.requires.1 in
-    c.close.ensures.taken ∙ ap (λ (x : StreamDone). x.taken) d
-
-pub returns-in-Ok-None-clause-memory : goal.returns-in-Ok-None-clause-memory
-returns-in-Ok-None-clause-memory c =
-    let a = c.args in
-    let r = c.record_next in
-    let d = ended a.stream.now a.mem.now (λ j. omega (arith, c.type_inv.stream j)) _ c.loop-next.p c.loop-next.invariant.0 0 r.new.mem (subst (λ (o : Option C.Progress). next_of c.loop-next.p (Ok o) ≡ next_progress c.loop-next.mem (progress_of c.loop-next.p) (read_block a.stream.now c.loop-next.p.at)) c.in-Ok-None.field-0-is c.in-Ok-None.ensures.progress) r.ensures.memory r.auto.mem a.h c.requires.1 in
-    c.close.ensures.memory ∙ ap (λ (x : StreamDone). x.memory) d
+    let e = rw c.in-Ok-None.field-0-is at c.in-Ok-None.ensures.progress in
+    let d = ended _ c.args.mem.now (λ j. grind arith) _ c.loop-next.p c.loop-next.invariant.0 0 r.new.mem e r.ensures.memory r.auto.mem c.args.h c.requires.1 in
+    let w = c.close.ensures in
+    record { number = w.number ∙ ap (λ (x : StreamDone). x.refusal) d; taken = w.taken ∙ ap (λ (x : StreamDone). x.taken) d; memory = w.memory ∙ ap (λ (x : StreamDone). x.memory) d }
 
 pub close-requires-in-Err : goal.close-requires-in-Err
 close-requires-in-Err c = omega (arith, header_room _ _ c.loop-next.invariant.0.pending, c.record_next.auto.mem)
 
-pub returns-in-Err-clause-number : goal.returns-in-Err-clause-number
-returns-in-Err-clause-number c =
-    let a = c.args in
+pub returns-in-Err : goal.returns-in-Err
+returns-in-Err c =
     let r = c.record_next in
-    let d = ended a.stream.now a.mem.now (λ j. omega (arith, c.type_inv.stream j)) _ c.loop-next.p c.loop-next.invariant.0 (number_of c.in-Err.refusal) r.new.mem c.in-Err.ensures.progress r.ensures.memory r.auto.mem a.h c.requires.1 in
-    c.close-in-Err.ensures.number ∙ ap (λ (x : StreamDone). x.refusal) d
-
-pub returns-in-Err-clause-taken : goal.returns-in-Err-clause-taken
-returns-in-Err-clause-taken c =
-    let a = c.args in
-    let r = c.record_next in
-    let d = ended a.stream.now a.mem.now (λ j. omega (arith, c.type_inv.stream j)) _ c.loop-next.p c.loop-next.invariant.0 (number_of c.in-Err.refusal) r.new.mem c.in-Err.ensures.progress r.ensures.memory r.auto.mem a.h c.requires.1 in
-    c.close-in-Err.ensures.taken ∙ ap (λ (x : StreamDone). x.taken) d
-
-pub returns-in-Err-clause-memory : goal.returns-in-Err-clause-memory
-returns-in-Err-clause-memory c =
-    let a = c.args in
-    let r = c.record_next in
-    let d = ended a.stream.now a.mem.now (λ j. omega (arith, c.type_inv.stream j)) _ c.loop-next.p c.loop-next.invariant.0 (number_of c.in-Err.refusal) r.new.mem c.in-Err.ensures.progress r.ensures.memory r.auto.mem a.h c.requires.1 in
-    c.close-in-Err.ensures.memory ∙ ap (λ (x : StreamDone). x.memory) d
+    let d = ended _ c.args.mem.now (λ j. grind arith) _ c.loop-next.p c.loop-next.invariant.0 _ r.new.mem c.in-Err.ensures.progress r.ensures.memory r.auto.mem c.args.h c.requires.1 in
+    let w = c.close-in-Err.ensures in
+    record { number = w.number ∙ ap (λ (x : StreamDone). x.refusal) d; taken = w.taken ∙ ap (λ (x : StreamDone). x.taken) d; memory = w.memory ∙ ap (λ (x : StreamDone). x.memory) d }
