@@ -1,10 +1,7 @@
 -- `tail_records::expand` meets its contract: what is still to be written of the log, written, is always the same.
 -- Assumes nothing.
-use Rattle.tail_records.proofs.Entering.{expanding_start, expanding_asks, expanding_turn, expanding_count, expanding_done}
+use Rattle.tail_records.proofs.Entering.{expanding_asks, expanding_turn, expanding_count, expanding_done}
 use Rattle.tail_records.proofs.expand.Goals as goal
-
-pub loop-j-init : goal.loop-j-init
-loop-j-init c = expanding_start _ _ _ c.requires.0 c.requires.1 c.requires.2
 
 pub put_tails-t-requires : goal.put_tails-t-requires
 put_tails-t-requires c =
