@@ -11,8 +11,8 @@ use lib.ListN.{length, get_or, take, drop, length-append, length-take, get_or-ap
 use lib.Seq.{get_or-append-add, get_or-take, get_or-drop, ext_get_or}
 use lib.Dec.{eqb}
 use borrow.Author.Tests.{eq-eqb, ne_eqb}
+use Rattle.std.proofs.lemmas.Bool.{cases_lt}
 use Rattle.words.proofs.Laws.{top}
-use Rattle.words.proofs.Parts.{lt_or_ge}
 use Rattle.records.proofs.Bytes.{Bytes, Fits}
 use Rattle.tails.specs.Tails.{Tail, mark_of, tail_record, tail_records}
 use Rattle.tails.proofs.High.{high_lt}
@@ -38,7 +38,7 @@ module _ (r : List ℕ) (d : ℕ) where
 
 -- those of a tail's record are its path, and zeros
 pub sixteen_record : (t : Tail) → Bytes t.entry.path → (d : ℕ) → d < 16 → get_or (sixteen (tail_record t)) d 0 ≡ get_or t.entry.path d 0
-sixteen_record t b d l = go (lt_or_ge d 8)
+sixteen_record t b d l = go (cases_lt d 8)
   where
     path : List ℕ
     path = t.entry.path
