@@ -4,4 +4,4 @@ use Rattle.list_closing.proofs.Closing.{closed_few_places}
 use Rattle.list_closing.proofs.close_list.Goals as goal
 
 pub returns : goal.returns
-returns c = closed_few_places _ _ _ _ (λ j. omega (arith, c.slice_known-1.given j)) c.requires c.if-n-gt1.false c.put64.ensures
+returns c = closed_few_places _ _ _ _ (λ j. grind arith) c.requires c.if-n-gt1.false c.put64.ensures

@@ -5,5 +5,5 @@ use Rattle.list_closing.proofs.close_many.Goals as goal
 
 pub returns : goal.returns
 returns c =
-    closed _ _ _ _ _ _ _ (λ j. omega (arith, c.slice_known-1.given j)) (λ j. omega (arith, c.slice_known-2-1.given j))
-    (λ j. omega (arith, c.slice_known-3-1.given j)) c.requires c.sort.ensures c.drop_repeats-kept.ensures.bytes c.drop_repeats-kept.ensures.count c.put64.ensures
+    closed _ _ _ _ _ _ _ (λ j. grind arith) (λ j. grind arith)
+    (λ j. grind arith) c.requires c.sort.ensures c.drop_repeats-kept.ensures.bytes c.drop_repeats-kept.ensures.count c.put64.ensures
