@@ -6,4 +6,4 @@ use Rattle.list_closing.proofs.Closing.{closed_few_places}
 use Rattle.list_writer.proofs.put_none.Goals as goal
 
 pub returns : goal.returns
-returns c = written _ _ (copied_none _ _) (closed_few_places _ _ _ 0 (λ j. omega (arith, c.slice_known-1.given j)) (omega (arith, c.requires.0)) (omega arith) c.put64.ensures) c.behind_list.ensures
+returns c = written _ _ (copied_none _ _) (closed_few_places _ _ _ 0 (λ j. grind arith) (omega (arith, c.requires.0)) (omega arith) c.put64.ensures) c.behind_list.ensures

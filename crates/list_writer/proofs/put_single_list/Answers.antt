@@ -5,23 +5,8 @@ use Rattle.list_closing.proofs.Closing.{closed_few_places}
 use Rattle.list_writer.proofs.Closing.{written}
 use Rattle.list_writer.proofs.put_single_list.Goals as goal
 
-pub put_taken-n-requires : goal.put_taken-n-requires
-put_taken-n-requires c =
-    let asks = single_asks _ _ _ _ _ c.requires.0 (λ j. omega (arith, c.slice_known-1.given j)) c.requires.1 in
-    (omega (arith, c.requires.0), omega (arith, c.requires.0))
-
-pub put64-requires : goal.put64-requires
-put64-requires c =
-    let asks = single_asks _ _ _ _ _ c.requires.0 (λ j. omega (arith, c.slice_known-1.given j)) c.requires.1 in
-    omega (arith, c.requires.0, c.put_taken-n.auto.mem)
-
-pub behind_list-requires : goal.behind_list-requires
-behind_list-requires c =
-    let asks = single_asks _ _ _ _ _ c.requires.0 (λ j. omega (arith, c.slice_known-1.given j)) c.requires.1 in
-    (omega (arith, c.requires.0, c.put_taken-n.ensures.count), c.requires.2)
-
 pub returns : goal.returns
 returns c =
-    let asks = single_asks _ _ _ _ _ c.requires.0 (λ j. omega (arith, c.slice_known-1.given j)) c.requires.1 in
-    let copied = single_copied _ _ _ _ _ c.requires.0 (λ j. omega (arith, c.slice_known-1.given j)) c.requires.1 _ _ (λ j. omega (arith, c.slice_known-2-1.given j)) c.put_taken-n.ensures.count c.put_taken-n.ensures.bytes in
-    written _ _ copied (closed_few_places _ _ _ c.put_taken-n.result (λ j. omega (arith, c.slice_known-2-1.given j)) (omega (arith, c.requires.0, c.put_taken-n.ensures.count, c.put_taken-n.auto.mem)) (few_taken _ _ c.put_taken-n.ensures.count) c.put64.ensures) c.behind_list.ensures
+    let asks = single_asks _ _ _ _ _ c.requires.0 (λ j. grind arith) c.requires.1 in
+    let copied = single_copied _ _ _ _ _ c.requires.0 (λ j. grind arith) c.requires.1 _ _ (λ j. grind arith) c.put_taken-n.ensures.count c.put_taken-n.ensures.bytes in
+    written _ _ copied (closed_few_places _ _ _ c.put_taken-n.result (λ j. grind arith) (omega (arith, c.requires.0, c.put_taken-n.ensures.count, c.put_taken-n.auto.mem)) (few_taken _ _ c.put_taken-n.ensures.count) c.put64.ensures) c.behind_list.ensures
