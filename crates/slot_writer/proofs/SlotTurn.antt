@@ -15,11 +15,9 @@ use Rattle.tail_groups.specs.Ranks.{rank_of, with_rank, firsts}
 use Rattle.tail_groups.proofs.Buffer.{grouped_firsts}
 use Rattle.tail_groups.proofs.Arrival.{rank_inside, arrived, arrived_inside, with_rank_found}
 use Rattle.tail_groups.specs.declared.Grouping.{Grouping}
-use Rattle.slot_writer.specs.declared.Turn.{Turn}
 use Rattle.std.specs.Prelude.{Option, Some, None}
 use Rattle.slot_writer.specs.declared.Table.{Table}
-use Rattle.list_writer.specs.declared.End.{End}
-use Rattle.slot_writer.specs.Turns.{groups_in, group_in, group_bytes, Known, EntryAsked, GroupEntry, DensePicked, TurnAsked, Picked, Turned}
+use Rattle.slot_writer.specs.Turns.{groups_in, group_in, group_bytes, Known, GroupEntry, DensePicked, TurnAsked, Picked}
 
 -- ── kinds ──
 
@@ -80,9 +78,6 @@ module _ {s : List ℕ} {work lo hi d n : ℕ} {x : Grouping} {j met : ℕ} (w :
   pub dense_late : n ≤ met → DensePicked s work lo hi d n j met None
   dense_late h = record { none = λ i k. absurd (omega arith); one = λ g i. absurd (cc) }
 
-  pub dense_one : (b : ℕ) → met < n → b ≡ byte_at d (tail_in s work (get_or x.starts met 0)) → b ≡ j → DensePicked s work lo hi d n j met (Some met)
-  dense_one b h e f = record { none = λ i k. absurd (cc); one = λ g i. (cc, sym (known_byte w met b h e) ∙ f, subst (λ (k : ℕ). k < n) (cc) h) }
-
   pub dense_none : (b : ℕ) → met < n → b ≡ byte_at d (tail_in s work (get_or x.starts met 0)) → ¬ (b ≡ j) → DensePicked s work lo hi d n j met None
   dense_none b h e f = record { none = λ i k y. f (known_byte w met b h e ∙ y); one = λ g i. absurd (cc) }
 
@@ -135,34 +130,3 @@ module _ {s : List ℕ} {work lo hi d : ℕ} {t : Table} {n : ℕ} {x : Grouping
     one = λ g h i. ((w.one g h).0, (w.one g h).1);
     inside = λ g h. (w.one g h).2;
   }
-
-  -- ── what is written ──
-
-  -- an offset of kind 1 lies in the table
-  pub slot_inside : kind_number t.kind ≡ 1 → t.base + j * 8 + 8 ≤ t.start
-  slot_inside k =
-      let y = q.dense (sym q.kind ∙ k) in
-      omega (arith, q.turn, y.0, y.1)
-
-  pub entry_asked : {g at : ℕ} → ¬ (kind_number t.kind ≡ 1) → g < n → t.start + j ≤ at → at + 1 ≤ length s → 64 ≤ at → EntryAsked s work lo hi d t.base n x g at
-  entry_asked k l a b c =
-      let y = q.sparse (λ e. k (q.kind ∙ e)) in
-      record { known = q.known; group = l; table = omega (arith, y.1); flag = b; from = c }
-
-module _ {s s' : List ℕ} {work lo hi d : ℕ} {t : Table} {n j met : ℕ} {e : End} {r : Turn} (p : Picked s work lo hi d t n j met r.group)
-    (end : (r.end.at ≡ e.at + 1) × (r.end.nodes ≡ e.nodes) × (r.end.entries ≡ e.entries)) where
-  pub turned_none : r.group ≡ None → s' ≡ set (sets s (t.base + j * 8) (bytes64 (e.at - 64))) e.at 0 → Turned s s' work lo hi d t n j met e r
-  turned_none h q = record { picked = p; end = end; none = λ i. q; dense = λ g i k. absurd (cc); sparse = λ g i k. absurd (cc) }
-
-  module _ (g : ℕ) (is : r.group ≡ Some g) where
-    pub turned_dense : kind_number t.kind ≡ 1 → s' ≡ set (sets s (t.base + j * 8) (bytes64 (e.at - 64))) e.at 1 → Turned s s' work lo hi d t n j met e r
-    turned_dense k q = record { picked = p; end = end; none = λ i. absurd (cc); dense = λ h i y. q; sparse = λ h i y. absurd (y k) }
-
-    pub turned_sparse : ¬ (kind_number t.kind ≡ 1) → GroupEntry s s' work lo hi d t.base g e.at → Turned s s' work lo hi d t n j met e r
-    turned_sparse k q = record {
-      picked = p;
-      end = end;
-      none = λ i. absurd (cc);
-      dense = λ h i y. absurd (k y);
-      sparse = λ h i y. subst (λ (f : ℕ). GroupEntry s s' work lo hi d t.base f e.at) (cc) q;
-    }

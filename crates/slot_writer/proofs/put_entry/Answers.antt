@@ -1,7 +1,7 @@
 -- `slot_writer::put_entry` meets its contract: the buffer has what the groups have. Assumes nothing.
 use native.Mathlib.Omega.{arith}
 use lib.ListN.{length-set}
-use Rattle.slot_writer.proofs.SlotTurn.{known_readable, known_inside, entry_put}
+use Rattle.slot_writer.proofs.SlotTurn.{known_inside, entry_put}
 use Rattle.slot_writer.proofs.put_entry.Goals as goal
 
 pub overflow_mul-place : goal.overflow_mul-place
@@ -9,9 +9,6 @@ overflow_mul-place c = omega (arith, known_inside c.requires.known _ _ c.require
 
 pub overflow_add-place : goal.overflow_add-place
 overflow_add-place c = omega (arith, known_inside c.requires.known _ _ c.requires.group c.rank-rank.ensures, c.requires.table, c.requires.flag)
-
-pub tail_byte-byte-requires : goal.tail_byte-byte-requires
-tail_byte-byte-requires c = known_readable c.requires.known _ c.requires.group
 
 pub bounds-mem-place : goal.bounds-mem-place
 bounds-mem-place c = omega (arith, known_inside c.requires.known _ _ c.requires.group c.rank-rank.ensures, c.requires.table, c.requires.flag)
