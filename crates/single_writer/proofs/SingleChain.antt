@@ -30,7 +30,7 @@ use Rattle.tail_groups.proofs.Runs.{run_none, run_stops, run_goes}
 use Rattle.list_writer.specs.declared.End.{End}
 use Rattle.single_writer.specs.Heads.{HeadAsked, Front}
 use Rattle.kinds.specs.Kinds.{kind_of}
-use Rattle.single_writer.specs.Nodes.{node_of, SpanAsked, SpanWritten, NodeAsked}
+use Rattle.single_writer.specs.Nodes.{node_of, SpanAsked, SpanWritten}
 use Rattle.single_writer.specs.Singles.{single_bytes, SingleWritten, LeafWritten}
 use Rattle.single_writer.proofs.SingleNode.{not_ended, goes_node, goes_weight, ends_node, sizes, single_length, leaf_stands, single_stands}
 use Rattle.single_writer.proofs.WholeNode.{node_lists, span_head}
@@ -206,12 +206,3 @@ module _ {s : List ℕ} {work i d : ℕ} {e : End} {left : ℕ} (q : SpanAsked s
     single_on {s₂} {r₂} v =
         single_stands w.front (node_of s work i (i + 1) d left) (node_of s₁ work i (i + 1) (d + 1) m) (weights (d + 1) (tails_in s₁ work i (i + 1))) (byte_at d (tail_in s work i)) r r₂ s₂
         (node_lists left d (tails_in s work i (i + 1))) children q.from w.table few w.at w.nodes w.entries v
-
--- ── a node of a single tail ──
-
-module _ {s : List ℕ} {work lo hi d : ℕ} {e : End} {left : ℕ} (q : NodeAsked s work lo hi d e left) (one : hi ≡ lo + 1) where
-  pub single_asked : SpanAsked s work lo (lo + 1) d e left
-  single_asked = subst (λ (h : ℕ). SpanAsked s work lo h d e left) one q.span
-
-  pub single_node : {s' : List ℕ} {r : End} → SpanWritten s s' work lo (lo + 1) d e left r → SpanWritten s s' work lo hi d e left r
-  single_node {s'} {r} w = subst (λ (h : ℕ). SpanWritten s s' work lo h d e left r) (sym one) w

@@ -1,25 +1,9 @@
 -- `single_writer::put_singles` meets its contract: what is written below the nodes so far completes the whole. Assumes nothing.
 use Prim.Native.Nat.{suc, ◌+◌, ◌-◌}
-use native.Mathlib.Nat.{le_refl}
 use native.Mathlib.Omega.{arith}
-use mathlib.Core.Path.{◌≡◌, refl, ◌∙◌}
+use mathlib.Core.Path.{◌≡◌, ◌∙◌}
 use Rattle.single_writer.proofs.SingleChain.{goes_on, goes_not, single_short, single_head, single_long, next_asked, single_on, single_leaf}
 use Rattle.single_writer.proofs.put_singles.Goals as goal
-
-pub loop-mem-init : goal.loop-mem-init
-loop-mem-init c = (c.requires, (λ s r w. w), refl)
-
-pub goes_on-requires : goal.goes_on-requires
-goes_on-requires c = (omega (arith, c.loop-mem.invariant.0.depth), omega (arith, c.loop-mem.invariant.0.memory), c.loop-mem.invariant.0.held.each _ (le_refl _) (omega arith))
-
-pub put_single-end-requires : goal.put_single-end-requires
-put_single-end-requires c = (single_head c.loop-mem.invariant.0, c.loop-mem.invariant.0.from, goes_on c.loop-mem.mem c.args.work c.args.i c.loop-mem.k c.goes_on.ensures c.loop-mem-test.true)
-
-pub overflow_add-k : goal.overflow_add-k
-overflow_add-k c = omega (arith, c.loop-mem.invariant.0.depth)
-
-pub loop-mem-smaller : goal.loop-mem-smaller
-loop-mem-smaller c = omega (arith, c.loop-mem.invariant.0.depth, single_short c.loop-mem.invariant.0.held, goes_on c.loop-mem.mem c.args.work c.args.i c.loop-mem.k c.goes_on.ensures c.loop-mem-test.true)
 
 pub loop-mem-preserved : goal.loop-mem-preserved
 loop-mem-preserved c =
