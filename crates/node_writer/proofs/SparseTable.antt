@@ -8,12 +8,12 @@ use mathlib.Core.Logic.{◌⊎◌, inl, inr}
 use mathlib.Core.List.{List, [], ◌∷◌, ◌++◌, append-nil}
 use lib.ListN.{length, get_or, take, set}
 use lib.Seq.{sets, length-sets, take-suc, get_or-set_same, get_or-set_other}
+use Rattle.std.proofs.lemmas.Bool.{cases_lt}
 use Rattle.words.specs.Words.{bytes64}
 use Rattle.words.specs.Holding.{Holds}
 use Rattle.words.proofs.Laws.{Outside}
 use Rattle.words.proofs.Parts.{get_or_sets_out, length_bytes64}
 use Rattle.words.proofs.Holding.{holds_at, holds_left, holds_right, holds_append, holds_ext, holds_sets}
-use Rattle.definitions.proofs.Views.{lt_or_le}
 use Rattle.image_format.specs.Image.{Child, children_bytes, children_size, size_below, table_by_arrival, table_by_byte}
 use Rattle.single_writer.specs.Kids.{no_child}
 use Rattle.single_writer.proofs.Sized.{Sized, sized_take, children_length}
@@ -106,7 +106,7 @@ module _ (base start o : ℕ) (ws : List Child) (pl : ℕ → ℕ) (z : Sized ws
         (λ k x y. kept k (omega (arith, inside i (omega arith), length_bytes64 (o + children_size (take i ws)))) (inr (omega (arith, ne)))) (w.entries i h)
 
     all_entries : (i : ℕ) → i < j + 1 → (i < j) ⊎ (j ≤ i) → Holds s₂ (base + pl i * 9) (entry_bytes (get_or ws i no_child) (o + children_size (take i ws)))
-    all_entries i h (inl a) = others i a (lt_or_le (pl i) (pl j))
+    all_entries i h (inl a) = others i a (cases_lt (pl i) (pl j))
     all_entries i h (inr a) =
         let e : j ≡ i = omega arith in
         subst (λ (m : ℕ). Holds s₂ (base + pl m * 9) (entry_bytes (get_or ws m no_child) (o + children_size (take m ws)))) e entry_stands
@@ -114,7 +114,7 @@ module _ (base start o : ℕ) (ws : List Child) (pl : ℕ → ℕ) (z : Sized ws
     pub sparse_child : Sparse base start o ws pl s₂ (j + 1)
     sparse_child = record {
       children = rw (add-one j, take-suc ws j no_child l) children_stand;
-      entries = λ i h. all_entries i h (lt_or_le i j);
+      entries = λ i h. all_entries i h (cases_lt i j);
     }
 
 -- ── the table ──

@@ -8,11 +8,12 @@ use mathlib.Core.List.{List, [], ◌∷◌, ◌++◌}
 use lib.ListN.{length, get_or, take, drop, length-drop}
 use lib.Seq.{take_all}
 use lib.Dec.{eqb}
+use Rattle.std.proofs.lemmas.Bool.{cases_lt}
 use Rattle.words.specs.Words.{bytes64}
 use Rattle.words.specs.Holding.{Holds}
 use Rattle.words.proofs.Parts.{length_bytes64}
 use Rattle.words.proofs.Holding.{holds_at, holds_append, holds_ext}
-use Rattle.definitions.proofs.Views.{Eq, eq, lt_or_le}
+use Rattle.definitions.proofs.Views.{Eq, eq}
 use Rattle.tails.specs.Groups.{Group, by_arrival, kept_groups}
 use Rattle.kinds.specs.Kinds.{kind_of}
 use Rattle.image_format.specs.Image.{Child, nodes_in, entries_in, children_size, children_bytes, size_below, ascending, table_by_arrival, table_by_byte, slot_offsets, slots_bytes, slots_size, table_bytes, table_size}
@@ -210,7 +211,7 @@ module _ {s₀ : List ℕ} {work lo hi d n : ℕ} {t : Table} {e : End} {gr : Gr
       }
 
   ended : Ended s e.at n (children_in s₀ work lo hi d left) end.at
-  ended = go (lt_or_le 8 n) (lt_or_le 96 n)
+  ended = go (cases_lt 8 n) (cases_lt 96 n)
     where
       go : (8 < n) ⊎ (n ≤ 8) → (96 < n) ⊎ (n ≤ 96) → Ended s e.at n (children_in s₀ work lo hi d left) end.at
       go (inr x) y = ended_three (kind_three n x) x

@@ -8,11 +8,12 @@ use mathlib.Core.List.{List, Memᴰ as Mem}
 use lib.ListN.{length, get_or, take}
 use lib.Seq.{length-sets}
 use lib.Dec.{eqb}
+use Rattle.std.proofs.lemmas.Bool.{cases_lt}
 use Rattle.words.specs.Words.{bytes64}
 use Rattle.words.specs.Holding.{Holds}
 use Rattle.words.proofs.Parts.{get_or_sets_out, length_bytes64}
 use Rattle.words.proofs.Holding.{holds_sets}
-use Rattle.definitions.proofs.Views.{Eq, eq, lt_or_le}
+use Rattle.definitions.proofs.Views.{Eq, eq}
 use Rattle.trie.specs.Build.{Rising}
 use Rattle.tails.specs.Tails.{Tail}
 use Rattle.tails.specs.Groups.{Group, groups, bytes_of, Different}
@@ -106,7 +107,7 @@ module _ {s : List ℕ} {work lo hi d n : ℕ} {e : End} {gr : Grouping} {left :
       omega arith
 
 pub kind_large : (n : ℕ) → kind_of n ≡ 1 → 97 ≤ n
-kind_large n e = go (lt_or_le 8 n) (lt_or_le 96 n)
+kind_large n e = go (cases_lt 8 n) (cases_lt 96 n)
   where
     go : (8 < n) ⊎ (n ≤ 8) → (96 < n) ⊎ (n ≤ 96) → 97 ≤ n
     go (inr x) y = absurd (omega (arith, kind_three n x))
@@ -114,7 +115,7 @@ kind_large n e = go (lt_or_le 8 n) (lt_or_le 96 n)
     go (inl x) (inl y) = y
 
 pub kind_middle : (n : ℕ) → n ≤ 256 → ¬ (kind_of n ≡ 1) → ¬ (kind_of n ≡ 3) → kind_of n ≡ 2
-kind_middle n h a b = go (lt_or_le 8 n) (lt_or_le 96 n)
+kind_middle n h a b = go (cases_lt 8 n) (cases_lt 96 n)
   where
     go : (8 < n) ⊎ (n ≤ 8) → (96 < n) ⊎ (n ≤ 96) → kind_of n ≡ 2
     go (inr x) y = absurd (b (kind_three n x))

@@ -1,10 +1,6 @@
 -- `node_writer::put_image` meets its contract. Assumes nothing.
-use native.Mathlib.Omega.{arith}
-use Rattle.node_writer.proofs.WholeImage.{image_room, image_empty, image_written}
+use Rattle.node_writer.proofs.WholeImage.{image_empty, image_written}
 use Rattle.node_writer.proofs.put_image.Goals as goal
-
-pub clear-requires : goal.clear-requires
-clear-requires c = (omega arith, omega (arith, image_room c.requires))
 
 pub returns-then-tails-eq0 : goal.returns-then-tails-eq0
 returns-then-tails-eq0 c = image_empty c.requires _ c.if-tails-eq0.true c.clear.ensures
