@@ -16,10 +16,6 @@ use Rattle.row_buffer.proofs.Standing.{rows_fit, rows_stand, rows_kept}
 abbrev pub Answers : RowsFound → List ℕ → Finding → Type 0
 Answers o s f = (f ≡ finding_of o) × AtFront o.rows s
 
--- for whoever reads the rows: the count that is told lies within scratch
-pub rows_within : {o : RowsFound} {s : List ℕ} {f : Finding} → f ≡ finding_of o → AtFront o.rows s → f.count * 24 ≤ length s
-rows_within e a = let n = ap (λ (g : Finding). g.count) e in omega (arith, a.within)
-
 -- nothing is found, or a refusal says why
 pub none_answers : {o : RowsFound} {f : Finding} (s : List ℕ) (n : ℕ) → o ≡ refused n → f ≡ finding_of (refused n) → Answers o s f
 unfolding locations_in

@@ -9,5 +9,5 @@ returns-then-room-count c = let w = rows_refused _ _ _ c.combine_split_times-cou
     record { found = w.0; rows = w.1 }
 
 pub returns : goal.returns
-returns c = let w = rows_written _ _ _ _ (omega (arith, c.requires)) (λ j. omega (arith, c.slice_known-1.given j)) c.combine_split_times-count.ensures.count c.if-room-count.false c.combine_split_times-count.ensures.bytes refl in
+returns c = let w = rows_written _ _ _ _ (omega (arith, c.requires)) (λ j. grind arith) c.combine_split_times-count.ensures.count c.if-room-count.false c.combine_split_times-count.ensures.bytes refl in
     record { found = w.0; rows = w.1 }
