@@ -73,14 +73,14 @@ module _ (l : List ℕ) (at : ℕ) where
       unfolding digits_from
       digits_end e = rw (drop_one h, e)
 
-      module _ (e : is_digit (get_or l at 0) ≡ true) (d : ℕ) (is : d ≡ get_or l at 0 - 48) where
-        pub digits_over : ltb last_number (x * 10 + d) ≡ true → none ≡ digits_from x (drop at l)
+      module _ (e : is_digit (get_or l at 0) ≡ true) where
+        pub digits_over : last_number < x * 10 + (get_or l at 0 - 48) → none ≡ digits_from x (drop at l)
         unfolding digits_from
-        digits_over f = rw (drop_one h, e, ← is, f)
+        digits_over f = rw (drop_one h, e, lt-ltb last_number (x * 10 + (get_or l at 0 - 48)) f)
 
-        pub digits_on : ltb last_number (x * 10 + d) ≡ false → digits_from x (drop at l) ≡ digits_from (x * 10 + d) (drop (at + 1) l)
+        pub digits_on : (y : ℕ) → y ≡ x * 10 + (get_or l at 0 - 48) → y ≤ last_number → digits_from x (drop at l) ≡ digits_from y (drop (at + 1) l)
         unfolding digits_from
-        digits_on f = rw (drop_one h, e, ← is, f)
+        digits_on y f g = rw (drop_one h, e, ← f, le-ltb last_number y g)
 
   pub number_out : length l ≤ at → none ≡ number (drop at l)
   unfolding number

@@ -6,33 +6,30 @@ use Rattle.numerals.proofs.Steps.{number_out, number_zero, number_some, number_n
 use Rattle.numerals.proofs.read_number.Goals as goal
 
 pub returns-in_err-get : goal.returns-in_err-get
-returns-in_err-get c =
-    let a = c.args in
-    rw c.from_residual.ensures (number_out a.line.now a.at c.in_err-get.ensures.lookup.3)
+returns-in_err-get c = rw c.from_residual.ensures (number_out _ _ c.in_err-get.ensures.lookup.3)
 
 pub returns-in-48 : goal.returns-in-48
 returns-in-48 c =
-    let a = c.args in
     let b = c.in_ok-get.ensures.lookup in
-    c.ended.ensures ∙ number_zero a.line.now a.at b.3.0 (sym (b.4 (omega arith) 0) ∙ c.in-48.is)
+    c.ended.ensures ∙ number_zero _ _ b.3.0 (sym (b.4 (omega arith) 0) ∙ c.in-48.is)
 
 pub returns-in-49-to-57 : goal.returns-in-49-to-57
 returns-in-49-to-57 c =
-    let a = c.args in
     let b = c.in_ok-get.ensures.lookup in
-    let e : c.in_ok-get.field-0.now ≡ get_or a.line.now a.at 0 = b.4 (omega arith) 0 in
-    c.read_digits.ensures ∙ number_some a.line.now a.at b.3.0 (λ z. omega arith) (digit_is (get_or a.line.now a.at 0) (omega arith) (omega arith))
+    let x = get_or c.args.line.now c.args.at 0 in
+    let e : c.in_ok-get.field-0.now ≡ x = b.4 (omega arith) 0 in
+    c.read_digits.ensures ∙ number_some _ _ b.3.0 (λ z. omega arith) (digit_is x (omega arith) (omega arith))
 
 pub returns-in_default : goal.returns-in_default
 returns-in_default c =
-    let a = c.args in
     let b = c.in_ok-get.ensures.lookup in
-    let e : c.in_ok-get.field-0.now ≡ get_or a.line.now a.at 0 = b.4 (omega arith) 0 in
-    number_not a.line.now a.at b.3.0 (λ z. omega arith) (digit_low (get_or a.line.now a.at 0) (omega arith))
+    let x = get_or c.args.line.now c.args.at 0 in
+    let e : c.in_ok-get.field-0.now ≡ x = b.4 (omega arith) 0 in
+    number_not _ _ b.3.0 (λ z. omega arith) (digit_low x (omega arith))
 
 pub returns-in_default-2 : goal.returns-in_default-2
 returns-in_default-2 c =
-    let a = c.args in
     let b = c.in_ok-get.ensures.lookup in
-    let e : c.in_ok-get.field-0.now ≡ get_or a.line.now a.at 0 = b.4 (omega arith) 0 in
-    number_not a.line.now a.at b.3.0 (λ z. omega arith) (digit_over (get_or a.line.now a.at 0) (omega arith))
+    let x = get_or c.args.line.now c.args.at 0 in
+    let e : c.in_ok-get.field-0.now ≡ x = b.4 (omega arith) 0 in
+    number_not _ _ b.3.0 (λ z. omega arith) (digit_over x (omega arith))
