@@ -7,19 +7,14 @@ use Rattle.hex_pairs.proofs.Steps.{bytes_out, bytes_not, bytes_so}
 use Rattle.hex_pairs.proofs.count_bytes.Goals as goal
 
 pub returns-in_err-opening : goal.returns-in_err-opening
-returns-in_err-opening c =
-    let a = c.args in
-    rw c.from_residual.ensures (ap (counted 0) (bytes_out a.line.now a.at c.in_err-opening.ensures.lookup.3))
+returns-in_err-opening c = rw c.from_residual.ensures (ap (counted 0) (bytes_out _ _ c.in_err-opening.ensures.lookup.3))
 
 pub returns-then-opening-eq40 : goal.returns-then-opening-eq40
 returns-then-opening-eq40 c =
-    let a = c.args in
     let b = c.in_ok-opening.ensures.lookup in
-    (rw take_rest at c.count_pairs.ensures)
-    ∙ ap (counted 0) (bytes_so a.line.now a.at b.3.0 (sym (b.4 (omega arith) 0) ∙ c.if-opening-eq40.true))
+    (rw take_rest at c.count_pairs.ensures) ∙ ap (counted 0) (bytes_so _ _ b.3.0 (sym (b.4 (omega arith) 0) ∙ c.if-opening-eq40.true))
 
 pub returns-else-opening-eq40 : goal.returns-else-opening-eq40
 returns-else-opening-eq40 c =
-    let a = c.args in
     let b = c.in_ok-opening.ensures.lookup in
-    ap (counted 0) (bytes_not a.line.now a.at b.3.0 (λ e. c.if-opening-eq40.false (b.4 (omega arith) 0 ∙ e)))
+    ap (counted 0) (bytes_not _ _ b.3.0 (λ e. c.if-opening-eq40.false (b.4 (omega arith) 0 ∙ e)))

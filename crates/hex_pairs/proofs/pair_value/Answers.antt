@@ -5,19 +5,13 @@ use Rattle.hex_pairs.proofs.Steps.{nibble_small, pair_first, pair_second, pair_b
 use Rattle.hex_pairs.proofs.pair_value.Goals as goal
 
 pub returns-in_err-h : goal.returns-in_err-h
-returns-in_err-h c =
-    let a = c.args in
-    rw c.from_residual.ensures (pair_first a.a a.b (sym c.in_err-h.ensures))
+returns-in_err-h c = rw c.from_residual.ensures (pair_first _ _ (sym c.in_err-h.ensures))
 
 pub returns-in_err-l : goal.returns-in_err-l
-returns-in_err-l c =
-    let a = c.args in
-    rw c.from_residual-in_err-l.ensures (pair_second a.a a.b (sym c.in_ok-h.ensures) (sym c.in_err-l.ensures))
+returns-in_err-l c = rw c.from_residual-in_err-l.ensures (pair_second _ _ (sym c.in_ok-h.ensures) (sym c.in_err-l.ensures))
 
 pub returns : goal.returns
-returns c =
-    let a = c.args in
-    pair_both a.a a.b (sym c.in_ok-h.ensures) (sym c.in_ok-l.ensures)
+returns c = pair_both _ _ (sym c.in_ok-h.ensures) (sym c.in_ok-l.ensures)
 
 pub overflow_mul-result : goal.overflow_mul-result
 overflow_mul-result c = omega (arith, nibble_small c.args.a _ (sym c.in_ok-h.ensures))
