@@ -3,7 +3,7 @@ use Prim.Native.Nat.{ℕ, ◌-◌, ◌*◌, ◌≤◌}
 use native.Mathlib.Omega.{arith}
 use mathlib.Core.Path.{◌≡◌, refl, sym, ap, ◌∙◌}
 use mathlib.Core.Bool.{Bool, true, false}
-use mathlib.Core.List.{List, [], ◌∷◌}
+use mathlib.Core.List.{List}
 use mathlib.Core.Option as M
 use lib.ListN.{length}
 use lib.Seq.{sets}
@@ -17,11 +17,8 @@ use Rattle.forms.specs.Answers.{answer_of, bytes_of, form_in, byte_count, answer
 use Rattle.hex_pairs.specs.HexAnswers.{pairs_at}
 use Rattle.forms.specs.declared.Form.{Form}
 use Rattle.forms.proofs.Lines.{Behind, form_behind, read_line_is}
+use Rattle.std.proofs.lemmas.List.{nil_from_length}
 use Rattle.forms.proofs.Ways.{count_of_answer}
-
-no_elements : (l : List ℕ) → length l ≡ 0 → l ≡ []
-no_elements [] e = refl
-no_elements (x ∷ xs) e = absurd (omega arith)
 
 -- a line of 1,024 bytes has room for 511 pairs
 few_bytes : (l : List ℕ) (f : P.Form) → P.IsForm l f → length (bytes_of (M.some f)) ≤ 511
@@ -73,7 +70,7 @@ module _ (l before : List ℕ) where
 
     pub reads_none : n ≡ 0 → Reads l before (Some r) before
     reads_none z =
-        let b = no_elements (bytes_of (read_line l)) (sym size ∙ z) in
+        let b = nil_from_length (bytes_of (read_line l)) (sym size ∙ z) in
         reads_all (Some r) e before (ap (sets before 0) (sym b))
 
     pub line_behind : (n ≡ 0 → ⊥) → Behind l (bytes_of (read_line l)) n
