@@ -5,7 +5,7 @@ use mathlib.Core.Path.{◌≡◌, refl, sym, ap, subst, ◌∙◌}
 use mathlib.Core.Bool.{Bool}
 use mathlib.Core.List.{List, [], ◌∷◌, ◌++◌, append-nil, append_assoc}
 use mathlib.Core.Option.{Option as Maybe, none, some}
-use Rattle.std.specs.Prelude.{Option, Some, None}
+use Rattle.std.specs.Prelude.{Option, Some, None, ⊤}
 use mathlib.Core.List.Memᴰ.{append_left}
 use lib.ListN.{length, take, drop, get_or, length-drop, drop_of_length-le}
 use lib.Seq.{drop-drop, drop-cons, take_all, take-suc, get_or-drop}
@@ -27,7 +27,7 @@ use Rattle.collecting.proofs.Callers.{here_more}
 use Rattle.place_lookup.specs.Lookup.{Within}
 use Rattle.joining.specs.Lists.{listed}
 use Rattle.place_buffer.specs.declared.Places.{Places}
-use Rattle.place_buffer.specs.Buffer.{Valid, Taken}
+use Rattle.place_buffer.specs.Buffer.{Taken}
 use Rattle.place_buffer.proofs.Adding.{taken_none, taken_over, taken_more}
 use Rattle.node_joining.specs.Found.{rooted, last_of, ended_lists, ending_lists, beyond_of, along_from, rest_along}
 use Rattle.node_joining.specs.Layout.{Sound, lists_of, Listed, Ending, Reached}
@@ -142,16 +142,16 @@ nothing_ending img path e = record {
 
 -- ── path by path ──
 
-pub record Progress (front : Bool) (n : Node) (w : List ℕ) (k : ℕ) (s s' : List ℕ) (p r : Places) : Type 0 where
+pub record Progress (front : Bool) (n : Node) (w : List ℕ) (k : ℕ) (p r : Places) : Type 0 where
   pub done : List Location
   pub whole : along_from front n w ≡ done ++ rest_along front n w k
-  pub taken : Taken s s' p done (Some r)
+  pub taken : Taken p r done (Some tt)
 
-pub progress_start : {s : List ℕ} {p : Places} (front : Bool) (n : Node) (w : List ℕ) → 0 < length w → Valid s p → Progress front n w 1 s s p p
-progress_start front n w h v = record { done = []; whole = rest_start front n w h; taken = taken_none v }
+pub progress_start : {p : Places} (front : Bool) (n : Node) (w : List ℕ) → 0 < length w → Progress front n w 1 p p
+progress_start front n w h = record { done = []; whole = rest_start front n w h; taken = taken_none }
 
-pub progress_at : {front : Bool} {n : Node} {w : List ℕ} (k k' : ℕ) {s s' : List ℕ} {p r : Places} → k ≡ k' → Progress front n w k s s' p r → Progress front n w k' s s' p r
-progress_at {front} {n} {w} k k' {s} {s'} {p} {r} e g = subst (λ (j : ℕ). Progress front n w j s s' p r) e g
+pub progress_at : {front : Bool} {n : Node} {w : List ℕ} (k k' : ℕ) {p r : Places} → k ≡ k' → Progress front n w k p r → Progress front n w k' p r
+progress_at {front} {n} {w} k k' {p} {r} e g = subst (λ (j : ℕ). Progress front n w j p r) e g
 
 -- the places behind a path are those of the query behind it
 pub behind_path : (n : Node) (q : List ℕ) (i j : ℕ) → i ≤ j → first_of (ends_found n (drop j q)) ≡ first_of (ends_found n (drop (j - i) (drop i q)))
@@ -159,12 +159,12 @@ behind_path n q i j h =
     let e : j ≡ i + (j - i) = omega arith in
     ap (λ (x : List ℕ). first_of (ends_found n x)) (ap (λ (k : ℕ). drop k q) e ∙ sym (drop-drop (j - i) i q))
 
-module _ (img : List ℕ) {front : Bool} {w : List ℕ} {k : ℕ} {s s' : List ℕ} {p r : Places} (g : Progress front (rooted img) w k s s' p r) where
+module _ (img : List ℕ) {front : Bool} {w : List ℕ} {k : ℕ} {p r : Places} (g : Progress front (rooted img) w k p r) where
   -- the path has no node, and no longer one has
-  pub progress_none : node_at (rooted img) (take k w) ≡ none → Taken s s' p (along_from front (rooted img) w) (Some r)
+  pub progress_none : node_at (rooted img) (take k w) ≡ none → Taken p r (along_from front (rooted img) w) (Some tt)
   progress_none z =
       let whole : along_from front (rooted img) w ≡ g.done = g.whole ∙ ap (λ (ls : List Location). g.done ++ ls) (rest_none front (rooted img) w k z) ∙ append-nil g.done in
-      subst (λ (ls : List Location). Taken s s' p ls (Some r)) (sym whole) g.taken
+      subst (λ (ls : List Location). Taken p r ls (Some tt)) (sym whole) g.taken
 
   -- what ends at the path's node is joined with the places behind it
   module _ (m : Parts) (l : lists_of img m ≡ lists_at (rooted img) (take k w)) (h : k < length w) (ms : List Location) (ems : ms ≡ first_of (ends_found (rooted img) (drop k w))) where
@@ -175,18 +175,18 @@ module _ (img : List ℕ) {front : Bool} {w : List ℕ} {k : ℕ} {s s' : List �
         ∙ ap (λ (ns : List Location). joins_each k (ended_lists front (lists_of img m)) ns ++ rest_along front (rooted img) w (k + 1)) (sym ems) in
         g.whole ∙ ap (λ (ls : List Location). g.done ++ ls) next ∙ sym (append_assoc g.done (joins_each k (ended_lists front (lists_of img m)) ms) (rest_along front (rooted img) w (k + 1)))
 
-    pub progress_next : {s'' : List ℕ} {r' : Places} → Taken s' s'' r (joins_each k (ended_lists front (lists_of img m)) ms) (Some r') → Progress front (rooted img) w (k + 1) s s'' p r'
+    pub progress_next : {r' : Places} → Taken r r' (joins_each k (ended_lists front (lists_of img m)) ms) (Some tt) → Progress front (rooted img) w (k + 1) p r'
     progress_next t = record { done = g.done ++ joins_each k (ended_lists front (lists_of img m)) ms; whole = step; taken = taken_more g.taken t }
 
     -- that has no room
-    pub progress_over : {s'' : List ℕ} → Taken s' s'' r (joins_each k (ended_lists front (lists_of img m)) ms) None → Taken s s'' p (along_from front (rooted img) w) None
+    pub progress_over : {r' : Places} → Taken r r' (joins_each k (ended_lists front (lists_of img m)) ms) None → Taken p r' (along_from front (rooted img) w) None
     progress_over t =
         taken_over (taken_more g.taken t)
         (subst (Within (g.done ++ joins_each k (ended_lists front (lists_of img m)) ms)) (sym step) (λ x i. append_left (rest_along front (rooted img) w (k + 1)) i))
 
   -- the path is the query
-  pub progress_end : {s'' : List ℕ} {o : Option Places} {at : ℕ} → FoundAt img 16 at (node_at (rooted img) (take k w)) → length w ≤ k → Reached img at front s' s'' r o → Taken s s'' p (along_from front (rooted img) w) o
-  progress_end {s''} {o} f h t =
+  pub progress_end : {r' : Places} {o : Option ⊤} {at : ℕ} → FoundAt img 16 at (node_at (rooted img) (take k w)) → length w ≤ k → Reached img at front r r' o → Taken p r' (along_from front (rooted img) w) o
+  progress_end {r'} {o} f h t =
       let there : node_at (rooted img) w ≡ some f.node = subst (λ (x : List ℕ). node_at (rooted img) x ≡ some f.node) (take_all k w h) f.there in
       let whole : along_from front (rooted img) w ≡ g.done ++ beyond_of front f.node = g.whole ∙ ap (λ (ls : List Location). g.done ++ ls) (rest_end front (rooted img) w k h ∙ beyond_some front (rooted img) w f.node there) in
-      subst (λ (ls : List Location). Taken s s'' p ls o) (sym whole) (taken_more g.taken (t.taken f.node f.here))
+      subst (λ (ls : List Location). Taken p r' ls o) (sym whole) (taken_more g.taken (t.taken f.node f.here))

@@ -1,11 +1,11 @@
 // The places of one end of a query.
 #![tactic(auto)]
 
-ghost use Rattle.std.specs.Prelude.{◌+◌, ◌<◌, length, get_or, drop, eqb};
+ghost use Rattle.std.specs.Prelude.{◌≡◌, ◌+◌, ◌<◌, length, get_or, drop, eqb};
 ghost use Rattle.collecting.specs.Collected.{Standing};
-ghost use Rattle.place_buffer.specs.Buffer.{Valid, Taken};
+ghost use Rattle.place_buffer.specs.Buffer.{Taken};
 ghost use Rattle.node_joining.specs.Found.{rooted, along_from};
-ghost use Rattle.node_joining.specs.Layout.{Sound, Reached, starting, LaidOut, EndFound};
+ghost use Rattle.node_joining.specs.Layout.{Sound, Reached, LaidOut, EndFound};
 
 use node_joining::{Query, Step};
 use place_buffer::Places;
@@ -18,41 +18,35 @@ pub struct Search<'a> {
 }
 
 // Adds what ends at the node at index at or goes beyond it.
-fn find_beyond(img: &[u8], at: usize, front: bool, scratch: &mut [u8], p: Places) -> Option<Places>
-    requires { Standing img.now 16 at × Valid scratch.old p }
-    ensures { Reached img.now at front scratch.old scratch.new p result }
+fn find_beyond(img: &[u8], at: usize, front: bool, places: &mut Places<'_>) -> Option<()>
+    requires { Standing img.now 16 at }
+    ensures { Reached img.now at front places.old places.new result }
 {
     if front {
-        return collecting::collect_all_substrings(img, at, 16, scratch, p);
+        return collecting::collect_all_substrings(img, at, 16, places);
     }
-    collecting::find_suffixes(img, at, scratch, p)
+    collecting::find_suffixes(img, at, places)
 }
 
-// The places of the query from i on, unsorted, behind those of its shorter ends.
-fn find_places(search: Search, i: usize, ends: &[usize], scratch: &mut [u8]) -> Option<Places>
-    requires { (i < length search.query.bytes.now) × LaidOut (rooted search.query.img.now) search.query.bytes.now (i + 1) ends.now scratch.old }
-    ensures { Taken scratch.old scratch.new (starting (get_or ends.now (i + 1) 0)) (along_from (eqb i 0) (rooted search.entry.query.img.now) (drop i search.entry.query.bytes.now)) result }
+// Adds the places of the query from i on to a set, which stands behind those of its shorter ends.
+fn find_places(search: Search, i: usize, ends: &[usize], places: &mut Places<'_>) -> Option<()>
+    requires { (i < length search.query.bytes.now) × LaidOut (rooted search.query.img.now) search.query.bytes.now (i + 1) ends.now places.old.scratch.now × (places.old.base ≡ get_or ends.now (i + 1) 0) }
+    ensures { Taken places.old places.new (along_from (eqb i 0) (rooted search.entry.query.img.now) (drop i search.entry.query.bytes.now)) result }
 {
     let query = search.query;
-    let base = ends[i + 1];
-    let mut r = Places {
-        base,
-        count: base,
-        tight: false,
-    };
     let mut n = image_walk::node_at(query.img, 0);
     for j in i..query.bytes.len() - 1 {
         let Some(at) = image_walk::child_of(query.img, n, query.bytes[j]) else {
-            return Some(r);
+            return Some(());
         };
         n = image_walk::node_at(query.img, at);
         let step = Step { i, j: j + 1, n };
-        r = node_joining::join_behind(query, step, ends, scratch, r)?;
+        node_joining::join_behind(query, step, ends, places)?;
     }
     let Some(end) = image_walk::child_of(query.img, n, query.bytes[query.bytes.len() - 1]) else {
-        return Some(r);
+        return Some(());
     };
-    find_beyond(query.img, end, i == 0, scratch, r)
+    find_beyond(query.img, end, i == 0, places)
 }
 
 // Finds the places of the query from i on and puts them behind those of its shorter ends, sorted, each once.
@@ -61,6 +55,8 @@ pub fn find_end(search: Search, i: usize, ends: &[usize], scratch: &mut [u8]) ->
     requires { (i < length search.query.bytes.now) × LaidOut (rooted search.query.img.now) search.query.bytes.now (i + 1) ends.now scratch.old }
     ensures { EndFound (rooted search.entry.query.img.now) search.entry.query.bytes.now i ends.now scratch.old scratch.new result }
 {
-    let p = find_places(search, i, ends, scratch)?;
-    Some(place_buffer::tidy(scratch, p.base, p.count))
+    let mut places = Places::behind(scratch, ends[i + 1]);
+    find_places(search, i, ends, &mut places)?;
+    places.tidy();
+    Some(places.count)
 }

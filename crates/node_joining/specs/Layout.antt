@@ -1,5 +1,5 @@
 -- What the search goes by: an image that is sound, and the places of a query's ends in scratch, one end behind another. Assumes nothing.
-use Rattle.std.specs.Prelude.{ℕ, ◌+◌, ◌-◌, ◌*◌, ◌≤◌, ◌<◌, ◌≡◌, Bool, false, cond, List, ◌++◌, length, get_or, set, Option, MatchOption, ⊤}
+use Rattle.std.specs.Prelude.{ℕ, ◌+◌, ◌-◌, ◌*◌, ◌≤◌, ◌<◌, ◌≡◌, Bool, cond, List, ◌++◌, length, get_or, set, Option, MatchOption, ⊤}
 use Rattle.definitions.specs.Location.{Location, locations_in}
 use Rattle.definitions.specs.Places.{first_of, sizes}
 use Rattle.trie.specs.Trie.{Lists, Node, root, lists_at}
@@ -8,7 +8,8 @@ use Rattle.image_format.specs.Held.{trie_in}
 use Rattle.image_walk.specs.declared.Node.{Node as Parts}
 use Rattle.image_walk.specs.Here.{NodeHere}
 use Rattle.place_buffer.specs.declared.Places.{Places}
-use Rattle.place_buffer.specs.Buffer.{room, Taken}
+use Rattle.place_buffer.specs.Scratch.{room}
+use Rattle.place_buffer.specs.Buffer.{Taken}
 use Rattle.joining.specs.Lists.{Inside, Ascends, listed}
 use Rattle.node_joining.specs.declared.Beyond.{Beyond}
 use Rattle.node_joining.specs.declared.Ended.{Ended}
@@ -71,12 +72,8 @@ pub record Ending (img path : List ℕ) (m : Beyond) : Type 0 where
   pub lists : ending_in img m ≡ ending_lists (lists_at (rooted img) path)
 
 -- what ends at the node at index `at` or goes beyond it is added to a set
-pub record Reached (img : List ℕ) (at : ℕ) (front : Bool) (s s' : List ℕ) (p : Places) (o : Option Places) : Type 0 where
-  pub taken : (n : Node) → NodeHere img 16 at n → Taken s s' p (beyond_of front n) o
-
--- a set of which nothing was added yet
-abbrev pub starting : ℕ → Places
-starting b = record { base = b; count = b; tight = false }
+pub record Reached (img : List ℕ) (at : ℕ) (front : Bool) (p r : Places) (o : Option ⊤) : Type 0 where
+  pub taken : (n : Node) → NodeHere img 16 at n → Taken p r (beyond_of front n) o
 
 -- T(j) stands from place number ends[j + 1] to ends[j] - 1
 pub record Part (n : Node) (q : List ℕ) (ends s : List ℕ) (bound j : ℕ) : Type 0 where

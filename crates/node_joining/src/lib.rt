@@ -4,7 +4,7 @@
 ghost use Rattle.std.specs.Prelude.{◌≡◌, true, ◌+◌, ◌-◌, ◌≤◌, ◌<◌, length, get_or, drop, eqb};
 ghost use Rattle.definitions.specs.Places.{first_of};
 ghost use Rattle.trie.specs.Find.{joins_each, ends_found};
-ghost use Rattle.place_buffer.specs.Buffer.{Valid, Taken};
+ghost use Rattle.place_buffer.specs.Buffer.{Taken};
 ghost use Rattle.joining.specs.Lists.{Ascends, listed, spanned};
 ghost use Rattle.node_joining.specs.Found.{rooted, last_of, ended_lists};
 ghost use Rattle.node_joining.specs.Layout.{lists_of, Listed, ended_at, ended_in, EndedHere, EndsNothing, ending_in, Ending, LaidOut};
@@ -70,70 +70,50 @@ impl Ended {
 
 // Joins what ends at a node, k bytes long, with the places of a span, which stands before the set.
 // Inside a query there are no prefixes, and they cost no call then.
-fn join_node(
-    img: &[u8],
-    e: Ended,
-    k: usize,
-    behind: Span,
-    scratch: &mut [u8],
-    p: Places,
-) -> Option<Places>
-    requires { EndedHere img.now e × Valid scratch.old p × (behind.from ≤ behind.to) × (behind.to ≤ p.base) }
-    ensures { Taken scratch.old scratch.new p (joins_each k (ended_in img.now e) (spanned scratch.old behind)) result }
+fn join_node(img: &[u8], e: Ended, k: usize, behind: Span, places: &mut Places<'_>) -> Option<()>
+    requires { EndedHere img.now e × (behind.from ≤ behind.to) × (behind.to ≤ places.old.base) }
+    ensures { Taken places.old places.new (joins_each k (ended_in img.now e) (spanned places.old.scratch.now behind)) result }
 {
     if e.prefixes.count == 0 {
-        return joining::filter_results(img, e.chunks, k, behind, scratch, p);
+        return joining::filter_results(img, e.chunks, k, behind, places);
     }
-    let a = joining::filter_results(img, e.prefixes, k, behind, scratch, p)?;
-    joining::filter_results(img, e.chunks, k, behind, scratch, a)
+    joining::filter_results(img, e.prefixes, k, behind, places)?;
+    joining::filter_results(img, e.chunks, k, behind, places)
 }
 
 // Joins what ends at a node, k bytes long, with a sorted list.
-fn join_list(
-    img: &[u8],
-    e: Ended,
-    k: usize,
-    to: List,
-    scratch: &mut [u8],
-    p: Places,
-) -> Option<Places>
-    requires { EndedHere img.now e × Ascends img.now to × Valid scratch.old p }
-    ensures { Taken scratch.old scratch.new p (joins_each k (ended_in img.now e) (listed img.now to)) result }
+fn join_list(img: &[u8], e: Ended, k: usize, to: List, places: &mut Places<'_>) -> Option<()>
+    requires { EndedHere img.now e × Ascends img.now to }
+    ensures { Taken places.old places.new (joins_each k (ended_in img.now e) (listed img.now to)) result }
 {
-    let a = joining::filter_lists(img, e.prefixes, k, to, scratch, p)?;
-    joining::filter_lists(img, e.chunks, k, to, scratch, a)
+    joining::filter_lists(img, e.prefixes, k, to, places)?;
+    joining::filter_lists(img, e.chunks, k, to, places)
 }
 
 // Joins what ends at a node, k bytes long, with the places of the query's last byte, which are two lists.
-fn join_last(query: Query, e: Ended, k: usize, scratch: &mut [u8], p: Places) -> Option<Places>
-    requires { EndedHere query.img.now e × Valid scratch.old p }
-    ensures { Taken scratch.old scratch.new p (joins_each k (ended_in query.entry.img.now e) (ending_in query.entry.img.now query.entry.last)) result }
+fn join_last(query: Query, e: Ended, k: usize, places: &mut Places<'_>) -> Option<()>
+    requires { EndedHere query.img.now e }
+    ensures { Taken places.old places.new (joins_each k (ended_in query.entry.img.now e) (ending_in query.entry.img.now query.entry.last)) result }
 {
-    let a = join_list(query.img, e, k, query.last.suffixes, scratch, p)?;
-    join_list(query.img, e, k, query.last.chunks, scratch, a)
+    join_list(query.img, e, k, query.last.suffixes, places)?;
+    join_list(query.img, e, k, query.last.chunks, places)
 }
 
 // Joins what ends at the node of a step with the places of the query from j on, for those of the query from i on.
-pub fn join_behind(
-    query: Query,
-    step: Step,
-    ends: &[usize],
-    scratch: &mut [u8],
-    p: Places,
-) -> Option<Places>
-    requires { Listed query.img.now step.n × (step.i < step.j) × (step.j < length query.bytes.now) × LaidOut (rooted query.img.now) query.bytes.now (step.i + 1) ends.now scratch.old × Valid scratch.old p × (p.base ≡ get_or ends.now (step.i + 1) 0) }
-    ensures { Taken scratch.old scratch.new p (joins_each (step.j - step.i) (ended_lists (eqb step.i 0) (lists_of query.entry.img.now step.n)) (first_of (ends_found (rooted query.entry.img.now) (drop step.j query.entry.bytes.now)))) result }
+pub fn join_behind(query: Query, step: Step, ends: &[usize], places: &mut Places<'_>) -> Option<()>
+    requires { Listed query.img.now step.n × (step.i < step.j) × (step.j < length query.bytes.now) × LaidOut (rooted query.img.now) query.bytes.now (step.i + 1) ends.now places.old.scratch.now × (places.old.base ≡ get_or ends.now (step.i + 1) 0) }
+    ensures { Taken places.old places.new (joins_each (step.j - step.i) (ended_lists (eqb step.i 0) (lists_of query.entry.img.now step.n)) (first_of (ends_found (rooted query.entry.img.now) (drop step.j query.entry.bytes.now)))) result }
 {
     let j = step.j;
     let k = j - step.i;
     let e = Ended::at(step.n, step.i == 0);
     if e.is_empty() {
-        return Some(p);
+        return Some(());
     }
     if j + 1 == query.bytes.len() {
-        return join_last(query, e, k, scratch, p);
+        return join_last(query, e, k, places);
     }
     let from = ends[j + 1];
     let to = ends[j];
-    join_node(query.img, e, k, Span { from, to }, scratch, p)
+    join_node(query.img, e, k, Span { from, to }, places)
 }

@@ -11,10 +11,10 @@ pub returns-then-is_empty : goal.returns-then-is_empty
 returns-then-is_empty c =
     let img = c.args.query.img.now in
     let step = c.args.step in
-    joined_at img (step.j - step.i) _ (eqb step.i 0) step.n c.at-e.ensures (joined_none img (step.j - step.i) _ _ (c.is_empty.ensures c.if-is_empty.true) c.requires.4)
+    joined_at img (step.j - step.i) _ (eqb step.i 0) step.n c.at-e.ensures (joined_none img (step.j - step.i) _ _ (c.is_empty.ensures c.if-is_empty.true))
 
 pub join_last-requires : goal.join_last-requires
-join_last-requires c = (ended_here (eqb c.args.step.i 0) c.at-e.ensures c.requires.0, c.requires.4)
+join_last-requires c = ended_here (eqb c.args.step.i 0) c.at-e.ensures c.requires.0
 
 pub returns-then-j-query : goal.returns-then-j-query
 returns-then-j-query c =
@@ -33,7 +33,7 @@ pub join_node-requires : goal.join_node-requires
 join_node-requires c =
     let step = c.args.step in
     let more : step.j + 1 < length c.args.query.bytes.now = omega (arith, c.if-j-query.false) in
-    (ended_here (eqb step.i 0) c.at-e.ensures c.requires.0, c.requires.4, behind_order step.i step.j c.requires.3 c.requires.1 more, omega (arith, behind_below step.i step.j c.requires.3 c.requires.1 more, c.requires.5))
+    (ended_here (eqb step.i 0) c.at-e.ensures c.requires.0, behind_order step.i step.j c.requires.3 c.requires.1 more, omega (arith, behind_below step.i step.j c.requires.3 c.requires.1 more, c.requires.4))
 
 pub returns : goal.returns
 returns c =

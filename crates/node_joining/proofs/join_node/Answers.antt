@@ -6,15 +6,15 @@ use Rattle.node_joining.proofs.join_node.Goals as goal
 pub returns-then-e-eq0 : goal.returns-then-e-eq0
 returns-then-e-eq0 c =
     let args = c.args in
-    joined_chunks args.img.now args.k (spanned args.scratch.now args.behind) args.e c.if-e-eq0.true c.filter_results.ensures
+    joined_chunks args.img.now args.k (spanned args.places.now.scratch.now args.behind) args.e c.if-e-eq0.true c.filter_results.ensures
 
-pub returns-in_err-a : goal.returns-in_err-a
-returns-in_err-a c =
+pub returns-in_err-filter_results : goal.returns-in_err-filter_results
+returns-in_err-filter_results c =
     let args = c.args in
-    rw c.from_residual.ensures (ended_over args.img.now args.k (spanned args.scratch.now args.behind) args.e c.in_err-a.ensures)
+    rw c.from_residual.ensures (ended_over args.img.now args.k (spanned args.places.now.scratch.now args.behind) args.e c.in_err-filter_results.ensures)
 
 pub returns : goal.returns
 returns c =
     let args = c.args in
-    let first = c.in_ok-a.ensures in
-    joined_ended args.img.now args.k (spanned args.scratch.now args.behind) args.e first (joined_later args.k (listed args.img.now args.e.chunks) args.behind c.requires.2 c.requires.3 first c.filter_results-3.ensures)
+    let first = c.in_ok-filter_results.ensures in
+    joined_ended args.img.now args.k (spanned args.places.now.scratch.now args.behind) args.e first (joined_later args.k (listed args.img.now args.e.chunks) args.behind c.requires.1 c.requires.2 first c.filter_results-3.ensures)
