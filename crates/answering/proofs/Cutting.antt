@@ -7,7 +7,7 @@ use mathlib.Core.Logic.{◌⊎◌, inl, inr}
 use mathlib.Core.List.{List, [], ◌∷◌, ◌++◌, append-nil, append_assoc}
 use lib.ListN.{length}
 use lib.Dec.{eqb}
-use Rattle.definitions.proofs.Views.{lt_or_le}
+use Rattle.std.proofs.lemmas.Bool.{cases_lt}
 use Rattle.lines.specs.Cut.{in_front, lines_of}
 use Rattle.form_answers.specs.Memory.{line_answer, lines_answer}
 use Rattle.lines.specs.Kept.{Kept, part, too_long, keeps, keeps_byte}
@@ -42,7 +42,7 @@ whole s = s.answers ++ end_answer s.memory s.kept
 
 -- a line that has begun is answered at the end
 end_begun : (m : List ℕ) (b : ℕ) (l : List ℕ) → end_answer m (keeps (part []) (b ∷ l)) ≡ line_answer m (b ∷ l)
-end_begun m b l = go (lt_or_le 1024 (length (b ∷ l)))
+end_begun m b l = go (cases_lt 1024 (length (b ∷ l)))
   where
     go : (1024 < length (b ∷ l)) ⊎ (length (b ∷ l) ≤ 1024) → end_answer m (keeps (part []) (b ∷ l)) ≡ line_answer m (b ∷ l)
     go (inl h) =

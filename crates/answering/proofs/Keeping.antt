@@ -6,7 +6,7 @@ use mathlib.Core.Logic.{◌⊎◌, inl, inr}
 use mathlib.Core.List.{List, [], ◌∷◌}
 use lib.ListN.{length}
 use borrow.Author.Tests.{lt-ltb}
-use Rattle.definitions.proofs.Views.{lt_or_le}
+use Rattle.std.proofs.lemmas.Bool.{cases_lt}
 use Rattle.forms.specs.ReadLine.{read_line}
 use Rattle.form_answers.specs.Memory.{line_answer, memory_after_line}
 use Rattle.lines.specs.Kept.{Kept, part, too_long, keeps}
@@ -19,7 +19,7 @@ module _ (m l : List ℕ) where
   -- a line is answered as what is kept of it
   pub line_kept : kept_answer m (keeps (part []) l) ≡ line_answer m l
   unfolding line_answer read_line
-  line_kept = go (lt_or_le 1024 (length l))
+  line_kept = go (cases_lt 1024 (length l))
     where
       go : (1024 < length l) ⊎ (length l ≤ 1024) → kept_answer m (keeps (part []) l) ≡ line_answer m l
       go (inl h) = ap (kept_answer m) (keeps_over [] l (omega arith) (omega arith)) ∙ rw (lt-ltb 1024 (length l) h) refl
@@ -27,7 +27,7 @@ module _ (m l : List ℕ) where
 
   pub memory_kept : kept_memory m (keeps (part []) l) ≡ memory_after_line m l
   unfolding memory_after_line read_line
-  memory_kept = go (lt_or_le 1024 (length l))
+  memory_kept = go (cases_lt 1024 (length l))
     where
       go : (1024 < length l) ⊎ (length l ≤ 1024) → kept_memory m (keeps (part []) l) ≡ memory_after_line m l
       go (inl h) = ap (kept_memory m) (keeps_over [] l (omega arith) (omega arith)) ∙ rw (lt-ltb 1024 (length l) h) refl

@@ -7,9 +7,6 @@ use Rattle.saving.proofs.Laws.{fault_over, load_as}
 use Rattle.saving.proofs.Theorems.{image_refusal}
 use Rattle.saving.proofs.load_into.Goals as goal
 
-pub load_right-requires : goal.load_right-requires
-load_right-requires c = (c.requires, sym c.in_ok-t.ensures)
-
 pub returns-in_err-t : goal.returns-in_err-t
 returns-in_err-t c =
     let a = c.args in

@@ -25,14 +25,14 @@ pub copy-requires : goal.copy-requires
 copy-requires c =
     let a = c.args in (
       omega arith,
-      room (header_of a.h).capacity a.mem.now a.s.now a.t.nodes a.t.entries (room_of a.mem.now _ c.requires.0) (λ j. omega (arith, c.type_inv.s j)) (omega arith) c.requires.1 c.if-h-t.false c.if-h-t-2.false,
+      room (header_of a.h).capacity a.mem.now a.s.now a.t.nodes a.t.entries (room_of a.mem.now _ c.requires.0) (λ j. grind arith) (omega arith) c.requires.1 c.if-h-t.false c.if-h-t-2.false,
     )
 
 pub put_finished-requires : goal.put_finished-requires
 put_finished-requires c =
     let k = c.closed-closed in
     let a = c.args in
-    closable (header_of a.h).capacity a.mem.now a.s.now a.t.nodes a.t.entries (room_of a.mem.now _ c.requires.0) (λ j. omega (arith, c.type_inv.s j)) (omega (arith, c.well_formed.1.1.1.0)) c.requires.1 c.if-h-t.false c.if-h-t-2.false
+    closable (header_of a.h).capacity a.mem.now a.s.now a.t.nodes a.t.entries (room_of a.mem.now _ c.requires.0) (λ j. grind arith) (grind arith) c.requires.1 c.if-h-t.false c.if-h-t-2.false
     (header_of k.result) (ap header_of k.ensures) _ (ap length c.copy.ensures ∙ simp length-sets)
 
 pub returns : goal.returns
@@ -41,7 +41,7 @@ returns c =
     let k = c.closed-closed in
     let a = c.args in
     let e =
-    loaded (header_of a.h).capacity a.mem.now a.s.now a.t.nodes a.t.entries (room_of a.mem.now _ c.requires.0) (λ j. omega (arith, c.type_inv.s j)) (omega (arith, c.well_formed.1.1.1.0)) c.requires.1 c.if-h-t.false c.if-h-t-2.false
+    loaded (header_of a.h).capacity a.mem.now a.s.now a.t.nodes a.t.entries (room_of a.mem.now _ c.requires.0) (λ j. grind arith) (grind arith) c.requires.1 c.if-h-t.false c.if-h-t-2.false
     (header_of k.result) (ap header_of k.ensures) c.copy.new.to w.new.mem c.copy.ensures w.ensures
     ∙ load_as a.mem.now a.s.now _ _ c.requires.0 c.requires.1 in
     record { answer = ap (λ (d : Done). d.refusal) e; memory = ap (λ (d : Done). d.memory) e }
