@@ -105,6 +105,14 @@ impl Output<'_> {
         requires { self.old.at + 31 ≤ length self.old.bytes.now }
         ensures { Writes self.old (reply_bytes (refused (number_of refusal))) self.new }
     {
-        self.put_count(b"(refused ", refusal.number());
+        self.put_refused_by(refusal.number());
+    }
+
+    // The line of a refusal by a number, whatever it is.
+    pub fn put_refused_by(&mut self, n: u64)
+        requires { self.old.at + 31 ≤ length self.old.bytes.now }
+        ensures { Writes self.old (reply_bytes (refused n)) self.new }
+    {
+        self.put_count(b"(refused ", n);
     }
 }

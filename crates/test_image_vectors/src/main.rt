@@ -126,5 +126,5 @@ fn main(rt: HostRuntime) -> io::Result<()> {
     let n = reading::read_file(&rt, "images", &mut bytes)?;
     let mut page = Page::new(&rt);
     run(&mut page, &mut bytes[..n]);
-    page.close()
+    page.printed
 }

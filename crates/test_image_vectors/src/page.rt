@@ -32,7 +32,7 @@ impl fmt::Display for Said {
 #[derive(Drop)]
 pub struct Page<'a, P> {
     rt: &'a P,
-    printed: io::Result<()>,
+    pub printed: io::Result<()>,
     pub last: Option<Said>,
 }
 
@@ -76,12 +76,5 @@ impl<'a, P: Print> Page<'a, P> {
                 self.last = Some(Said { times: 1, verdict });
             }
         }
-    }
-
-    // The first failure to print a line.
-    pub fn close(self) -> io::Result<()>
-        ensures { result ≡ self.entry.printed }
-    {
-        self.printed
     }
 }
