@@ -49,7 +49,7 @@ module _ (i : ℕ) {n : Node} {q ends : List ℕ} {s : MutBor (List ℕ)} {p : P
 
   module _ {r r' : Places} (t : Taken p r (along_from (eqb i 0) n (drop i q)) (Some tt)) (u : TidiedTo r r') where
     base : r.base ≡ get_or ends (i + 1) 0
-    base = t.set.same_base ∙ e.from
+    base = t.same_base ∙ e.from
 
     settled : Settled r'.scratch.now r.base (along_from (eqb i 0) n (drop i q)) r'.count
     settled = holding_tidy (subst (Holding r) (append-nil (along_from (eqb i 0) n (drop i q))) (holding_taken none_yet t)) u
@@ -85,7 +85,7 @@ module _ (i : ℕ) {n : Node} {q ends : List ℕ} {s : MutBor (List ℕ)} {p : P
           places =
               rw (a, b)
               (tidied_elsewhere u.tidied (get_or ends j 0 - get_or ends (j + 1) 0) (get_or ends (j + 1) 0 * 24) low
-              ∙ taken_elsewhere t (get_or ends j 0 - get_or ends (j + 1) 0) (get_or ends (j + 1) 0 * 24) (omega (arith, base, t.set.same_base)) ∙ ap (λ (x : List ℕ). locations_in x (get_or ends j 0 - get_or ends (j + 1) 0) (get_or ends (j + 1) 0 * 24)) e.same_bytes ∙ o.places);
+              ∙ taken_elsewhere t (get_or ends j 0 - get_or ends (j + 1) 0) (get_or ends (j + 1) 0 * 24) (omega (arith, base, t.same_base)) ∙ ap (λ (x : List ℕ). locations_in x (get_or ends j 0 - get_or ends (j + 1) 0) (get_or ends (j + 1) 0 * 24)) e.same_bytes ∙ o.places);
         }
 
     laid_there : EndFound n q i ends s.now r'.scratch.now (Some r'.count)

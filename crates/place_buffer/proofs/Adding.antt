@@ -43,9 +43,10 @@ only_one {xs} {l} h x k = go (split k)
 pub taken_none : {p : Places} → Taken p p [] (Some tt)
 taken_none = record {
   same_reference = refl;
+  same_base = refl;
   same_length = refl;
   before = λ k h. refl;
-  set = record { same_base = refl; only = λ x h. h; all = λ x h. h };
+  set = record { only = λ x h. h; all = λ x h. h };
 }
 
 module _ {p : Places} (l : Location) where
@@ -53,10 +54,10 @@ module _ {p : Places} (l : Location) where
   pub taken_there : Mem l (held p) → Taken p p (l ∷ []) (Some tt)
   taken_there m = record {
     same_reference = refl;
+    same_base = refl;
     same_length = refl;
     before = λ k h. refl;
     set = record {
-      same_base = refl;
       only = λ x h. later h;
       all = append_within {xs = l ∷ []} {ys = held p} (only_one m) (λ x h. h);
     };
@@ -69,6 +70,7 @@ module _ {p : Places} (l : Location) where
       let size : length (normal (l ∷ held p)) ≡ suc (length (held p)) = normal_new l (held p) n ∙ ap (λ (ls : List Location). suc (length ls)) (normal_ascending (held p) (v.ascending t)) in
       record {
         same_reference = refl;
+        same_base = refl;
         same_length = refl;
         before = λ k h. refl;
         set = omega (arith, size, length_locations (p.count - p.base) p.scratch.now (p.base * 24), v.no_room t);
@@ -87,10 +89,10 @@ module _ {p : Places} (l : Location) where
       rw (more, eb, e, ← at) (locations_written (p.count - p.base) s (p.base * 24) l f (omega arith)) in
       record {
         same_reference = same;
+        same_base = eb;
         same_length = long;
         before = λ k j. ap (λ (x : List ℕ). get_or x k 0) e ∙ get_or_sets_out (location_bytes l) s (p.count * 24) k (inl (omega arith));
         set = record {
-          same_base = eb;
           only = subst (λ (x : List Location). Within x (l ∷ held p)) (sym places) (append_within {xs = held p} {ys = l ∷ []} (λ x k. later k) (only_one (here refl)));
           all = subst (λ (x : List Location). Within (l ∷ held p) x) (sym places) (append_within {xs = l ∷ []} {ys = held p} (only_one (append_right (held p) (here refl))) (λ x k. append_left (l ∷ []) k));
         };
@@ -127,10 +129,10 @@ module _ {p r : Places} where
       rw (more, eb) (locations_append (p.count - p.base) n s' (p.base * 24) ∙ rw (to, front, back) refl) in
       record {
         same_reference = same;
+        same_base = eb;
         same_length = long;
         before = λ j b. ap (λ (x : List ℕ). get_or x j 0) e ∙ get_or_sets_out part s (p.count * 24) j (inl (omega arith));
         set = record {
-          same_base = eb;
           only = subst (λ (x : List Location). Within x (ls ++ held p)) (sym places) (append_within {xs = held p} {ys = ls} (λ x j. append_right ls j) (λ x j. append_left (held p) j));
           all = subst (λ (x : List Location). Within (ls ++ held p) x) (sym places) (append_within {xs = ls} {ys = held p} (λ x j. append_right (held p) j) (λ x j. append_left ls j));
         };
@@ -164,6 +166,7 @@ module _ {p q : Places} (t : TidiedTo p q) where
       → Taken q' r ls o → Taken p r ls o
   taken_tidied {q'} {r} {o} {ls} en es eb ec u = record {
     same_reference = u.same_reference ∙ en ∙ t.same_reference;
+    same_base = u.same_base ∙ base;
     same_length = u.same_length ∙ ap length es ∙ t.tidied.same_length;
     before = λ k h. u.before k (subst (λ (b : ℕ). k < b * 24) (sym base) h) ∙ ap (λ (x : List ℕ). get_or x k 0) es ∙ t.tidied.before k h;
     set = go o u.set;
@@ -184,7 +187,6 @@ module _ {p q : Places} (t : TidiedTo p q) where
       go : (o : Option ⊤) → MatchOption o (Over q'.scratch.now q'.base (ls ++ held q')) (λ _. Added q' ls r) → MatchOption o (Over p.scratch.now p.base (ls ++ held p)) (λ _. Added p ls r)
       go None h = omega (arith, h, ap length (normal_same (ls ++ held q') (ls ++ held p) to fro), ap (λ (n : ℕ). n / 24) (ap length es ∙ t.tidied.same_length), base)
       go (Some x) h = record {
-        same_base = h.same_base ∙ base;
         only = λ x k. to x (h.only x k);
         all = λ x k. h.all x (fro x k);
       }
@@ -193,7 +195,7 @@ module _ {p q : Places} (t : TidiedTo p q) where
 
 -- only the members of what is added count
 pub taken_same : {p r : Places} {o : Option ⊤} {ls ms : List Location} → Taken p r ls o → Within ls ms → Within ms ls → Taken p r ms o
-taken_same {p} {r} {o} {ls} {ms} t f g = record { same_reference = t.same_reference; same_length = t.same_length; before = t.before; set = go o t.set }
+taken_same {p} {r} {o} {ls} {ms} t f g = record { same_reference = t.same_reference; same_base = t.same_base; same_length = t.same_length; before = t.before; set = go o t.set }
   where
     to : Within (ls ++ held p) (ms ++ held p)
     to = append_within {xs = ls} {ys = held p} (λ x k. append_left (held p) (f x k)) (λ x k. append_right ms k)
@@ -203,12 +205,13 @@ taken_same {p} {r} {o} {ls} {ms} t f g = record { same_reference = t.same_refere
 
     go : (o : Option ⊤) → MatchOption o (Over p.scratch.now p.base (ls ++ held p)) (λ _. Added p ls r) → MatchOption o (Over p.scratch.now p.base (ms ++ held p)) (λ _. Added p ms r)
     go None h = omega (arith, h, fewer (ls ++ held p) (ms ++ held p) to)
-    go (Some x) h = record { same_base = h.same_base; only = λ x k. to x (h.only x k); all = λ x k. h.all x (fro x k) }
+    go (Some x) h = record { only = λ x k. to x (h.only x k); all = λ x k. h.all x (fro x k) }
 
 -- what has no room has none, whatever else were added
 pub taken_over : {p r : Places} {ls ms : List Location} → Taken p r ls None → Within ls ms → Taken p r ms None
 taken_over {p} {r} {ls} {ms} t f = record {
   same_reference = t.same_reference;
+  same_base = t.same_base;
   same_length = t.same_length;
   before = t.before;
   set = omega (arith, t.set, fewer (ls ++ held p) (ms ++ held p) (append_within {xs = ls} {ys = held p} (λ x j. append_left (held p) (f x j)) (λ x j. append_right ms j)));
@@ -226,9 +229,8 @@ module _ {p q r : Places} {o : Option ⊤} {ls ms : List Location} (t : Taken p 
       (λ x h. append_right ms (t.set.all x (append_right ls h)))
 
   more_set : (o : Option ⊤) → MatchOption o (Over q.scratch.now q.base (ms ++ held q)) (λ _. Added q ms r) → MatchOption o (Over p.scratch.now p.base (ls ++ ms ++ held p)) (λ _. Added p (ls ++ ms) r)
-  more_set None h = omega (arith, h, fewer (ms ++ held q) (ls ++ ms ++ held p) within, ap (λ (n : ℕ). n / 24) t.same_length, t.set.same_base)
+  more_set None h = omega (arith, h, fewer (ms ++ held q) (ls ++ ms ++ held p) within, ap (λ (n : ℕ). n / 24) t.same_length, t.same_base)
   more_set (Some x) h = record {
-    same_base = h.same_base ∙ t.set.same_base;
     only = λ x k. within x (h.only x k);
     all = λ x k. h.all x (back x k);
   }
@@ -236,8 +238,9 @@ module _ {p q r : Places} {o : Option ⊤} {ls ms : List Location} (t : Taken p 
   pub taken_more : Taken p r (ls ++ ms) o
   taken_more = record {
     same_reference = u.same_reference ∙ t.same_reference;
+    same_base = u.same_base ∙ t.same_base;
     same_length = u.same_length ∙ t.same_length;
-    before = λ k h. u.before k (subst (λ (b : ℕ). k < b * 24) (sym t.set.same_base) h) ∙ t.before k h;
+    before = λ k h. u.before k (subst (λ (b : ℕ). k < b * 24) (sym t.same_base) h) ∙ t.before k h;
     set = more_set o u.set;
   }
 

@@ -27,7 +27,6 @@ pub record TidiedTo (p r : Places) : Type 0 where
 
 -- the set r has the places of the set p and the places ls
 pub record Added (p : Places) (ls : List Location) (r : Places) : Type 0 where
-  pub same_base : r.base ≡ p.base
   pub only : Within (held r) (ls ++ held p)
   pub all : Within (ls ++ held p) (held r)
 
@@ -38,6 +37,7 @@ Over s base xs = room s - base < length (normal xs)
 -- adding the places ls to the set p made r of it, or o is None: a place had no room
 pub record Taken (p r : Places) (ls : List Location) (o : Option ⊤) : Type 0 where
   pub same_reference : r.scratch.ghost_name ≡ p.scratch.ghost_name
+  pub same_base : r.base ≡ p.base
   pub same_length : length r.scratch.now ≡ length p.scratch.now
   pub before : (k : ℕ) → k < p.base * 24 → get_or r.scratch.now k 0 ≡ get_or p.scratch.now k 0
   pub set : MatchOption o (Over p.scratch.now p.base (ls ++ held p)) (λ _. Added p ls r)

@@ -43,7 +43,7 @@ join_behind-requires c =
     let turn = c.loop-j in
     let w = child_found turn.invariant.0 _ (path_next args.search.query.bytes.now args.i turn.j turn.auto.j (omega arith)) c.in-Some.ensures in
     let t = turn.invariant.1.taken in
-    (walked_listed (walked_at (take (turn.j + 1 - args.i) (drop args.i args.search.query.bytes.now)) c.node_at-n-in-loop-j.ensures w) args.search.sound, omega arith, omega arith, laid_taken args.i c.requires.1 c.requires.2 t, t.set.same_base ∙ c.requires.2)
+    (walked_listed (walked_at (take (turn.j + 1 - args.i) (drop args.i args.search.query.bytes.now)) c.node_at-n-in-loop-j.ensures w) args.search.sound, omega arith, omega arith, laid_taken args.i c.requires.1 c.requires.2 t, t.same_base ∙ c.requires.2)
 
 pub returns-in_err-join_behind : goal.returns-in_err-join_behind
 returns-in_err-join_behind c =
