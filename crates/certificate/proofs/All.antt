@@ -4,8 +4,8 @@ use native.Mathlib.Omega.{arith}
 use mathlib.Core.Path.{◌≡◌, refl, sym, subst}
 use mathlib.Core.Bool.{Bool, true, false}
 use mathlib.Core.Logic.{◌⊎◌, inl, inr}
+use Rattle.std.proofs.lemmas.Bool.{cases_lt}
 use Rattle.definitions.proofs.Tests.{both, and_true, is_false, not_both}
-use Rattle.definitions.proofs.Views.{lt_or_le}
 use Rattle.certificate.specs.Entries.{all}
 
 module _ (f : ℕ → Bool) where
@@ -20,7 +20,7 @@ module _ (f : ℕ → Bool) where
   pub each : (k : ℕ) → all f k ≡ true → (i : ℕ) → i < k → f i ≡ true
   unfolding all
   each zero a i h = absurd (omega arith)
-  each (suc k) a i h = go (lt_or_le i k) (each k (both (all f k) (f k) a).0 i)
+  each (suc k) a i h = go (cases_lt i k) (each k (both (all f k) (f k) a).0 i)
     where
       go : (i < k) ⊎ (k ≤ i) → (i < k → f i ≡ true) → f i ≡ true
       go (inl l) ih = ih l

@@ -6,9 +6,9 @@ use mathlib.Core.Bool.{Bool, true, false, not, ◌&&◌}
 use mathlib.Core.Logic.{◌⊎◌, inl, inr}
 use lib.Dec.{ltb}
 use borrow.Author.Tests.{ltb-true, lt-ltb}
+use Rattle.std.proofs.lemmas.Bool.{cases_lt}
 use Rattle.definitions.specs.Location.{Location}
 use Rattle.definitions.proofs.Tests.{both, and_true, is_false, not_both, negated}
-use Rattle.definitions.proofs.Views.{lt_or_le}
 use Rattle.conflicts.specs.Lined.{Lined}
 use Rattle.conflicts.specs.Promises.{LivesAmong}
 use Rattle.conflicts.proofs.Together.{Together, meets_is}
@@ -19,7 +19,7 @@ use Rattle.certificate.proofs.All.{each, all_each, all_fails}
 
 -- what holds from g to e - 1 and at e holds up to e
 pub one_more : (P : ℕ → Type 0) (g e : ℕ) → ((k : ℕ) → g ≤ k → k < e → P k) → P e → (k : ℕ) → g ≤ k → k < e + 1 → P k
-one_more P g e f p k h l = go (lt_or_le k e)
+one_more P g e f p k h l = go (cases_lt k e)
   where
     go : (k < e) ⊎ (e ≤ k) → P k
     go (inl a) = f k h a
@@ -51,7 +51,7 @@ module _ (n : ℕ) (at : ℕ → Location) (s : Lined n at) (end : ℕ → ℕ) 
     module _ (j q : ℕ) (w : Walked at end i e g h j q) (l : j < e) where
       -- one more meets none where it itself doesn't
       further : ((k : ℕ) → g ≤ k → k < h → (at k).address < end j → Together (at j) (at k) → ⊥) → Meeting at end i (j + 1) g h → ⊥
-      further f m = go (lt_or_le m.one j)
+      further f m = go (cases_lt m.one j)
         where
           go : (m.one < j) ⊎ (j ≤ m.one) → ⊥
           go (inl c) = w.none (record { one = m.one; other = m.other; from_one = m.from_one; upto_one = c; from_other = m.from_other; upto_other = m.upto_other; below = m.below; is = m.is })
@@ -80,7 +80,7 @@ module _ (n : ℕ) (at : ℕ → Location) (s : Lined n at) (end : ℕ → ℕ) 
         lives e = ap (λ (y : Location). ltb g r && ltb y.created (at (r - 1)).destroyed) (sym read) ∙ sym e
 
         earlier : (k : ℕ) → g ≤ k → k < r → (at k).created < (at j).destroyed
-        earlier k d u = go (lt_or_le k q)
+        earlier k d u = go (cases_lt k q)
           where
             go : (k < q) ⊎ (q ≤ k) → (at k).created < (at j).destroyed
             go (inl t) = w.sooner k j d t (omega arith) l
@@ -93,7 +93,7 @@ module _ (n : ℕ) (at : ℕ → Location) (s : Lined n at) (end : ℕ → ℕ) 
           upto_end = omega arith;
           low = omega (arith, w.low, c.low);
           high = c.high;
-          none = further (λ k d u _ m. apart k d u m (lt_or_le k r));
+          none = further (λ k d u _ m. apart k d u m (cases_lt k r));
           sooner = λ k y d u v w. omega (arith, earlier k d u, ends y v w);
         }
           where
@@ -131,7 +131,7 @@ module _ (n : ℕ) (at : ℕ → Location) (s : Lined n at) (end : ℕ → ℕ) 
 
   -- what is behind begins beyond the pieces
   pub group_past : (i e g : ℕ) → (Meeting at end i e e g → ⊥) → (stop : ℕ) → NoneBeyond end i e stop → stop ≤ (at g).address → Meeting at end i e e n → ⊥
-  group_past i e g z stop f l m = go (lt_or_le m.other g)
+  group_past i e g z stop f l m = go (cases_lt m.other g)
     where
       go : (m.other < g) ⊎ (g ≤ m.other) → ⊥
       go (inl c) = z (record { one = m.one; other = m.other; from_one = m.from_one; upto_one = m.upto_one; from_other = m.from_other; upto_other = c; below = m.below; is = m.is })
@@ -151,14 +151,14 @@ module _ (n : ℕ) (at : ℕ → Location) (s : Lined n at) (end : ℕ → ℕ) 
   module _ (i e : ℕ) (a : Group n at i e) where
     -- those at one address don't live together
     none_behind : (Meeting at end i e e n → ⊥) → (j : ℕ) → i ≤ j → j < e → LivesAmong n at (j + 1) (at j) (end j) → ⊥
-    none_behind f j h l w = go (lt_or_le w.index e) ((meets_is (at j) (at w.index)).0 w.is)
+    none_behind f j h l w = go (cases_lt w.index e) ((meets_is (at j) (at w.index)).0 w.is)
       where
         go : (w.index < e) ⊎ (e ≤ w.index) → Together (at j) (at w.index) → ⊥
         go (inl c) t = omega (arith, (s.ahead j w.index (omega (arith, w.low)) w.high).by_life (a.same j h l ∙ sym (a.same w.index (omega (arith, w.low)) c)), t.right)
         go (inr c) t = f (record { one = j; other = w.index; from_one = h; upto_one = l; from_other = c; upto_other = w.high; below = w.below; is = w.is })
 
     pub none_on : all (λ k. not (lives_inside at end n k)) i ≡ true → (Meeting at end i e e n → ⊥) → all (λ k. not (lives_inside at end n k)) e ≡ true
-    none_on z f = all_each clear e (λ j l. go j l (lt_or_le j i))
+    none_on z f = all_each clear e (λ j l. go j l (cases_lt j i))
       where
         clear : ℕ → Bool
         clear k = not (lives_inside at end n k)

@@ -8,6 +8,7 @@ use mathlib.Core.List.{List}
 use lib.ListN.{length, get_or}
 use lib.Dec.{ltb, eqb}
 use borrow.Author.Tests.{ltb-true, lt-ltb, eqb-true, eqb-false, eq-eqb, ne_eqb, not-true}
+use Rattle.std.proofs.lemmas.Bool.{cases_lt}
 use Rattle.words.specs.Words.{le64, bytes64}
 use Rattle.words.specs.Holding.{Holds}
 use Rattle.words.proofs.Holding.{le_holds, stands_holds, holds_stands}
@@ -16,7 +17,6 @@ use Rattle.definitions.specs.Blocks.{Piece}
 use Rattle.definitions.specs.Conflicts.{free}
 use Rattle.definitions.specs.Calls.{last_number}
 use Rattle.definitions.proofs.Tests.{both, and_true, is_false, not_both, negated}
-use Rattle.definitions.proofs.Views.{lt_or_le}
 use Rattle.memory_header.specs.Layout.{Header, work_at}
 use Rattle.memory_header.proofs.HeaderFacts.{HeaderFacts, open_payload}
 use Rattle.conflicts.specs.Lined.{in_line, Lined, Ahead}
@@ -155,11 +155,11 @@ module _ (m : List ℕ) (b : (k : ℕ) → get_or m k 0 < 256) (h : Header) (f :
         module _ (c : all (λ i. not (lives_inside (entry_at m base) (entry_end m base) n i)) n ≡ true) where
           -- one behind another in line at a greater address
           later : (x y : ℕ) → x < n → y < n → (entry_at m base x).address < (entry_at m base y).address → x < y
-          later x y g k a = go (lt_or_le x y)
+          later x y g k a = go (cases_lt x y)
             where
               go : (x < y) ⊎ (y ≤ x) → x < y
               go (inl c) = c
-              go (inr c) = same (lt_or_le y x)
+              go (inr c) = same (cases_lt y x)
                 where
                   same : (y < x) ⊎ (x ≤ y) → x < y
                   same (inl d) = absurd (omega (arith, (l.ahead y x d g).by_address))
@@ -246,7 +246,7 @@ module _ (m : List ℕ) (b : (k : ℕ) → get_or m k 0 < 256) (h : Header) (f :
               apart : (i j : ℕ) → entry_at m base i ≡ (entry (ordered ps) i).piece.at → entry_at m base j ≡ (entry (ordered ps) j).piece.at → Ahead (entry_at m base i) (entry_at m base j)
                   → meets (entry_at m base i) (entry_at m base j) ≡ true
                   → ((entry (ordered ps) i).piece.at.address < (entry (ordered ps) j).piece.at.address → meets (entry (ordered ps) i).piece.at (entry (ordered ps) j).piece.at ≡ false) → ⊥
-              apart i j ei ej d e g = split (lt_or_le (entry_at m base i).address (entry_at m base j).address)
+              apart i j ei ej d e g = split (cases_lt (entry_at m base i).address (entry_at m base j).address)
                 where
                   ai : (entry_at m base i).address ≡ (entry (ordered ps) i).piece.at.address
                   ai = ap (λ (v : Location). v.address) ei

@@ -13,9 +13,10 @@ use lib.ListN.{length, get_or, take, drop, drop_of_length-le}
 use lib.Seq.{drop-cons}
 use lib.Dec.{ltb, eqb}
 use borrow.Author.Tests.{lt-ltb, le-ltb, le-leb, lt-leb, eq-eqb, ne_eqb}
+use Rattle.std.proofs.lemmas.Bool.{cases_lt}
 use Rattle.std.specs.Prelude.{Option, Some, None, SomeIff}
 use Rattle.std.specs.Option.{option_eq}
-use Rattle.definitions.proofs.Views.{Eq, eq, Lt, lt, lt_or_le}
+use Rattle.definitions.proofs.Views.{Eq, eq, Lt, lt}
 use Rattle.definitions.proofs.Order.{mem_get_or}
 use Rattle.check_character.specs.Number.{value, values, characters, weighted, sum_from, check, check_of, right}
 
@@ -59,7 +60,7 @@ module _ (b : ℕ) where
 
   -- only digits, letters and `*` have a value below 37
   pub value_other : (b ≡ 42 → ⊥) → (48 ≤ b → 57 < b) → (65 ≤ b → 90 < b) → 37 ≡ value b
-  value_other n d l = go (lt_or_le b 48) (lt_or_le b 65)
+  value_other n d l = go (cases_lt b 48) (cases_lt b 65)
     where
       go : (b < 48) ⊎ (48 ≤ b) → (b < 65) ⊎ (65 ≤ b) → 37 ≡ value b
       go (inl h) k = value_low n h
@@ -76,7 +77,7 @@ module _ (b : ℕ) where
 
   -- without `*`, the values below 37 are those below 36
   pub value_below : (b ≡ 42 → ⊥) → value b < 37 → value b < 36
-  value_below n h = go (lt_or_le b 48) (lt_or_le b 58) (lt_or_le b 65) (lt_or_le b 91)
+  value_below n h = go (cases_lt b 48) (cases_lt b 58) (cases_lt b 65) (cases_lt b 91)
     where
       go : (b < 48) ⊎ (48 ≤ b) → (b < 58) ⊎ (58 ≤ b) → (b < 65) ⊎ (65 ≤ b) → (b < 91) ⊎ (91 ≤ b) → value b < 36
       go (inl k) x y z = absurd (omega (arith, value_low n k))
@@ -153,7 +154,7 @@ character_at l e i h = character_in l e (get_or l i 0) (mem_get_or l i h)
 
 -- one that has such a value is a byte, Z at the most
 pub character_small : (b : ℕ) → value b < 36 → b ≤ 90
-character_small b h = go (lt_or_le 90 b)
+character_small b h = go (cases_lt 90 b)
   where
     go : (90 < b) ⊎ (b ≤ 90) → b ≤ 90
     go (inl k) = absurd (let n : b ≡ 42 → ⊥ = λ e. omega arith in omega (arith, value_high b n k))

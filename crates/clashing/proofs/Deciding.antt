@@ -6,11 +6,11 @@ use mathlib.Core.Bool.{true, false}
 use mathlib.Core.Logic.{◌⊎◌, inl, inr, ◌↔◌}
 use mathlib.Core.List.{List}
 use lib.ListN.{length, get_or}
+use Rattle.std.proofs.lemmas.Bool.{cases_lt}
 use Rattle.definitions.specs.Location.{Location}
 use Rattle.definitions.specs.Blocks.{Block, Piece}
 use Rattle.definitions.specs.Conflicts.{conflicting, conflicts_with}
 use Rattle.definitions.proofs.Tests.{not_both, same_test}
-use Rattle.definitions.proofs.Views.{lt_or_le}
 use Rattle.definitions.proofs.Sharing.{Sharing, shares_facts, facts_share}
 use Rattle.memory_header.specs.Layout.{Header, work_at}
 use Rattle.conflicts.specs.Lined.{lives_among, Lined}
@@ -109,7 +109,7 @@ module _ (h : Header) (v : Line) (s : Known h v) (x : Location) (n : ℕ) (b : B
     struck e = one ((ordered_struck (pieces_in v.bytes.now h) b).0 e)
       where
         one : promises.Struck b es → Struck v x from upto ⊎ LivesAmong v.count (location_of v) upto x (x.address + n)
-        one w = go (lt_or_le w.index from) (lt_or_le w.index upto)
+        one w = go (cases_lt w.index from) (cases_lt w.index upto)
           where
             inside : w.index < v.count
             inside = omega (arith, w.inside, count)

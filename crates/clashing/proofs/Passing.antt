@@ -4,9 +4,9 @@ use native.Mathlib.Omega.{arith}
 use mathlib.Core.Path.{◌≡◌, sym, ◌∙◌}
 use mathlib.Core.Bool.{true, false}
 use mathlib.Core.Logic.{◌⊎◌, inl, inr}
+use Rattle.std.proofs.lemmas.Bool.{cases_lt}
 use Rattle.definitions.specs.Location.{Location}
 use Rattle.definitions.proofs.Tests.{not_both, same_test}
-use Rattle.definitions.proofs.Views.{lt_or_le}
 use Rattle.conflicts.specs.Lined.{first_from}
 use Rattle.conflicts.proofs.Line.{Earlier, earlier_told}
 use Rattle.lined_locations.specs.declared.Line.{Line}
@@ -31,7 +31,7 @@ module _ (v : Line) (x : Location) (t : Turn v.count (location_of v) x) where
     lesser = omega (arith, t.address, b.below t.g h k)
 
     turn_inside : t.q ≤ upto
-    turn_inside = go (lt_or_le upto t.q)
+    turn_inside = go (cases_lt upto t.q)
       where
         go : (upto < t.q) ⊎ (t.q ≤ upto) → t.q ≤ upto
         go (inl l) = absurd (omega (arith, lesser, (created t upto (omega arith) l).0, b.behind upto (omega arith) (omega (arith, (first t).high))))
@@ -47,7 +47,7 @@ module _ (v : Line) (x : Location) (t : Turn v.count (location_of v) x) where
     -- p is the first behind that address
     module _ (p : ℕ) (e : p ≡ first_from (location_of v) (v.count - t.q) t.q (t.b + 1) 0) where
       pub next_inside : p ≤ upto
-      next_inside = go (lt_or_le upto p)
+      next_inside = go (cases_lt upto p)
         where
           go : (upto < p) ⊎ (p ≤ upto) → p ≤ upto
           go (inl l) =
@@ -66,7 +66,7 @@ module _ (v : Line) (x : Location) (t : Turn v.count (location_of v) x) where
           back w = record { index = w.index; low = omega (arith, w.low, further t p e); high = w.high; together = w.together; beyond = w.beyond }
 
           on : Struck v x t.g upto → Struck v x p upto
-          on w = go (lt_or_le w.index p) (lt_or_le w.index t.q)
+          on w = go (cases_lt w.index p) (cases_lt w.index t.q)
             where
               go : (w.index < p) ⊎ (p ≤ w.index) → (w.index < t.q) ⊎ (t.q ≤ w.index) → Struck v x p upto
               go o (inl l) = absurd (not_both (sym f) ((strikes_is v x t.g t.q (first t).low).1 (record { index = w.index; low = w.low; high = l; together = w.together; beyond = w.beyond })))

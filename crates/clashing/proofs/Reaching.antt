@@ -4,9 +4,9 @@ use native.Mathlib.Omega.{arith}
 use mathlib.Core.Path.{◌≡◌, sym, subst}
 use mathlib.Core.Bool.{true, false}
 use mathlib.Core.Logic.{◌⊎◌, inl, inr}
+use Rattle.std.proofs.lemmas.Bool.{cases_lt}
 use Rattle.definitions.specs.Location.{Location}
 use Rattle.definitions.proofs.Tests.{is_false, same_test}
-use Rattle.definitions.proofs.Views.{lt_or_le}
 use Rattle.conflicts.specs.Lined.{Lined}
 use Rattle.conflicts.proofs.Line.{upto}
 use Rattle.lined_locations.specs.declared.Line.{Line}
@@ -57,7 +57,7 @@ module _ (v : Line) (x : Location) (g : ℕ) where
       back w = record { index = w.index; low = w.low; high = omega (arith, w.high); together = w.together; beyond = w.beyond }
 
       on : Struck v x g k → Struck v x g (k - 1)
-      on w = go (lt_or_le w.index (k - 1))
+      on w = go (cases_lt w.index (k - 1))
         where
           go : (w.index < k - 1) ⊎ (k - 1 ≤ w.index) → Struck v x g (k - 1)
           go (inl l) = record { index = w.index; low = w.low; high = l; together = w.together; beyond = w.beyond }

@@ -4,8 +4,8 @@ use native.Mathlib.Omega.{arith}
 use mathlib.Core.Path.{◌≡◌, sym, subst}
 use mathlib.Core.Bool.{true, false}
 use mathlib.Core.Logic.{◌⊎◌, inl, inr}
+use Rattle.std.proofs.lemmas.Bool.{cases_lt}
 use Rattle.definitions.specs.Location.{Location}
-use Rattle.definitions.proofs.Views.{lt_or_le}
 use Rattle.conflicts.specs.Lined.{first_from, Lined}
 use Rattle.conflicts.specs.Promises.{FirstFrom}
 use Rattle.conflicts.proofs.Line.{Earlier, earlier_told, first_from_is}
@@ -29,7 +29,7 @@ split_at n at s i a q h e = record {
     f = subst (λ (k : ℕ). FirstFrom n at i a 0 k) (sym e) (first_from_is n at s i a 0 h)
 
     under : (j : ℕ) → Earlier true (at j) a 0 → (at j).address < a
-    under j w = go (lt_or_le (at j).address a)
+    under j w = go (cases_lt (at j).address a)
       where
         go : ((at j).address < a) ⊎ (a ≤ (at j).address) → (at j).address < a
         go (inl l) = l

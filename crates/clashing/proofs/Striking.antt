@@ -6,9 +6,9 @@ use mathlib.Core.Bool.{Bool, true, ◌&&◌, ◌||◌}
 use mathlib.Core.Logic.{◌⊎◌, inl, inr, ◌↔◌}
 use lib.Dec.{ltb}
 use borrow.Author.Tests.{ltb-true, lt-ltb}
+use Rattle.std.proofs.lemmas.Bool.{cases_lt}
 use Rattle.definitions.specs.Location.{Location, meets}
 use Rattle.definitions.proofs.Tests.{both, and_true, either, or_left, or_right, not_both}
-use Rattle.definitions.proofs.Views.{lt_or_le}
 use Rattle.conflicts.proofs.Together.{Together, meets_is}
 use Rattle.lined_locations.specs.declared.Line.{Line}
 use Rattle.lined_locations.specs.Line.{location_of}
@@ -46,7 +46,7 @@ module _ (v : Line) (x : Location) where
           or_left (strikes v k (suc i) x) (subst (λ (j : ℕ). one j ≡ true) z (and_true ((meets_is x (location_of v w.index)).1 w.together) (lt-ltb x.address (piece_end v w.index) w.beyond)))
 
       go : (strikes v k (suc i) x ≡ true ↔ Struck (suc i) q) → (one i || strikes v k (suc i) x) ≡ true ↔ Struck i q
-      go ih = ((λ e. to ih (either (one i) (strikes v k (suc i) x) e)), λ w. fro ih w (lt_or_le i w.index))
+      go ih = ((λ e. to ih (either (one i) (strikes v k (suc i) x) e)), λ w. fro ih w (cases_lt i w.index))
 
   pub strikes_is : (g q : ℕ) → g ≤ q → strikes v (q - g) g x ≡ true ↔ Struck g q
   strikes_is g q h = struck_is q (q - g) g (omega arith)

@@ -9,9 +9,10 @@ use mathlib.Core.List.Memᴰ.{head as here}
 use mathlib.Core.List.Memᴰ.{not-nil}
 use mathlib.Core.List.Memᴰ.{tail as later}
 use mathlib.Core.List.{List, [], ◌∷◌, Memᴰ as Mem}
+use Rattle.std.proofs.lemmas.Bool.{cases_lt}
 use Rattle.definitions.specs.Location.{Location, Lives}
 use Rattle.definitions.specs.Rows.{goes_on, lengthened, combined, Before}
-use Rattle.definitions.proofs.Views.{GoesOn, goes, lt_or_le}
+use Rattle.definitions.proofs.Views.{GoesOn, goes}
 
 -- ── a place at (a, t) ──
 
@@ -125,7 +126,7 @@ combined_here {a} {t} l (m ∷ ms) h = go (goes_on l m) (goes l m) (combined_her
     which g x (inr k) = here_tail (here_head (record { there = omega (arith, x.there, g.0); lives = record { from = omega (arith, g.1); till = x.lives.till } }))
 
     on : GoesOn true l m → At (lengthened l m) a t ⊎ Here ms a t → Here (l ∷ m ∷ ms) a t
-    on g (inl x) = which g x (lt_or_le t l.destroyed)
+    on g (inl x) = which g x (cases_lt t l.destroyed)
     on g (inr k) = here_tail (here_tail k)
 
     go : (o : Bool) → GoesOn o l m → (Here (combined m ms) a t → Here (m ∷ ms) a t) → (Here (combined (lengthened l m) ms) a t → Here (lengthened l m ∷ ms) a t) → Here (cond o (combined (lengthened l m) ms) (l ∷ combined m ms)) a t → Here (l ∷ m ∷ ms) a t

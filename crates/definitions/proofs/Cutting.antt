@@ -17,10 +17,11 @@ use mathlib.Core.List.{List, [], ◌∷◌, ◌++◌, append-nil, append_assoc, 
 use lib.ListN.{length, get_or, take, drop, length-take, length-drop}
 use lib.Seq.{get_or-take, get_or-drop}
 use lib.Dec.{leb}
+use Rattle.std.proofs.lemmas.Bool.{cases_lt}
 use Rattle.definitions.specs.Location.{Location, moved}
 use Rattle.definitions.specs.Blocks.{Block, Piece, cut, pieces, pieces_of}
 use Rattle.definitions.specs.Runs.{Holds, Covers, Apart, Consistent, Alive}
-use Rattle.definitions.proofs.Views.{Le, le, lt_or_le}
+use Rattle.definitions.proofs.Views.{Le, le}
 
 abbrev block_of : Location → List ℕ → Block
 block_of l bs = record { bytes = bs; at = l }
@@ -138,7 +139,7 @@ cut_all (suc n) l bs f i h = go (leb (length bs) 16) (le (length bs) 16) (cut_al
 
     go : (o : Bool) → Le o (length bs) 16 → (length (drop 16 bs) < n → (j : ℕ) → j < length (drop 16 bs) → Cut (moved l 16) (drop 16 bs) rest j) → Cut l bs (cond o (block_of l bs ∷ []) (rest ++ (one ∷ []))) i
     go true v ih = record { piece = block_of l bs; listed = here refl; offset = i; inside = h; is = refl; there = refl; created = refl; destroyed = refl }
-    go false v ih = two v ih (lt_or_le i 16)
+    go false v ih = two v ih (cases_lt i 16)
 
 -- ── what is held ──
 

@@ -10,13 +10,13 @@ use mathlib.Core.List.Memᴰ.{head as here}
 use mathlib.Core.List.Memᴰ.{tail as later}
 use mathlib.Core.List.{List, [], ◌∷◌, Memᴰ as Mem}
 use lib.ListN.{length, get_or, drop, length-drop}
+use Rattle.std.proofs.lemmas.Bool.{cases_lt}
 use Rattle.definitions.specs.Location.{Location, Lives, Sorted, Less}
 use Rattle.definitions.specs.Blocks.{Block, Piece, pieces_of, tails}
 use Rattle.definitions.specs.Places.{ends, by_pieces, places}
 use Rattle.definitions.specs.Rows.{Before, combine_split_times, rows}
 use Rattle.definitions.specs.Runs.{Holds, Stands, LongestRun, RowsAreRuns, Consistent, Alive, Query, SameRows, SameHeld}
 use Rattle.definitions.proofs.Order.{less_asym, sorted_normal, same_lists, mem_get_or}
-use Rattle.definitions.proofs.Views.{lt_or_le}
 use Rattle.definitions.proofs.Combine.{Here, Near, Spread, combined_spread, combined_here, here_combined}
 use Rattle.definitions.proofs.Runs.{spread_sorted, before_less, row_is_run, run_is_row}
 use Rattle.definitions.proofs.Held.{Unique, consistent_unique, StandsR, stands_to, stands_from, fits, fits_stands}
@@ -70,7 +70,7 @@ near [] s o = tt
 near (l ∷ ls) s o = (o.some l (here refl), next, near ls s.1 (record { one = λ x y h k. o.one x y (later h) (later k); some = λ x h. o.some x (later h) }))
   where
     next : (m : Location) → Mem m ls → Near l m
-    next m h = record { address_le = k.by_address; touch = λ e. go e (lt_or_le m.created l.destroyed) }
+    next m h = record { address_le = k.by_address; touch = λ e. go e (cases_lt m.created l.destroyed) }
       where
         k : Less l m
         k = s.0 m h

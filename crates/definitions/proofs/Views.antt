@@ -42,14 +42,6 @@ le a b = go (leb a b) refl
     go true e = leb-true a b e
     go false e = leb-false a b e
 
--- a < b or not, for a split in a proof
-pub lt_or_le : (a b : ℕ) → (a < b) ⊎ (b ≤ a)
-lt_or_le a b = go (ltb a b) (lt a b)
-  where
-    go : (o : Bool) → Lt o a b → (a < b) ⊎ (b ≤ a)
-    go true h = inl h
-    go false h = inr h
-
 abbrev pub GoesOn : Bool → Location → Location → Type 0
 GoesOn true l m = (l.address ≡ m.address) × (l.destroyed ≡ m.created)
 GoesOn false l m = l.address ≡ m.address → l.destroyed ≡ m.created → ⊥

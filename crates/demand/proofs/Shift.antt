@@ -11,8 +11,8 @@ use mathlib.Core.List.Memᴰ.{tail as later}
 use mathlib.Core.List.{List, [], ◌∷◌, ◌++◌, Memᴰ as Mem}
 use mathlib.Core.Option.{Option, none, some}
 use lib.ListN.{length, get_or, take, drop, get_or-eq_default}
+use Rattle.std.proofs.lemmas.Bool.{cases_lt}
 use Rattle.words.proofs.Laws.{le64_lt}
-use Rattle.words.proofs.Parts.{lt_or_ge}
 use Rattle.definitions.specs.BlockStream.{Read, block, nothing, refused, data_length, block_at, read_block}
 use Rattle.definitions.specs.Causes.{Cause, first_cause}
 use Rattle.definitions.specs.Calls.{stream_checks}
@@ -73,7 +73,7 @@ abbrev AllBytes : List ℕ → Type 0
 AllBytes s = (x : ℕ) → Mem x s → x < 256
 
 byte_at : (s : List ℕ) → AllBytes s → (k : ℕ) → get_or s k 0 < 256
-byte_at s f k = go (lt_or_ge k (length s))
+byte_at s f k = go (cases_lt k (length s))
   where
     go : (k < length s) ⊎ (length s ≤ k) → get_or s k 0 < 256
     go (inl h) = f (get_or s k 0) (mem_get_or s k h)

@@ -2,6 +2,7 @@
 use Prim.Native.Nat.{ℕ, ◌+◌, ◌-◌, ◌*◌, ◌/◌, ◌≤◌, ◌<◌}
 use native.Mathlib.Omega.{arith}
 use mathlib.Core.Path.{◌≡◌, sym, ap, subst, ◌∙◌}
+use Rattle.std.proofs.lemmas.Bool.{cases_lt}
 use Rattle.std.specs.Prelude.{Option, Some, None, MatchOption, OnSome, ⊤}
 use mathlib.Core.Logic.{◌⊎◌, inl, inr}
 use mathlib.Core.List.{List, [], append-nil}
@@ -9,7 +10,6 @@ use lib.ListN.{length, drop, get_or, set, length-set, length-append}
 use lib.Seq.{get_or-set_same, get_or-set_other}
 use lib.Dec.{eqb}
 use Rattle.definitions.specs.Location.{Location, normal, locations_in}
-use Rattle.definitions.proofs.Views.{lt_or_le}
 use Rattle.definitions.specs.Places.{first_of, sizes}
 use Rattle.trie.specs.Trie.{Node}
 use Rattle.place_buffer.specs.declared.Places.{Places}
@@ -28,7 +28,7 @@ use Rattle.node_joining.specs.declared.Beyond.{Beyond}
 use Rattle.joining.specs.Lists.{listed}
 
 lt_or_same : (i j : ℕ) → i ≤ j → (i < j) ⊎ (j ≡ i)
-lt_or_same i j h = go (lt_or_le i j)
+lt_or_same i j h = go (cases_lt i j)
   where
     go : (i < j) ⊎ (j ≤ i) → (i < j) ⊎ (j ≡ i)
     go (inl l) = inl l

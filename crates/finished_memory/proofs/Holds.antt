@@ -10,8 +10,9 @@ use lib.ListN.{length, get_or, take, drop, replicate, length-append, length-repl
 use lib.Seq.{sets, length-sets, sets-eq, take-append_seam, drop-append_seam, get_or-take, get_or-drop}
 use lib.Dec.{eqb}
 use borrow.Author.Tests.{eq-eqb, eqb-true}
+use Rattle.std.proofs.lemmas.Bool.{cases_lt}
 use Rattle.words.specs.Words.{le64}
-use Rattle.words.proofs.Parts.{sets_append, le64_sets_other, lt_or_ge}
+use Rattle.words.proofs.Parts.{sets_append, le64_sets_other}
 use Rattle.definitions.specs.Calls.{Capacity, needed}
 use Rattle.definitions.specs.Conflicts.{free}
 use Rattle.trie.specs.Trie.{Trie, nodes, entries, trie_pieces}
@@ -139,7 +140,7 @@ module _ (m : List ℕ) (c : Capacity) (t : Trie) (r : Room m c) (w : Within c t
 
 -- the image in a memory of bytes is of bytes
 pub part_bytes : (m : List ℕ) (h : Header) → AllBytes m → AllBytes (image_part m h)
-part_bytes m h a i = go (lt_or_ge i h.payload)
+part_bytes m h a i = go (cases_lt i h.payload)
   where
     go : (i < h.payload) ⊎ (h.payload ≤ i) → get_or (image_part m h) i 0 < 256
     go (inl k) = omega (arith, get_or-take h.payload (drop 64 m) i 0 k, get_or-drop 64 m i 0, a (64 + i))

@@ -6,8 +6,9 @@ use mathlib.Core.Logic.{◌⊎◌, inl, inr}
 use mathlib.Core.List.{List, ◌++◌}
 use lib.ListN.{length, get_or, replicate, length-append, length-replicate}
 use lib.Seq.{sets, length-sets, ext_get_or}
+use Rattle.std.proofs.lemmas.Bool.{cases_lt}
 use Rattle.words.specs.Holding.{Holds}
-use Rattle.words.proofs.Parts.{lt_or_ge, get_or_sets_out, get_d_sets}
+use Rattle.words.proofs.Parts.{get_or_sets_out, get_d_sets}
 use Rattle.words.proofs.Holding.{holds_append, holds_get, holds_ext, holds_sets}
 use Rattle.definitions.specs.Calls.{Capacity, needed}
 use Rattle.trie.specs.Trie.{Trie}
@@ -18,7 +19,7 @@ use Rattle.finished_memory.specs.Finished.{finished_header, finished_memory, clo
 
 -- bytes that stand at the front, the rest as it was
 sets_standing : (m s xs : List ℕ) → length s ≡ length m → length xs ≤ length m → Holds s 0 xs → ((k : ℕ) → length xs ≤ k → get_or s k 0 ≡ get_or m k 0) → s ≡ sets m 0 xs
-sets_standing m s xs e l h f = ext_get_or 0 s (sets m 0 xs) (e ∙ sym (length-sets m 0 xs)) (λ k b. go k (lt_or_ge k (length xs)))
+sets_standing m s xs e l h f = ext_get_or 0 s (sets m 0 xs) (e ∙ sym (length-sets m 0 xs)) (λ k b. go k (cases_lt k (length xs)))
   where
     go : (k : ℕ) → (k < length xs) ⊎ (length xs ≤ k) → get_or s k 0 ≡ get_or (sets m 0 xs) k 0
     go k (inl b) =

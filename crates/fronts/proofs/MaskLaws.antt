@@ -8,10 +8,10 @@ use mathlib.Core.List.{List}
 use mathlib.Core.Option.{Option, none, some}
 use mathlib.Core.Logic.{◌⊎◌, inl, inr}
 use lib.Dec.{eqb}
-use Rattle.definitions.proofs.Views.{lt_or_le}
 use lib.Bits.{bit_or, or_shr, or_step}
 use lib.Pow.{shl_exact, shl-shr}
 use borrow.Author.Tests.{eqb-true, ne_eqb}
+use Rattle.std.proofs.lemmas.Bool.{cases_lt}
 use Rattle.trie.specs.Trie.{Forest, Node, child}
 use Rattle.image_format.specs.Held.{Entry}
 use Rattle.image_walk.specs.Tables.{slot_in}
@@ -67,7 +67,7 @@ is_set zero k h e = absurd (omega arith)
 is_set (suc n) k h e = go (eqb (all_bits / 2 ^ n % 2) 1) (all_set n) refl refl e (λ l y. is_set n k l y)
   where
     go : (o r : Bool) → eqb (all_bits / 2 ^ n % 2) 1 ≡ o → all_set n ≡ r → (o && r) ≡ true → (k < n → all_set n ≡ true → all_bits / 2 ^ k % 2 ≡ 1) → all_bits / 2 ^ k % 2 ≡ 1
-    go true true x y z ih = last (lt_or_le k n)
+    go true true x y z ih = last (cases_lt k n)
       where
         last : (k < n) ⊎ (n ≤ k) → all_bits / 2 ^ k % 2 ≡ 1
         last (inl l) = ih l y

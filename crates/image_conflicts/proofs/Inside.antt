@@ -9,9 +9,9 @@ use mathlib.Core.List.Memᴰ.{not-nil}
 use mathlib.Core.List.Memᴰ.{tail as later}
 use mathlib.Core.List.{List, [], ◌∷◌, Memᴰ as Mem}
 use borrow.Author.Tests.{not-true}
+use Rattle.std.proofs.lemmas.Bool.{cases_lt}
 use Rattle.definitions.specs.Location.{Location, meets}
 use Rattle.definitions.proofs.Tests.{both, and_true, is_false, not_both, negated}
-use Rattle.definitions.proofs.Views.{lt_or_le}
 use Rattle.conflicts.specs.Lined.{first_from, lives_among, Lined}
 use Rattle.conflicts.specs.Promises.{FirstFrom, LivesAmong}
 use Rattle.conflicts.proofs.Line.{Earlier, earlier_told, first_from_is, lives_among_is}
@@ -27,7 +27,7 @@ module _ (n : ℕ) (at : ℕ → Location) (s : Lined n at) (m : ℕ) (x : Locat
   first = let e : n - 0 ≡ n = omega arith in subst (λ (k : ℕ). FirstFrom n at 0 (x.address + 1) 0 (first_from at k 0 (x.address + 1) 0)) e (first_from_is n at s 0 (x.address + 1) 0 (omega arith))
 
   behind : (i : ℕ) → i < n → x.address < (at i).address → first_from at n 0 (x.address + 1) 0 ≤ i
-  behind i h a = go (lt_or_le i (first_from at n 0 (x.address + 1) 0))
+  behind i h a = go (cases_lt i (first_from at n 0 (x.address + 1) 0))
     where
       go : (i < first_from at n 0 (x.address + 1) 0) ⊎ (first_from at n 0 (x.address + 1) 0 ≤ i) → first_from at n 0 (x.address + 1) 0 ≤ i
       go (inr l) = l

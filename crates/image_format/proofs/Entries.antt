@@ -6,7 +6,7 @@ use mathlib.Core.Logic.{◌⊎◌, inl, inr}
 use mathlib.Core.Path.{◌≡◌, refl, subst}
 use lib.ListN.{get_or, length}
 use borrow.Author.Tests.{eq-eqb, le-leb, le-ltb, lt-leb, lt-ltb, ne_eqb}
-use Rattle.definitions.proofs.Views.{lt_or_le}
+use Rattle.std.proofs.lemmas.Bool.{cases_lt}
 use Rattle.image_format.specs.Entries.{Least, Nearer}
 use Rattle.image_format.specs.Reading.{find_byte, table_fault}
 
@@ -56,7 +56,7 @@ pub least_more : (s : List ℕ) (base j low least r : ℕ) → Least s base j lo
 least_more s base j low least r h n = record { from = n.from; most = omega (arith, h.most, n.lower); none = each }
   where
     each : (k : ℕ) → k < j + 1 → low ≤ get_or s (base + k * 9) 0 → r ≤ get_or s (base + k * 9) 0
-    each k l u = go (lt_or_le k j)
+    each k l u = go (cases_lt k j)
       where
         go : (k < j) ⊎ (j ≤ k) → r ≤ get_or s (base + k * 9) 0
         go (inl x) = omega (arith, h.none k x u, n.lower)

@@ -7,7 +7,7 @@ use mathlib.Core.Logic.{◌⊎◌, inl, inr}
 use mathlib.Core.Path.{◌≡◌, refl}
 use lib.Dec.{eqb}
 use lib.ListN.{length, length-replicate}
-use Rattle.definitions.proofs.Views.{lt_or_le}
+use Rattle.std.proofs.lemmas.Bool.{cases_lt}
 use Rattle.trie.specs.Trie.{Forest, Lists, Trie, empty, entries, entries_of, leaf, more, nodes, root}
 use Rattle.image_format.proofs.ByByte.{Bytes, One, all_length, all_size, at_most, just, nobody, one_at}
 use Rattle.kinds.proofs.KindRule.{kind_one, kind_three, kind_two}
@@ -42,7 +42,7 @@ slots_sum (suc m) b ks a = go (one_at b [] ks a) (slots_sum m (b + 1) ks a)
 
 node_most : (h : Lists) (ks : List Child) → Bytes ks → Distinct [] ks → Lean ks → node_size h ks + 31 ≤ 64 * (nodes_in ks + 1) + 24 * (entries_of h + entries_in ks)
 unfolding node_size table_size lists_size
-node_most h ks b a l = go (lt_or_le 8 (length ks)) (lt_or_le 96 (length ks))
+node_most h ks b a l = go (cases_lt 8 (length ks)) (cases_lt 96 (length ks))
   where
     go : (8 < length ks) ⊎ (length ks ≤ 8) → (96 < length ks) ⊎ (length ks ≤ 96) →
         1 + (24 + 24 * entries_of h) + cond (eqb (kind_of (length ks)) 1) (2048 + slots_size 256 0 ks)

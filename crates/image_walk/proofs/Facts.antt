@@ -9,11 +9,12 @@ use mathlib.Core.Logic.{◌⊎◌, inl, inr}
 use lib.ListN.{length, get_or}
 use lib.Dec.{eqb}
 use borrow.Author.Tests.{eq-eqb, ne_eqb}
+use Rattle.std.proofs.lemmas.Bool.{cases_lt}
 use Rattle.words.proofs.Parts.{length_bytes64}
 use Rattle.words.specs.Words.{bytes64, le64}
 use Rattle.words.specs.Holding.{Holds}
 use Rattle.words.proofs.Holding.{holds_at, holds_le, holds_left, holds_right}
-use Rattle.definitions.proofs.Views.{Eq, eq, lt_or_le}
+use Rattle.definitions.proofs.Views.{Eq, eq}
 use Rattle.trie.specs.Trie.{Forest, leaf, more, Node}
 use Rattle.image_format.proofs.ByByte.{Bytes, all_size, at_read, below_most, below_zero}
 use Rattle.image_format.proofs.Holding.{head_length}
@@ -247,7 +248,7 @@ module _ (s : List ℕ) (d at : ℕ) (n : Node) (here : NodeHere s d at n) where
       }
 
   pub facts : Facts s at n
-  facts = go (lt_or_le 8 (length ks)) (lt_or_le 96 (length ks))
+  facts = go (cases_lt 8 (length ks)) (cases_lt 96 (length ks))
     where
       go : (8 < length ks) ⊎ (length ks ≤ 8) → (96 < length ks) ⊎ (length ks ≤ 96) → Facts s at n
       go (inr x) y = node_three x

@@ -12,11 +12,11 @@ use lib.ListN.{length, get_or, take, drop, get_or-eq_default, length-append, len
 use lib.Seq.{sets, length-sets, get_or-take, get_or-drop}
 use lib.Dec.{ltb, leb}
 use borrow.Author.Tests.{leb-true, ltb-true, le-leb, lt-ltb}
+use Rattle.std.proofs.lemmas.Bool.{cases_lt}
 use Rattle.words.specs.Words.{le64}
 use Rattle.words.proofs.Parts.{sets_append, get_or_sets_out}
 use Rattle.definitions.specs.Blocks.{Piece}
 use Rattle.definitions.specs.Calls.{last_number}
-use Rattle.definitions.proofs.Views.{lt_or_le}
 use Rattle.index_memory.specs.Log.{AllSmall, piece_in, piece_bytes, log_in, log_bytes, piece_sound, log_sound}
 use Rattle.index_memory.proofs.PieceBytes.{PieceFits, length_piece, size_written, piece_written, piece_ext}
 use Rattle.definitions.proofs.Tests.{and_left, and_right, and_true}
@@ -166,7 +166,7 @@ pub log_in_bytes : (xs : List ℕ) (n p : ℕ) → ((k : ℕ) → get_or xs k 0 
 unfolding log_in
 log_in_bytes xs zero p b q m k = absurd (not-nil m)
 log_in_bytes xs (suc n) p b q (later m) k = log_in_bytes xs n (p + 48) b q m k
-log_in_bytes xs (suc n) p b q (here e) k = subst (λ (x : Piece). get_or x.bytes k 0 < 256) (sym e) (go (lt_or_le k (le64 xs p)))
+log_in_bytes xs (suc n) p b q (here e) k = subst (λ (x : Piece). get_or x.bytes k 0 < 256) (sym e) (go (cases_lt k (le64 xs p)))
   where
     go : (k < le64 xs p) ⊎ (le64 xs p ≤ k) → get_or (take (le64 xs p) (drop (p + 8) xs)) k 0 < 256
     go (inl h) = omega (arith, get_or-take (le64 xs p) (drop (p + 8) xs) k 0 h, get_or-drop (p + 8) xs k 0, b (p + 8 + k))

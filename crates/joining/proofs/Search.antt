@@ -11,10 +11,11 @@ use mathlib.Core.List.{List, [], ◌∷◌, ◌++◌, Memᴰ as Mem}
 use lib.ListN.{length}
 use lib.Dec.{ltb}
 use borrow.Author.Tests.{ltb-true, ltb-false, lt-ltb}
+use Rattle.std.proofs.lemmas.Bool.{cases_lt}
 use Rattle.halving.specs.Halving.{Parts, PointOf}
 use Rattle.words.specs.Words.{le64}
 use Rattle.definitions.specs.Location.{Location, Sorted, location_at, locations_in, Less}
-use Rattle.definitions.proofs.Views.{Lt, lt, lt_or_le}
+use Rattle.definitions.proofs.Views.{Lt, lt}
 use Rattle.definitions.proofs.Locations.{length_locations, locations_append}
 use Rattle.joining.specs.Below.{below_count, From}
 
@@ -141,7 +142,7 @@ module _ (s : List ℕ) (n at key : ℕ) (up : Sorted Less (locations_in s n at)
 
   -- a location with an address below the key is one of those counted
   counted : (i : ℕ) → i < n → le64 s (at + i * 24) < key → i < below
-  counted i h l = go (lt_or_le i below)
+  counted i h l = go (cases_lt i below)
     where
       d : Parted s n at key below
       d = parted s n at key below up refl
@@ -156,7 +157,7 @@ module _ (s : List ℕ) (n at key : ℕ) (up : Sorted Less (locations_in s n at)
 
   -- one with another is not
   passed : (i : ℕ) → i < n → key ≤ le64 s (at + i * 24) → below ≤ i
-  passed i h l = go (lt_or_le i below)
+  passed i h l = go (cases_lt i below)
     where
       go : (i < below) ⊎ (below ≤ i) → below ≤ i
       go (inr k) = k
@@ -172,7 +173,7 @@ module _ (s : List ℕ) (n at key : ℕ) (up : Sorted Less (locations_in s n at)
       lt-ltb (le64 s (at + i * 24)) key ((parted s n at key below up refl).front (location_at s (at + i * 24)) (location_listed below s at i (omega arith)))
 
   pub key_point : (k : ℕ) → k ≤ n → PointOf 0 n below_key k → k ≡ below
-  key_point k h p = go (lt_or_le k below) (lt_or_le below k)
+  key_point k h p = go (cases_lt k below) (cases_lt below k)
     where
       le : below ≤ n
       le = below_listed s n at key

@@ -4,9 +4,9 @@ use native.Mathlib.Omega.{arith}
 use mathlib.Core.Path.{◌≡◌, sym, ap, subst}
 use mathlib.Core.Bool.{true, false}
 use mathlib.Core.Logic.{◌⊎◌, inl, inr}
+use Rattle.std.proofs.lemmas.Bool.{cases_lt}
 use Rattle.definitions.specs.Location.{Location}
 use Rattle.definitions.proofs.Tests.{is_false, same_test}
-use Rattle.definitions.proofs.Views.{lt_or_le}
 use Rattle.conflicts.specs.Lined.{first_from, lives_among, Lined}
 use Rattle.conflicts.specs.Promises.{FirstFrom, LivesAmong}
 use Rattle.conflicts.proofs.Line.{upto, Earlier, earlier_told, first_from_is, lives_among_is}
@@ -79,7 +79,7 @@ module _ {n : ℕ} {at : ℕ → Location} {x : Location} (t : Turn n at x) wher
 
     -- entry g is not behind its own address
     pub further : t.g < p
-    further = go (lt_or_le t.g p)
+    further = go (cases_lt t.g p)
       where
         go : (t.g < p) ⊎ (p ≤ t.g) → t.g < p
         go (inl k) = k
@@ -87,7 +87,7 @@ module _ {n : ℕ} {at : ℕ → Location} {x : Location} (t : Turn n at x) wher
 
     -- those from q on at address b are created when x has ended
     pub not_yet : (j : ℕ) → t.q ≤ j → j < p → Together x (at j) → ⊥
-    not_yet j h k w = go (lt_or_le (at j).address (t.b + 1))
+    not_yet j h k w = go (cases_lt (at j).address (t.b + 1))
       where
         go : ((at j).address < t.b + 1) ⊎ (t.b + 1 ≤ (at j).address) → ⊥
         go (inl o) =
@@ -99,7 +99,7 @@ module _ {n : ℕ} {at : ℕ → Location} {x : Location} (t : Turn n at x) wher
 
     -- the last before q has ended: those before it ended earlier
     ended : (t.g < t.q → (at (t.q - 1)).destroyed ≤ x.created) → (j : ℕ) → t.g ≤ j → j < p → Together x (at j) → ⊥
-    ended d j h k w = go (lt_or_le j t.q)
+    ended d j h k w = go (cases_lt j t.q)
       where
         go : (j < t.q) ⊎ (t.q ≤ j) → ⊥
         go (inl l) =
@@ -117,7 +117,7 @@ module _ {n : ℕ} {at : ℕ → Location} {x : Location} (t : Turn n at x) wher
         back w = record { index = w.index; low = omega (arith, w.low, further); high = w.high; below = w.below; is = w.is }
 
         on : LivesAmong n at t.g x end → LivesAmong n at p x end
-        on w = go (lt_or_le w.index p)
+        on w = go (cases_lt w.index p)
           where
             go : (w.index < p) ⊎ (p ≤ w.index) → LivesAmong n at p x end
             go (inl l) = absurd (ended d w.index w.low l ((meets_is x (at w.index)).0 w.is))

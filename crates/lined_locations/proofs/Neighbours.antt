@@ -5,9 +5,9 @@ use native.Mathlib.Omega.{arith}
 use mathlib.Core.Path.{◌≡◌, refl, sym, ap, subst, ◌∙◌}
 use mathlib.Core.Bool.{Bool, true, false, not, ◌&&◌}
 use mathlib.Core.Logic.{◌⊎◌, inl, inr}
+use Rattle.std.proofs.lemmas.Bool.{cases_lt}
 use Rattle.definitions.specs.Location.{Location}
 use Rattle.definitions.proofs.Tests.{and_true}
-use Rattle.definitions.proofs.Views.{lt_or_le}
 use Rattle.conflicts.specs.Lined.{is_ahead, in_line}
 
 module _ (at : ℕ → Location) where
@@ -22,7 +22,7 @@ module _ (at : ℕ → Location) where
   line_broken : (m k : ℕ) → k < m → is_ahead (at k) (at (suc k)) ≡ false → in_line at m ≡ false
   unfolding in_line
   line_broken zero k h e = absurd (not-suc-le-zero h)
-  line_broken (suc m) k h e = go (lt_or_le k m) (line_broken m k)
+  line_broken (suc m) k h e = go (cases_lt k m) (line_broken m k)
     where
       no : (t u : Bool) → u ≡ false → (t && u) ≡ false
       no true u f = f

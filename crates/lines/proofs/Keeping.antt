@@ -7,7 +7,7 @@ use mathlib.Core.List.{List, [], ◌∷◌, ◌++◌, append-nil}
 use lib.ListN.{length, take, drop, length-append}
 use lib.Seq.{sets, sets-eq, append_snoc, take_at, length-take-le}
 use borrow.Author.Tests.{lt-ltb, le-ltb}
-use Rattle.definitions.proofs.Views.{lt_or_le}
+use Rattle.std.proofs.lemmas.Bool.{cases_lt}
 use Rattle.lines.specs.Kept.{Kept, part, too_long, keeps_byte, keeps}
 
 -- ── byte by byte ──
@@ -26,7 +26,7 @@ keeps_fit l (b ∷ bs) h =
 -- what doesn't is too long
 pub keeps_over : (l bs : List ℕ) → length l ≤ 1024 → 1024 < length l + length bs → keeps (part l) bs ≡ too_long
 keeps_over l [] h k = absurd (omega arith)
-keeps_over l (b ∷ bs) h k = go (lt_or_le (length l) 1024) (λ f. keeps_over (l ++ (b ∷ [])) bs (omega (arith, length-append l (b ∷ []))) (omega (arith, length-append l (b ∷ []))))
+keeps_over l (b ∷ bs) h k = go (cases_lt (length l) 1024) (λ f. keeps_over (l ++ (b ∷ [])) bs (omega (arith, length-append l (b ∷ []))) (omega (arith, length-append l (b ∷ []))))
   where
     go : (length l < 1024) ⊎ (1024 ≤ length l) → (length l < 1024 → keeps (part (l ++ (b ∷ []))) bs ≡ too_long) → keeps (keeps_byte (part l) b) bs ≡ too_long
     go (inl f) r = rw (lt-ltb (length l) 1024 f) (r f)

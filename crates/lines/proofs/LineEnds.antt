@@ -10,7 +10,8 @@ use lib.ListN.{length, get_or, take, drop, drop_of_length-le, length-drop}
 use lib.Seq.{drop-cons, get_or-drop}
 use lib.Dec.{eqb}
 use borrow.Author.Tests.{eq-eqb, ne_eqb}
-use Rattle.definitions.proofs.Views.{Eq, eq, lt_or_le}
+use Rattle.std.proofs.lemmas.Bool.{cases_lt}
+use Rattle.definitions.proofs.Views.{Eq, eq}
 use Rattle.lines.specs.Cut.{first_line, line_end, Ends}
 
 -- ── the loop of `line_end` ──
@@ -34,7 +35,7 @@ module _ (s : List ℕ) (i : ℕ) where
 
 -- without a newline from `at` on, the line ends with the input, or where it began behind that
 pub end_none : (s : List ℕ) (at i : ℕ) → length s ≤ i → (at ≤ length s → i ≤ length s) → line_end s i ≡ line_end s at → max (length s) at ≡ line_end s at
-end_none s at i h k e = go (lt_or_le at (length s))
+end_none s at i h k e = go (cases_lt at (length s))
   where
     go : (at < length s) ⊎ (length s ≤ at) → max (length s) at ≡ line_end s at
     go (inl m) = omega (arith, k (omega arith), end_out s i h, e)

@@ -10,9 +10,9 @@ use lib.ListN.{length, set, length-set, take}
 use lib.Seq.{get_or-set_same, get_or-set_other}
 use lib.Dec.{eqb}
 use borrow.Author.Tests.{eqb-true, eqb-false}
+use Rattle.std.proofs.lemmas.Bool.{cases_lt}
 use Rattle.std.proofs.lemmas.List.{length-take-le, get_or-take}
 use Rattle.definitions.specs.Location.{Location}
-use Rattle.definitions.proofs.Views.{lt_or_le}
 use Rattle.trie.specs.Test.{and_list}
 use Rattle.definitions.specs.Location.{locations_in}
 use Rattle.location_lists.specs.declared.List.{List as Listing}
@@ -61,7 +61,7 @@ and_some : (s : List ℕ) (n at : ℕ) → 0 < n → and_list (locations_in s n 
 and_some s n at h = rw (locations_first s n at h)
 
 last_or_before : (j n : ℕ) → j < n + 1 → (j < n) ⊎ (j ≡ n)
-last_or_before j n h = go (lt_or_le j n)
+last_or_before j n h = go (cases_lt j n)
   where
     go : (j < n) ⊎ (n ≤ j) → (j < n) ⊎ (j ≡ n)
     go (inl k) = inl k

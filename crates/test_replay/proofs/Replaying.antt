@@ -11,11 +11,12 @@ use lib.Seq.{take-suc, take-length, take_all, length-take-le}
 use lib.Dec.{eqb}
 use lib.Pointwise.{pointwise}
 use borrow.Author.Tests.{eq-eqb, ne_eqb}
+use Rattle.std.proofs.lemmas.Bool.{cases_lt}
 use Rattle.std.specs.Bool.{Decides}
 use Rattle.std.proofs.lemmas.Slice.Eq.{slice_eq-Decides}
 use Rattle.std.proofs.lemmas.Bool.Decides.{Decides-eqb}
 use Rattle.definitions.specs.Program.{text, hex, hex_digit, refused}
-use Rattle.definitions.proofs.Views.{Eq, eq, lt_or_le}
+use Rattle.definitions.proofs.Views.{Eq, eq}
 use Rattle.saving.specs.Saving.{Saving}
 use Rattle.definitions.specs.declared.refusal.Refusal.{Refusal}
 use Rattle.definitions.specs.Refusals.{cause_of, number_of}
@@ -64,7 +65,7 @@ length_image s = omega (arith, length_hex s, length-append (hex s) (41 ∷ 10 �
 
 -- as many as there are
 take_limit : (n k : ℕ) (xs : List ℕ) → length xs ≡ k → take (min n k) xs ≡ take n xs
-take_limit n k xs e = go (lt_or_le n k)
+take_limit n k xs e = go (cases_lt n k)
   where
     go : (n < k) ⊎ (k ≤ n) → take (min n k) xs ≡ take n xs
     go (inl l) =

@@ -10,10 +10,11 @@ use lib.ListN.{length, get_or, set, length-set}
 use lib.Seq.{sets, length-sets, get_or-set_same, ext_get_or}
 use lib.Dec.{eqb}
 use borrow.Author.Tests.{eqb-true, eq-eqb}
+use Rattle.std.proofs.lemmas.Bool.{cases_lt}
 use Rattle.words.specs.Words.{le_n, bytes_n, le64, bytes64}
 use Rattle.words.specs.Holding.{Holds, stands}
 use Rattle.words.proofs.Laws.{top}
-use Rattle.words.proofs.Parts.{lt_or_ge, get_d_sets, get_or_sets_out, get_d_part, length_bytes64, bytes64_le64}
+use Rattle.words.proofs.Parts.{get_d_sets, get_or_sets_out, get_d_part, length_bytes64, bytes64_le64}
 
 pub holds_at : (s : List ℕ) (a b : ℕ) (xs : List ℕ) → a ≡ b → Holds s a xs → Holds s b xs
 holds_at s a b xs e h = subst (λ (n : ℕ). Holds s n xs) e h
@@ -100,7 +101,7 @@ le_holds s at b h = holds_all s at (bytes64 (le64 s at)) (λ i l. ap (λ (xs : L
 
 -- writing what stands there changes nothing
 pub sets_held : (s : List ℕ) (at : ℕ) (xs : List ℕ) → at + length xs ≤ length s → Holds s at xs → sets s at xs ≡ s
-sets_held s at xs h k = ext_get_or 0 (sets s at xs) s (length-sets s at xs) (λ i b. go i (lt_or_ge i at) (lt_or_ge i (at + length xs)))
+sets_held s at xs h k = ext_get_or 0 (sets s at xs) s (length-sets s at xs) (λ i b. go i (cases_lt i at) (cases_lt i (at + length xs)))
   where
     go : (i : ℕ) → (i < at) ⊎ (at ≤ i) → (i < at + length xs) ⊎ (at + length xs ≤ i) → get_or (sets s at xs) i 0 ≡ get_or s i 0
     go i (inl l) o = get_or_sets_out xs s at i (inl l)

@@ -8,15 +8,9 @@ use mathlib.Core.Logic.{◌⊎◌, inl, inr}
 use mathlib.Core.List.{List, [], ◌∷◌, ◌++◌, append_assoc}
 use lib.ListN.{length, get_or, set, take, drop, length-set, length-take, length-drop}
 use lib.Seq.{sets, length-sets, sets-eq, get_or-set_same, get_or-set_other, get_or-take, get_or-drop, drop-cons, drop_at, take-append_seam, ext_get_or}
+use Rattle.std.proofs.lemmas.Bool.{cases_lt}
 use Rattle.words.specs.Words.{le_n, set_n, bytes_n, le64, set_le64, bytes64}
 use Rattle.words.proofs.Laws.{Outside, le64_ext}
-
-pub lt_or_ge : (m n : ℕ) → (m < n) ⊎ (n ≤ m)
-lt_or_ge m n = go (dec_lt m n)
-  where
-    go : Dec (m < n) → (m < n) ⊎ (n ≤ m)
-    go (yes h) = inl h
-    go (no h) = inr (omega arith)
 
 -- ---- a list written over a part of another
 pub sets_append : (l : List ℕ) (i : ℕ) (xs ys : List ℕ) → sets l i (xs ++ ys) ≡ sets (sets l i xs) (i + length xs) ys
@@ -57,7 +51,7 @@ get_d_part n xs at k l = get_or-take n (drop at xs) k 0 l ∙ get_or-drop at xs 
 -- two lists that differ only where zs is written
 pub sets_over : (zs xs ys : List ℕ) (at : ℕ) → length xs ≡ length ys → at + length zs ≤ length xs
     → ((k : ℕ) → Outside (length zs) at k → get_or xs k 0 ≡ get_or ys k 0) → sets xs at zs ≡ sets ys at zs
-sets_over zs xs ys at len h f = ext_get_or 0 _ _ (length-sets xs at zs ∙ len ∙ sym (length-sets ys at zs)) (λ k l. go k (lt_or_ge k at) (lt_or_ge k (at + length zs)))
+sets_over zs xs ys at len h f = ext_get_or 0 _ _ (length-sets xs at zs ∙ len ∙ sym (length-sets ys at zs)) (λ k l. go k (cases_lt k at) (cases_lt k (at + length zs)))
   where
     out : (k : ℕ) → Outside (length zs) at k → get_or (sets xs at zs) k 0 ≡ get_or (sets ys at zs) k 0
     out k o = get_or_sets_out zs xs at k o ∙ f k o ∙ sym (get_or_sets_out zs ys at k o)
@@ -71,7 +65,7 @@ sets_over zs xs ys at len h f = ext_get_or 0 _ _ (length-sets xs at zs ∙ len �
 
 -- a part written over itself
 pub sets_same : (n : ℕ) (xs : List ℕ) (at : ℕ) → at + n ≤ length xs → sets xs at (take n (drop at xs)) ≡ xs
-sets_same n xs at h = ext_get_or 0 _ _ (length-sets xs at part) (λ k l. go k (lt_or_ge k at) (lt_or_ge k (at + n)))
+sets_same n xs at h = ext_get_or 0 _ _ (length-sets xs at part) (λ k l. go k (cases_lt k at) (cases_lt k (at + n)))
   where
     part : List ℕ
     part = take n (drop at xs)
