@@ -2,6 +2,7 @@
 use Prim.Native.Nat.{ℕ, ◌-◌, ◌<◌}
 use native.Mathlib.Omega.{arith}
 use mathlib.Core.Path.{◌≡◌, refl, sym, ap, subst, ◌∙◌}
+use mathlib.Core.Bool.{false}
 use mathlib.Core.List.{List, [], ◌∷◌, ◌++◌, append-nil, append_assoc}
 use mathlib.Core.Option.{Option as Maybe, some}
 use Rattle.std.specs.Prelude.{Option, Some, ⊤}
@@ -14,7 +15,7 @@ use Rattle.image_walk.specs.Tables.{slot_in, slots_from, put}
 use Rattle.image_walk.specs.Bounds.{TableHere}
 use Rattle.image_walk.specs.Here.{NodeHere, Matches}
 use Rattle.image_walk.proofs.Here.{here_bounds, here_leaf, here_slots}
-use Rattle.place_buffer.specs.declared.Places.{Places}
+use Rattle.place_buffer.specs.declared.PlaceSet.{PlaceSet}
 use Rattle.place_buffer.specs.Buffer.{Taken}
 use Rattle.place_buffer.proofs.Adding.{taken_none, taken_more}
 use Rattle.collecting.specs.Collected.{Standing, LeadsTo, Collected, Reached, Followed}
@@ -54,15 +55,15 @@ module _ {img : List ℕ} {at d : ℕ} {m : Parts} (p : m ≡ parts_at img at) {
 
 -- ── the way down ──
 
-pub follow_start : {img : List ℕ} {p : Places} {d at : ℕ} {m : Parts} → m ≡ parts_at img at → Followed img d at p p m d
-follow_start {at = at} e = record {
+pub follow_start : {img : List ℕ} {p : PlaceSet} {d at : ℕ} {m : Parts} → p.known.full ≡ false → m ≡ parts_at img at → Followed img d at p p m d
+follow_start {at = at} live e = record {
   next = at;
   parts = e;
   fewer = omega arith;
-  reached = λ n h. record { done = []; node = n; here = h; whole = refl; taken = taken_none };
+  reached = λ n h. record { done = []; node = n; here = h; whole = refl; taken = taken_none live };
 }
 
-module _ {img : List ℕ} {p r : Places} {m : Parts} {d at left : ℕ} (h : Followed img d at p r m left) where
+module _ {img : List ℕ} {p r : PlaceSet} {m : Parts} {d at left : ℕ} (h : Followed img d at p r m left) where
   pub followed_stands : Standing img d at → Standing img left h.next
   followed_stands k = let q = h.reached k.node k.here in record { node = q.node; here = q.here }
 
@@ -73,7 +74,7 @@ module _ {img : List ℕ} {p r : Places} {m : Parts} {d at left : ℕ} (h : Foll
   followed_table k = rw h.parts (here_bounds (followed_stands k).here).table
 
   -- what the node reached and all under it hold is the rest
-  pub followed_collected : {r' : Places} {o : Option ⊤} → Collected img left h.next r r' o → Collected img d at p r' o
+  pub followed_collected : {r' : PlaceSet} {o : Option ⊤} → Collected img left h.next r r' o → Collected img d at p r' o
   followed_collected {r'} {o} c = record { taken = λ n k. go (h.reached n k) }
     where
       go : {n : Node} → Reached img left h.next p r n → Taken p r' (collect n) o
@@ -89,7 +90,7 @@ module _ {img : List ℕ} {p r : Places} {m : Parts} {d at left : ℕ} (h : Foll
     pub follow_stands : Standing img d at → Standing img (left - 1) next
     follow_stands k = let o = only_child h.parts e (followed_stands k).here in record { node = o.child; here = o.here }
 
-    pub follow_next : {r' : Places} {m' : Parts} → m' ≡ parts_at img next → Both img m r r' (Some tt) → Followed img d at p r' m' (left - 1)
+    pub follow_next : {r' : PlaceSet} {m' : Parts} → m' ≡ parts_at img next → Both img m r r' (Some tt) → Followed img d at p r' m' (left - 1)
     follow_next {r'} f t = record {
       next = next;
       parts = f;

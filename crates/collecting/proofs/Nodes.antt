@@ -2,6 +2,7 @@
 use Prim.Native.Nat.{ℕ, zero, suc, ◌+◌, ◌*◌, ◌-◌, ◌≤◌}
 use native.Mathlib.Omega.{arith}
 use mathlib.Core.Path.{◌≡◌, refl, sym, ap, subst, ◌∙◌}
+use mathlib.Core.Bool.{false}
 use mathlib.Core.List.Memᴰ.{append_left}
 use mathlib.Core.List.{List, ◌++◌, append-nil}
 use Rattle.std.specs.Prelude.{Option, Some, None, ⊤}
@@ -15,7 +16,7 @@ use Rattle.image_walk.specs.Tables.{slots_from}
 use Rattle.image_walk.specs.Here.{NodeHere, Laid, Matches}
 use Rattle.image_walk.proofs.Here.{here_bounds, here_prefixes, here_chunks, here_suffixes, here_entries, here_leaf}
 use Rattle.image_walk.proofs.Entries.{slots_here}
-use Rattle.place_buffer.specs.declared.Places.{Places}
+use Rattle.place_buffer.specs.declared.PlaceSet.{PlaceSet}
 use Rattle.place_buffer.specs.Buffer.{Taken}
 use Rattle.place_buffer.proofs.Adding.{taken_none, taken_over, taken_more}
 use Rattle.collecting.specs.Collected.{Standing, Siblings, Collected, AllCollected, Ended}
@@ -35,13 +36,13 @@ module _ {img : List ℕ} {at : ℕ} {m : Parts} (e : m ≡ parts_at img at) (h 
 -- ── its lists ──
 
 -- adding the prefixes and chunks in place to the set p made r of it
-abbrev pub Both : List ℕ → Parts → Places → Places → Option ⊤ → Type 0
+abbrev pub Both : List ℕ → Parts → PlaceSet → PlaceSet → Option ⊤ → Type 0
 Both img m p r o = Taken p r (locations_in img m.prefixes.count m.prefixes.at ++ locations_in img m.chunks.count m.chunks.at) o
 
 -- an empty list adds nothing
-pub empty_taken : (img : List ℕ) (n at : ℕ) {p : Places} → n ≡ 0 → Taken p p (locations_in img n at) (Some tt)
+pub empty_taken : (img : List ℕ) (n at : ℕ) {p : PlaceSet} → p.known.full ≡ false → n ≡ 0 → Taken p p (locations_in img n at) (Some tt)
 unfolding locations_in
-empty_taken img n at z = rw z taken_none
+empty_taken img n at live z = rw z (taken_none live)
 
 module _ {img : List ℕ} {at d : ℕ} {m : Parts} {n : Node} (e : m ≡ parts_at img at) (h : NodeHere img d at n) where
   prefixes_are : locations_in img m.prefixes.count m.prefixes.at ≡ n.lists.prefixes
@@ -64,24 +65,24 @@ module _ {img : List ℕ} {at d : ℕ} {m : Parts} {n : Node} (e : m ≡ parts_a
   leaf_is : d ≡ 0 → n.children ≡ leaf
   leaf_is z = (here_leaf (subst (λ (k : ℕ). NodeHere img k at n) z h)).0
 
-  pub both_taken : {p r : Places} {o : Option ⊤} → Both img m p r o → Taken p r (n.lists.prefixes ++ n.lists.chunks) o
+  pub both_taken : {p r : PlaceSet} {o : Option ⊤} → Both img m p r o → Taken p r (n.lists.prefixes ++ n.lists.chunks) o
   both_taken {p} {r} {o} t = subst (λ (ls : List Location). Taken p r ls o) (rw (prefixes_are, chunks_are) refl) t
 
-  suffixes_taken : {p r : Places} {o : Option ⊤} → Taken p r (locations_in img m.suffixes.count m.suffixes.at) o → Taken p r n.lists.suffixes o
+  suffixes_taken : {p r : PlaceSet} {o : Option ⊤} → Taken p r (locations_in img m.suffixes.count m.suffixes.at) o → Taken p r n.lists.suffixes o
   suffixes_taken {p} {r} {o} t = subst (λ (ls : List Location). Taken p r ls o) suffixes_are t
 
-  suffixes_chunks : {p a r : Places} {o : Option ⊤} → Taken p a (locations_in img m.suffixes.count m.suffixes.at) (Some tt) → Taken a r (locations_in img m.chunks.count m.chunks.at) o → Taken p r (n.lists.suffixes ++ n.lists.chunks) o
+  suffixes_chunks : {p a r : PlaceSet} {o : Option ⊤} → Taken p a (locations_in img m.suffixes.count m.suffixes.at) (Some tt) → Taken a r (locations_in img m.chunks.count m.chunks.at) o → Taken p r (n.lists.suffixes ++ n.lists.chunks) o
   suffixes_chunks {a = a} {r = r} {o = o} t u = taken_more (suffixes_taken t) (subst (λ (ls : List Location). Taken a r ls o) chunks_are u)
 
-  collect_leaf : {p r : Places} {o : Option ⊤} → d ≡ 0 → Both img m p r o → Taken p r (collect n) o
+  collect_leaf : {p r : PlaceSet} {o : Option ⊤} → d ≡ 0 → Both img m p r o → Taken p r (collect n) o
   collect_leaf {p} {r} {o} z t =
       let none : n.lists.prefixes ++ n.lists.chunks ≡ collect n = sym (ap (λ (f : Forest). n.lists.prefixes ++ n.lists.chunks ++ collect_forest f) (leaf_is z) ∙ append-nil (n.lists.prefixes ++ n.lists.chunks)) in
       subst (λ (ls : List Location). Taken p r ls o) none (both_taken t)
 
-  collect_below : {p a r : Places} {o : Option ⊤} → (d ≡ 0 → ⊥) → Both img m p a (Some tt) → AllCollected img (d - 1) m.table.at m.table.count a r o → Taken p r (collect n) o
+  collect_below : {p a r : PlaceSet} {o : Option ⊤} → (d ≡ 0 → ⊥) → Both img m p a (Some tt) → AllCollected img (d - 1) m.table.at m.table.count a r o → Taken p r (collect n) o
   collect_below z t v = taken_more (both_taken t) (v.taken n.children (children_are z))
 
-  collect_over : {p r : Places} → Both img m p r None → Taken p r (collect n) None
+  collect_over : {p r : PlaceSet} → Both img m p r None → Taken p r (collect n) None
   collect_over t = taken_over (both_taken t) (λ x k. append_left (collect_forest n.children) k)
 
 -- ── what the functions answer ──
@@ -93,7 +94,7 @@ siblings_of {img} {at} {d} {m} e h z = record {
   matches = children_are e h.here z;
 }
 
-module _ {img : List ℕ} {at : ℕ} {m : Parts} (e : m ≡ parts_at img at) {p a : Places} where
+module _ {img : List ℕ} {at : ℕ} {m : Parts} (e : m ≡ parts_at img at) {p a : PlaceSet} where
   pub collected_leaf : {d : ℕ} {o : Option ⊤} → d ≡ 0 → Both img m p a o → Collected img d at p a o
   collected_leaf z t = record { taken = λ n h. collect_leaf e h z t }
 
@@ -104,7 +105,7 @@ module _ {img : List ℕ} {at : ℕ} {m : Parts} (e : m ≡ parts_at img at) {p 
   pub ended_over : Taken p a (locations_in img m.suffixes.count m.suffixes.at) None → Ended img at p a None
   ended_over t = record { taken = λ d n h. taken_over (suffixes_taken e h t) (λ x k. append_left n.lists.chunks k) }
 
-  module _ {r : Places} {o : Option ⊤} where
+  module _ {r : PlaceSet} {o : Option ⊤} where
     pub collected_below : {d : ℕ} → (d ≡ 0 → ⊥) → Both img m p a (Some tt) → AllCollected img (d - 1) m.table.at m.table.count a r o → Collected img d at p r o
     collected_below z t v = record { taken = λ n h. collect_below e h z t v }
 

@@ -2,6 +2,7 @@
 use Prim.Native.Nat.{ℕ, suc, ◌+◌, ◌-◌, ◌≤◌, ◌<◌}
 use native.Mathlib.Omega.{arith}
 use mathlib.Core.Path.{◌≡◌, refl, sym, ap, subst, ◌∙◌}
+use mathlib.Core.Bool.{false}
 use mathlib.Core.List.Memᴰ.{append_left}
 use mathlib.Core.List.{List, [], ◌∷◌, ◌++◌, append-nil, append_assoc}
 use mathlib.Core.Option.{Option as Maybe, none, some}
@@ -11,14 +12,14 @@ use Rattle.trie.specs.Trie.{Forest, leaf, more, Node, collect, collect_forest}
 use Rattle.image_format.specs.Held.{Entry}
 use Rattle.image_walk.specs.Tables.{slot_in, slots_from, put}
 use Rattle.image_walk.specs.Here.{NodeHere, Matches}
-use Rattle.place_buffer.specs.declared.Places.{Places}
+use Rattle.place_buffer.specs.declared.PlaceSet.{PlaceSet}
 use Rattle.place_buffer.specs.Buffer.{Taken}
 use Rattle.place_lookup.specs.Lookup.{Within}
 use Rattle.place_buffer.proofs.Adding.{taken_none, taken_more, taken_over}
 use Rattle.collecting.specs.Collected.{Standing, Siblings, Collected, AllCollected}
 
 -- of the siblings f the first are collected, which makes r of p, and the entries from number j on lead to the rest
-pub record Passed (img : List ℕ) (d table children j : ℕ) (p r : Places) (f : Forest) : Type 0 where
+pub record Passed (img : List ℕ) (d table children j : ℕ) (p r : PlaceSet) (f : Forest) : Type 0 where
   pub done : List Location
   pub rest : Forest
   pub whole : collect_forest f ≡ done ++ collect_forest rest
@@ -26,7 +27,7 @@ pub record Passed (img : List ℕ) (d table children j : ℕ) (p r : Places) (f 
   pub taken : Taken p r done (Some tt)
 
 -- so of all siblings that the table leads to
-pub record Passing (img : List ℕ) (d table children j : ℕ) (p r : Places) : Type 0 where
+pub record Passing (img : List ℕ) (d table children j : ℕ) (p r : PlaceSet) : Type 0 where
   pub within : j ≤ children
   pub passed : (f : Forest) → Matches img d (slots_from img table children children 0) f → Passed img d table children j p r f
 
@@ -63,19 +64,19 @@ module _ (img : List ℕ) (table children j : ℕ) where
 
 -- ── the loop ──
 
-pub passing_none : {img : List ℕ} {p : Places} (d table children : ℕ) → Passing img d table children 0 p p
-passing_none {img} d table children = record {
+pub passing_none : {img : List ℕ} {p : PlaceSet} (d table children : ℕ) → p.known.full ≡ false → Passing img d table children 0 p p
+passing_none {img} d table children live = record {
   within = omega arith;
   passed = λ f m. record {
     done = [];
     rest = f;
     whole = refl;
     matches = let e : children - 0 ≡ children = omega arith in rw e m;
-    taken = taken_none;
+    taken = taken_none live;
   };
 }
 
-module _ {img : List ℕ} {p r : Places} {d table children j : ℕ} (h : Passing img d table children j p r) where
+module _ {img : List ℕ} {p r : PlaceSet} {d table children j : ℕ} (h : Passing img d table children j p r) where
   -- what the table leads to, as far as it is collected
   pub passing_taken : (k : Siblings img d table children) → Taken p r (h.passed k.forest k.matches).done (Some tt)
   passing_taken k = (h.passed k.forest k.matches).taken
@@ -115,7 +116,7 @@ module _ {img : List ℕ} {p r : Places} {d table children j : ℕ} (h : Passing
         go : {f : Forest} → Passed img d table children j p r f → Standing img d at
         go q = let x = first q q.rest q.matches in record { node = x.node; here = x.here }
 
-    pub passing_child : {r' : Places} → Collected img d at r r' (Some tt) → Passing img d table children (j + 1) p r'
+    pub passing_child : {r' : PlaceSet} → Collected img d at r r' (Some tt) → Passing img d table children (j + 1) p r'
     passing_child {r'} c = record { within = omega arith; passed = λ f m. go f (h.passed f m) }
       where
         go : (f : Forest) → Passed img d table children j p r f → Passed img d table children (j + 1) p r' f
@@ -130,7 +131,7 @@ module _ {img : List ℕ} {p r : Places} {d table children j : ℕ} (h : Passing
             }
 
     -- what that holds has no room, whatever else were collected
-    pub passing_over : {r' : Places} → Collected img d at r r' None → AllCollected img d table children p r' None
+    pub passing_over : {r' : PlaceSet} → Collected img d at r r' None → AllCollected img d table children p r' None
     passing_over {r'} c = record { taken = λ f m. go f (h.passed f m) }
       where
         go : (f : Forest) → Passed img d table children j p r f → Taken p r' (collect_forest f) None

@@ -12,7 +12,7 @@ use lib.Dec.{eqb}
 use Rattle.definitions.specs.Location.{Location, normal, locations_in}
 use Rattle.definitions.specs.Places.{first_of, sizes}
 use Rattle.trie.specs.Trie.{Node}
-use Rattle.place_buffer.specs.declared.Places.{Places}
+use Rattle.place_buffer.specs.declared.PlaceSet.{PlaceSet}
 use Rattle.std.specs.Borrow.{MutBor}
 use Rattle.place_buffer.specs.Scratch.{room}
 use Rattle.place_buffer.specs.Buffer.{Behind, TidiedTo, Over, Taken}
@@ -34,37 +34,37 @@ lt_or_same i j h = go (cases_lt i j)
     go (inl l) = inl l
     go (inr l) = inr (omega arith)
 
-module _ (i : ℕ) {n : Node} {q ends : List ℕ} {s : MutBor (List ℕ)} {p : Places} (h : i < length q) (d : LaidOut n q (i + 1) ends s.now) (e : Behind s (get_or ends (i + 1) 0) p) where
+module _ (i : ℕ) {n : Node} {q ends : List ℕ} {s : MutBor (List ℕ)} {p : PlaceSet} (h : i < length q) (d : LaidOut n q (i + 1) ends s.now) (e : Behind s (get_or ends (i + 1) 0) p) where
   counted : length (first_of (table_from n q i)) ≡ length (normal (along_from (eqb i 0) n (drop i q)))
   counted = ap (λ (ts : List (List Location)). length (first_of ts)) (table_step n q i h)
 
   none_yet : Holding p []
-  none_yet = holding_none (e.empty ∙ sym e.from)
+  none_yet = holding_none (e.empty ∙ sym e.from) e.live
 
-  pub end_over : {r : Places} {s₁ : List ℕ} → Taken p r (along_from (eqb i 0) n (drop i q)) None → EndFound n q i ends s.now s₁ None
+  pub end_over : {r : PlaceSet} {s₁ : List ℕ} → Taken p r (along_from (eqb i 0) n (drop i q)) None → EndFound n q i ends s.now s₁ None
   end_over t =
-      let over : Over p.scratch.now p.base (along_from (eqb i 0) n (drop i q)) =
-      subst (Over p.scratch.now p.base) (append-nil (along_from (eqb i 0) n (drop i q))) (holding_over none_yet t) in
+      let over : Over p.scratch.now p.known.base (along_from (eqb i 0) n (drop i q)) =
+      subst (Over p.scratch.now p.known.base) (append-nil (along_from (eqb i 0) n (drop i q))) (holding_over none_yet t) in
       record { found = omega (arith, over, counted, e.from, ap (λ (x : List ℕ). length x / 24) e.same_bytes) }
 
-  module _ {r r' : Places} (t : Taken p r (along_from (eqb i 0) n (drop i q)) (Some tt)) (u : TidiedTo r r') where
-    base : r.base ≡ get_or ends (i + 1) 0
+  module _ {r r' : PlaceSet} (t : Taken p r (along_from (eqb i 0) n (drop i q)) (Some tt)) (u : TidiedTo r r') where
+    base : r.known.base ≡ get_or ends (i + 1) 0
     base = t.same_base ∙ e.from
 
-    settled : Settled r'.scratch.now r.base (along_from (eqb i 0) n (drop i q)) r'.count
+    settled : Settled r'.scratch.now r.known.base (along_from (eqb i 0) n (drop i q)) r'.known.count
     settled = holding_tidy (subst (Holding r) (append-nil (along_from (eqb i 0) n (drop i q))) (holding_taken none_yet t)) u
 
-    at_i : get_or (set ends i r'.count) i 0 ≡ r'.count
-    at_i = get_or-set_same ends i r'.count 0 (omega (arith, d.long))
+    at_i : get_or (set ends i r'.known.count) i 0 ≡ r'.known.count
+    at_i = get_or-set_same ends i r'.known.count 0 (omega (arith, d.long))
 
-    behind_i : (j : ℕ) → i < j → get_or (set ends i r'.count) j 0 ≡ get_or ends j 0
-    behind_i j l = get_or-set_other ends i j r'.count 0 (λ f. omega arith)
+    behind_i : (j : ℕ) → i < j → get_or (set ends i r'.known.count) j 0 ≡ get_or ends j 0
+    behind_i j l = get_or-set_other ends i j r'.known.count 0 (λ f. omega arith)
 
     -- T(i)
-    part_new : Part n q (set ends i r'.count) r'.scratch.now r'.count i
+    part_new : Part n q (set ends i r'.known.count) r'.scratch.now r'.known.count i
     part_new =
         let a = at_i in
-        let b : get_or (set ends i r'.count) (i + 1) 0 ≡ r.base = behind_i (i + 1) (omega arith) ∙ sym base in
+        let b : get_or (set ends i r'.known.count) (i + 1) 0 ≡ r.known.base = behind_i (i + 1) (omega arith) ∙ sym base in
         record {
           order = omega (arith, settled.count);
           below = omega arith;
@@ -72,13 +72,13 @@ module _ (i : ℕ) {n : Node} {q ends : List ℕ} {s : MutBor (List ℕ)} {p : P
         }
 
     -- those behind it are as they were
-    part_old : (j : ℕ) → i < j → j < length q → (0 < j → j + 1 < length q) → Part n q (set ends i r'.count) r'.scratch.now r'.count j
+    part_old : (j : ℕ) → i < j → j < length q → (0 < j → j + 1 < length q) → Part n q (set ends i r'.known.count) r'.scratch.now r'.known.count j
     part_old j l k g =
         let a = behind_i j l in
         let b = behind_i (j + 1) (omega arith) in
         let o = d.part j (omega arith) k g in
         let c = settled.count in
-        let low : get_or ends (j + 1) 0 * 24 + (get_or ends j 0 - get_or ends (j + 1) 0) * 24 ≤ r.base * 24 = omega (arith, o.order, o.below, base) in
+        let low : get_or ends (j + 1) 0 * 24 + (get_or ends j 0 - get_or ends (j + 1) 0) * 24 ≤ r.known.base * 24 = omega (arith, o.order, o.below, base) in
         record {
           order = omega (arith, o.order);
           below = omega (arith, o.below, base);
@@ -88,25 +88,25 @@ module _ (i : ℕ) {n : Node} {q ends : List ℕ} {s : MutBor (List ℕ)} {p : P
               ∙ taken_elsewhere t (get_or ends j 0 - get_or ends (j + 1) 0) (get_or ends (j + 1) 0 * 24) (omega (arith, base, t.same_base)) ∙ ap (λ (x : List ℕ). locations_in x (get_or ends j 0 - get_or ends (j + 1) 0) (get_or ends (j + 1) 0 * 24)) e.same_bytes ∙ o.places);
         }
 
-    laid_there : EndFound n q i ends s.now r'.scratch.now (Some r'.count)
+    laid_there : EndFound n q i ends s.now r'.scratch.now (Some r'.known.count)
     laid_there = record {
       found = record {
         laid = record {
-          long = omega (arith, d.long, length-set ends i r'.count);
+          long = omega (arith, d.long, length-set ends i r'.known.count);
           fits = omega (arith, at_i, settled.within);
-          part = λ j l k g. subst (λ (x : ℕ). Part n q (set ends i r'.count) r'.scratch.now x j) (sym at_i) (go j (lt_or_same i j l) k g);
+          part = λ j l k g. subst (λ (x : ℕ). Part n q (set ends i r'.known.count) r'.scratch.now x j) (sym at_i) (go j (lt_or_same i j l) k g);
         };
         size = omega (arith, settled.count, counted, base);
       };
     }
       where
-        go : (j : ℕ) → (i < j) ⊎ (j ≡ i) → j < length q → (0 < j → j + 1 < length q) → Part n q (set ends i r'.count) r'.scratch.now r'.count j
+        go : (j : ℕ) → (i < j) ⊎ (j ≡ i) → j < length q → (0 < j → j + 1 < length q) → Part n q (set ends i r'.known.count) r'.scratch.now r'.known.count j
         go j (inl l) k g = part_old j l k g
-        go j (inr f) k g = subst (Part n q (set ends i r'.count) r'.scratch.now r'.count) (sym f) part_new
+        go j (inr f) k g = subst (Part n q (set ends i r'.known.count) r'.scratch.now r'.known.count) (sym f) part_new
 
     -- what was lent is what the set leaves there
-    pub end_laid : {s₂ : List ℕ} → s₂ ≡ r'.scratch.now → EndFound n q i ends s.now s₂ (Some r'.count)
-    end_laid f = subst (λ (x : List ℕ). EndFound n q i ends s.now x (Some r'.count)) (sym f) laid_there
+    pub end_laid : {s₂ : List ℕ} → s₂ ≡ r'.scratch.now → EndFound n q i ends s.now s₂ (Some r'.known.count)
+    end_laid f = subst (λ (x : List ℕ). EndFound n q i ends s.now x (Some r'.known.count)) (sym f) laid_there
 
 -- ── the loop ──
 
@@ -139,7 +139,7 @@ module _ {img : List ℕ} (q : List ℕ) {m : Beyond} (h : 1 < length q) (x : �
       omega (arith, ending_size, length_normal (ending_in img m), length-append (listed img m.suffixes) (listed img m.chunks), length_locations m.suffixes.count img m.suffixes.at, length_locations m.chunks.count img m.chunks.at)
 
 -- what is added behind them leaves them as they were
-pub laid_taken : (i : ℕ) {n : Node} {q ends : List ℕ} {p r : Places} {o : Option ⊤} {ls : List Location} → LaidOut n q (i + 1) ends p.scratch.now → p.base ≡ get_or ends (i + 1) 0 → Taken p r ls o → LaidOut n q (i + 1) ends r.scratch.now
+pub laid_taken : (i : ℕ) {n : Node} {q ends : List ℕ} {p r : PlaceSet} {o : Option ⊤} {ls : List Location} → LaidOut n q (i + 1) ends p.scratch.now → p.known.base ≡ get_or ends (i + 1) 0 → Taken p r ls o → LaidOut n q (i + 1) ends r.scratch.now
 laid_taken i {n} {q} {ends} {p} {r} d b t = record {
   long = d.long;
   fits = omega (arith, d.fits, t.same_length);

@@ -2,7 +2,7 @@
 use Prim.Native.Nat.{ℕ, suc, ◌+◌, ◌-◌, ◌≤◌, ◌<◌}
 use native.Mathlib.Omega.{arith}
 use mathlib.Core.Path.{◌≡◌, refl, sym, ap, subst, ◌∙◌}
-use mathlib.Core.Bool.{Bool}
+use mathlib.Core.Bool.{Bool, false}
 use mathlib.Core.List.{List, [], ◌∷◌, ◌++◌, append-nil, append_assoc}
 use mathlib.Core.Option.{Option as Maybe, none, some}
 use Rattle.std.specs.Prelude.{Option, Some, None, ⊤}
@@ -26,7 +26,7 @@ use Rattle.image_walk.proofs.Entries.{entries_here}
 use Rattle.collecting.proofs.Callers.{here_more}
 use Rattle.place_lookup.specs.Lookup.{Within}
 use Rattle.joining.specs.Lists.{listed}
-use Rattle.place_buffer.specs.declared.Places.{Places}
+use Rattle.place_buffer.specs.declared.PlaceSet.{PlaceSet}
 use Rattle.place_buffer.specs.Buffer.{Taken}
 use Rattle.place_buffer.proofs.Adding.{taken_none, taken_over, taken_more}
 use Rattle.node_joining.specs.Found.{rooted, last_of, ended_lists, ending_lists, beyond_of, along_from, rest_along}
@@ -142,15 +142,15 @@ nothing_ending img path e = record {
 
 -- ── path by path ──
 
-pub record Progress (front : Bool) (n : Node) (w : List ℕ) (k : ℕ) (p r : Places) : Type 0 where
+pub record Progress (front : Bool) (n : Node) (w : List ℕ) (k : ℕ) (p r : PlaceSet) : Type 0 where
   pub done : List Location
   pub whole : along_from front n w ≡ done ++ rest_along front n w k
   pub taken : Taken p r done (Some tt)
 
-pub progress_start : {p : Places} (front : Bool) (n : Node) (w : List ℕ) → 0 < length w → Progress front n w 1 p p
-progress_start front n w h = record { done = []; whole = rest_start front n w h; taken = taken_none }
+pub progress_start : {p : PlaceSet} → p.known.full ≡ false → (front : Bool) (n : Node) (w : List ℕ) → 0 < length w → Progress front n w 1 p p
+progress_start live front n w h = record { done = []; whole = rest_start front n w h; taken = taken_none live }
 
-pub progress_at : {front : Bool} {n : Node} {w : List ℕ} (k k' : ℕ) {p r : Places} → k ≡ k' → Progress front n w k p r → Progress front n w k' p r
+pub progress_at : {front : Bool} {n : Node} {w : List ℕ} (k k' : ℕ) {p r : PlaceSet} → k ≡ k' → Progress front n w k p r → Progress front n w k' p r
 progress_at {front} {n} {w} k k' {p} {r} e g = subst (λ (j : ℕ). Progress front n w j p r) e g
 
 -- the places behind a path are those of the query behind it
@@ -159,7 +159,7 @@ behind_path n q i j h =
     let e : j ≡ i + (j - i) = omega arith in
     ap (λ (x : List ℕ). first_of (ends_found n x)) (ap (λ (k : ℕ). drop k q) e ∙ sym (drop-drop (j - i) i q))
 
-module _ (img : List ℕ) {front : Bool} {w : List ℕ} {k : ℕ} {p r : Places} (g : Progress front (rooted img) w k p r) where
+module _ (img : List ℕ) {front : Bool} {w : List ℕ} {k : ℕ} {p r : PlaceSet} (g : Progress front (rooted img) w k p r) where
   -- the path has no node, and no longer one has
   pub progress_none : node_at (rooted img) (take k w) ≡ none → Taken p r (along_from front (rooted img) w) (Some tt)
   progress_none z =
@@ -175,17 +175,17 @@ module _ (img : List ℕ) {front : Bool} {w : List ℕ} {k : ℕ} {p r : Places}
         ∙ ap (λ (ns : List Location). joins_each k (ended_lists front (lists_of img m)) ns ++ rest_along front (rooted img) w (k + 1)) (sym ems) in
         g.whole ∙ ap (λ (ls : List Location). g.done ++ ls) next ∙ sym (append_assoc g.done (joins_each k (ended_lists front (lists_of img m)) ms) (rest_along front (rooted img) w (k + 1)))
 
-    pub progress_next : {r' : Places} → Taken r r' (joins_each k (ended_lists front (lists_of img m)) ms) (Some tt) → Progress front (rooted img) w (k + 1) p r'
+    pub progress_next : {r' : PlaceSet} → Taken r r' (joins_each k (ended_lists front (lists_of img m)) ms) (Some tt) → Progress front (rooted img) w (k + 1) p r'
     progress_next t = record { done = g.done ++ joins_each k (ended_lists front (lists_of img m)) ms; whole = step; taken = taken_more g.taken t }
 
     -- that has no room
-    pub progress_over : {r' : Places} → Taken r r' (joins_each k (ended_lists front (lists_of img m)) ms) None → Taken p r' (along_from front (rooted img) w) None
+    pub progress_over : {r' : PlaceSet} → Taken r r' (joins_each k (ended_lists front (lists_of img m)) ms) None → Taken p r' (along_from front (rooted img) w) None
     progress_over t =
         taken_over (taken_more g.taken t)
         (subst (Within (g.done ++ joins_each k (ended_lists front (lists_of img m)) ms)) (sym step) (λ x i. append_left (rest_along front (rooted img) w (k + 1)) i))
 
   -- the path is the query
-  pub progress_end : {r' : Places} {o : Option ⊤} {at : ℕ} → FoundAt img 16 at (node_at (rooted img) (take k w)) → length w ≤ k → Reached img at front r r' o → Taken p r' (along_from front (rooted img) w) o
+  pub progress_end : {r' : PlaceSet} {o : Option ⊤} {at : ℕ} → FoundAt img 16 at (node_at (rooted img) (take k w)) → length w ≤ k → Reached img at front r r' o → Taken p r' (along_from front (rooted img) w) o
   progress_end {r'} {o} f h t =
       let there : node_at (rooted img) w ≡ some f.node = subst (λ (x : List ℕ). node_at (rooted img) x ≡ some f.node) (take_all k w h) f.there in
       let whole : along_from front (rooted img) w ≡ g.done ++ beyond_of front f.node = g.whole ∙ ap (λ (ls : List Location). g.done ++ ls) (rest_end front (rooted img) w k h ∙ beyond_some front (rooted img) w f.node there) in

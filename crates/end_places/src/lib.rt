@@ -8,7 +8,7 @@ ghost use Rattle.node_joining.specs.Found.{rooted, along_from};
 ghost use Rattle.node_joining.specs.Layout.{Sound, Reached, LaidOut, EndFound};
 
 use node_joining::{Query, Step};
-use place_buffer::Places;
+use place_buffer::PlaceSet;
 
 // A query of a sound image: what stays the same while its places are searched for.
 #[derive(Clone, Copy)]
@@ -18,7 +18,7 @@ pub struct Search<'a> {
 }
 
 // Adds what ends at the node at index at or goes beyond it.
-fn find_beyond(img: &[u8], at: usize, front: bool, places: &mut Places<'_>) -> Option<()>
+fn find_beyond(img: &[u8], at: usize, front: bool, places: &mut PlaceSet<'_>) -> Option<()>
     requires { Standing img.now 16 at }
     ensures { Reached img.now at front places.old places.new result }
 {
@@ -29,10 +29,13 @@ fn find_beyond(img: &[u8], at: usize, front: bool, places: &mut Places<'_>) -> O
 }
 
 // Adds the places of the query from i on to a set, which stands behind those of its shorter ends.
-fn find_places(search: Search, i: usize, ends: &[usize], places: &mut Places<'_>) -> Option<()>
-    requires { (i < length search.query.bytes.now) × LaidOut (rooted search.query.img.now) search.query.bytes.now (i + 1) ends.now places.old.scratch.now × (places.old.base ≡ get_or ends.now (i + 1) 0) }
+fn find_places(search: Search, i: usize, ends: &[usize], places: &mut PlaceSet<'_>) -> Option<()>
+    requires { (i < length search.query.bytes.now) × LaidOut (rooted search.query.img.now) search.query.bytes.now (i + 1) ends.now places.old.scratch.now × (places.old.known.base ≡ get_or ends.now (i + 1) 0) }
     ensures { Taken places.old places.new (along_from (eqb i 0) (rooted search.entry.query.img.now) (drop i search.entry.query.bytes.now)) result }
 {
+    if places.known.full {
+        return None;
+    }
     let query = search.query;
     let mut n = image_walk::node_at(query.img, 0);
     for j in i..query.bytes.len() - 1 {
@@ -55,8 +58,8 @@ pub fn find_end(search: Search, i: usize, ends: &[usize], scratch: &mut [u8]) ->
     requires { (i < length search.query.bytes.now) × LaidOut (rooted search.query.img.now) search.query.bytes.now (i + 1) ends.now scratch.old }
     ensures { EndFound (rooted search.entry.query.img.now) search.entry.query.bytes.now i ends.now scratch.old scratch.new result }
 {
-    let mut places = Places::behind(scratch, ends[i + 1]);
+    let mut places = PlaceSet::behind(scratch, ends[i + 1]);
     find_places(search, i, ends, &mut places)?;
     places.tidy();
-    Some(places.count)
+    Some(places.known.count)
 }

@@ -21,7 +21,7 @@ use Rattle.definitions.specs.Places.{joins}
 use Rattle.definitions.proofs.Views.{overlap_is}
 use Rattle.definitions.proofs.Joins.{joins_mem, mem_joins}
 use Rattle.trie.specs.Find.{joins_each}
-use Rattle.place_buffer.specs.declared.Places.{Places}
+use Rattle.place_buffer.specs.declared.PlaceSet.{PlaceSet}
 use Rattle.place_buffer.specs.Buffer.{Taken}
 use Rattle.place_lookup.specs.Lookup.{Within}
 use Rattle.definitions.proofs.Locations.{locations_snoc}
@@ -49,11 +49,11 @@ module _ (l m : Location) where
       go true f = absurd (let z : ◌≡◌ {A = ℕ} 0 1 = cc in omega arith)
       go false f = refl
 
-  pub one_life : {p r : Places} {o : Option ⊤} (x : Location) → some x ≡ overlap l m → Taken p r (x ∷ []) o → Taken p r (joins l m.address (m ∷ [])) o
+  pub one_life : {p r : PlaceSet} {o : Option ⊤} (x : Location) → some x ≡ overlap l m → Taken p r (x ∷ []) o → Taken p r (joins l m.address (m ∷ [])) o
   one_life {p} {r} {o} x e t = subst (λ (ls : List Location). Taken p r ls o) (sym (joins_life x e)) t
 
-  pub one_nothing : {p : Places} → none ≡ overlap l m → Taken p p (joins l m.address (m ∷ [])) (Some tt)
-  one_nothing {p} e = subst (λ (ls : List Location). Taken p p ls (Some tt)) (sym (joins_nothing e)) taken_none
+  pub one_nothing : {p : PlaceSet} → p.known.full ≡ false → none ≡ overlap l m → Taken p p (joins l m.address (m ∷ [])) (Some tt)
+  one_nothing {p} live e = subst (λ (ls : List Location). Taken p p ls (Some tt)) (sym (joins_nothing e)) (taken_none live)
 
 -- ── one location and places, one list of them after another ──
 
@@ -73,27 +73,27 @@ module _ (l : Location) (a : ℕ) where
 
 -- ── one location and those of a list at one address: the first i of the n are below it, and j are gone through ──
 
-abbrev pub JoinedTo : (img : List ℕ) (at key : ℕ) (l : Location) (p r : Places) (j : ℕ) (o : Option ⊤) → Type 0
+abbrev pub JoinedTo : (img : List ℕ) (at key : ℕ) (l : Location) (p r : PlaceSet) (j : ℕ) (o : Option ⊤) → Type 0
 JoinedTo img at key l p r j o = Taken p r (joins l key (locations_in img j at)) o
 
 module _ (img : List ℕ) (n at key i : ℕ) (d : Parted img n at key i) (l : Location) where
   -- those below the key have another address
-  pub key_start : {p : Places} → JoinedTo img at key l p p i (Some tt)
-  key_start {p} =
+  pub key_start : {p : PlaceSet} → p.known.full ≡ false → JoinedTo img at key l p p i (Some tt)
+  key_start {p} live =
       let none : joins l key (locations_in img i at) ≡ [] = joins_none l key (locations_in img i at) (λ m j e. omega (arith, d.front m j)) in
-      subst (λ (ls : List Location). Taken p p ls (Some tt)) (sym none) taken_none
+      subst (λ (ls : List Location). Taken p p ls (Some tt)) (sym none) (taken_none live)
 
   module _ (j : ℕ) where
     part : j ≤ n → joins l key (locations_in img n at) ≡ joins l key (locations_in img j at) ++ joins l key (locations_in img (n - j) (at + j * 24))
     part h = ap (joins l key) (locations_part img n at j h) ∙ joins_append l key (locations_in img j at) (locations_in img (n - j) (at + j * 24))
 
     -- one has no room, whatever else were added
-    pub key_refused : {p r : Places} → j ≤ n → JoinedTo img at key l p r j None → JoinedTo img at key l p r n None
+    pub key_refused : {p r : PlaceSet} → j ≤ n → JoinedTo img at key l p r j None → JoinedTo img at key l p r n None
     key_refused h t =
         taken_over t (subst (Within (joins l key (locations_in img j at))) (sym (part h)) (λ x i. append_left (joins l key (locations_in img (n - j) (at + j * 24))) i))
 
     -- one above the key, and so are all behind it
-    pub key_stop : {p r : Places} {o : Option ⊤} {m : Location} → j < n → Sorted Less (locations_in img n at) → m ≡ location_at img (at + j * 24) → key < m.address
+    pub key_stop : {p r : PlaceSet} {o : Option ⊤} {m : Location} → j < n → Sorted Less (locations_in img n at) → m ≡ location_at img (at + j * 24) → key < m.address
         → JoinedTo img at key l p r j o → JoinedTo img at key l p r n o
     key_stop {p} {r} {o} {m} h up em above t =
         let rest = locations_in img (n - j) (at + j * 24) in
@@ -108,7 +108,7 @@ module _ (img : List ℕ) (n at key i : ℕ) (d : Parted img n at key i) (l : Lo
         subst (λ (ls : List Location). Taken p r ls o) (sym whole) t
 
     -- one at the key was joined
-    pub key_next : {p r r' : Places} {o : Option ⊤} {m : Location} → i ≤ j → j < n → m ≡ location_at img (at + j * 24) → m.address ≤ key
+    pub key_next : {p r r' : PlaceSet} {o : Option ⊤} {m : Location} → i ≤ j → j < n → m ≡ location_at img (at + j * 24) → m.address ≤ key
         → JoinedTo img at key l p r j (Some tt) → Taken r r' (joins l m.address (m ∷ [])) o → JoinedTo img at key l p r' (j + 1) o
     key_next {p} {r' = r'} {o = o} {m} f h em le t u =
         let where_it_is : at + i * 24 + (j - i) * 24 ≡ at + j * 24 = omega arith in
@@ -119,21 +119,21 @@ module _ (img : List ℕ) (n at key i : ℕ) (d : Parted img n at key i) (l : Lo
         ∙ ap (λ (x : Location). joins l key (locations_in img j at) ++ joins l key (x ∷ [])) (sym em) ∙ ap (λ (b : ℕ). joins l key (locations_in img j at) ++ joins l b (m ∷ [])) (sym e) in
         subst (λ (ls : List Location). Taken p r' ls o) (sym whole) (taken_more t u)
 
-    pub key_done : {p r : Places} {o : Option ⊤} → j ≤ n → n ≤ j → JoinedTo img at key l p r j o → JoinedTo img at key l p r n o
+    pub key_done : {p r : PlaceSet} {o : Option ⊤} → j ≤ n → n ≤ j → JoinedTo img at key l p r j o → JoinedTo img at key l p r n o
     key_done {p} {r} {o} h k t =
         let e : j ≡ n = omega arith in
         subst (λ (i : ℕ). JoinedTo img at key l p r i o) e t
 
 -- none has the address
-pub none_joined_to : {img : List ℕ} {list : Listing} {key : ℕ} {p : Places} (x : Location) → NoneAt img list key → Taken p p (joins x key (listed img list)) (Some tt)
-none_joined_to {img} {list} {key} {p} x h = subst (λ (ls : List Location). Taken p p ls (Some tt)) (sym (joins_none x key (listed img list) h.none)) taken_none
+pub none_joined_to : {img : List ℕ} {list : Listing} {key : ℕ} {p : PlaceSet} (x : Location) → p.known.full ≡ false → NoneAt img list key → Taken p p (joins x key (listed img list)) (Some tt)
+none_joined_to {img} {list} {key} {p} x live h = subst (λ (ls : List Location). Taken p p ls (Some tt)) (sym (joins_none x key (listed img list) h.none)) (taken_none live)
 
 -- by the first with the address a list parts
 pub parted_at : {img : List ℕ} {list : Listing} {key a i : ℕ} → Sorted Less (listed img list) → FirstAt img list key i → a ≡ key → Parted img list.count list.at a i
 parted_at {img} {list} {key} {a} {i} up f e = parted img list.count list.at a i up (f.below ∙ ap (λ (k : ℕ). below_count k (listed img list)) (sym e))
 
 -- the address by another name
-pub joined_to_key : (x : Location) (ls : List Location) {p r : Places} {o : Option ⊤} {a b : ℕ} → a ≡ b → Taken p r (joins x a ls) o → Taken p r (joins x b ls) o
+pub joined_to_key : (x : Location) (ls : List Location) {p r : PlaceSet} {o : Option ⊤} {a b : ℕ} → a ≡ b → Taken p r (joins x a ls) o → Taken p r (joins x b ls) o
 joined_to_key x ls {p} {r} {o} e t = subst (λ (key : ℕ). Taken p r (joins x key ls) o) e t
 
 -- ── one place and the locations of a list ──
@@ -146,10 +146,10 @@ common_same l m =
     let c : min l.destroyed m.destroyed ≡ min m.destroyed l.destroyed = omega arith in
     λ i. record { address = a i; created = b i; destroyed = c i }
 
-module _ (k : ℕ) (ls : List Location) (m : Location) {p : Places} where
+module _ (k : ℕ) (ls : List Location) (m : Location) {p : PlaceSet} where
   -- it begins before any location of k bytes could end
-  pub place_low : m.address < k → Taken p p (joins_each k ls (m ∷ [])) (Some tt)
-  place_low h = taken_same taken_none (λ x j. absurd (not-nil j)) (λ x j. absurd (none_joined k ls (m ∷ []) apart j))
+  pub place_low : p.known.full ≡ false → m.address < k → Taken p p (joins_each k ls (m ∷ [])) (Some tt)
+  place_low live h = taken_same (taken_none live) (λ x j. absurd (not-nil j)) (λ x j. absurd (none_joined k ls (m ∷ []) apart j))
     where
       apart : (x y : Location) → Mem x ls → Mem y (m ∷ []) → y.address ≡ x.address + k → ⊥
       apart x y i j e =
@@ -157,7 +157,7 @@ module _ (k : ℕ) (ls : List Location) (m : Location) {p : Places} where
           omega arith
 
   -- the locations that end where it begins have one address
-  pub place_joined : {r : Places} {o : Option ⊤} → k ≤ m.address → Taken p r (joins m (m.address - k) ls) o → Taken p r (joins_each k ls (m ∷ [])) o
+  pub place_joined : {r : PlaceSet} {o : Option ⊤} → k ≤ m.address → Taken p r (joins m (m.address - k) ls) o → Taken p r (joins_each k ls (m ∷ [])) o
   place_joined h t = taken_same t to from
     where
       to : Within (joins m (m.address - k) ls) (joins_each k ls (m ∷ []))
@@ -186,9 +186,9 @@ addresses_fit zero img at b m h = absurd (not-nil h)
 addresses_fit (suc n) img at b m (here e) = omega (arith, ap (λ (x : Location). x.address) e, le64_lt img at b)
 addresses_fit (suc n) img at b m (later h) = addresses_fit n img (at + 24) b m h
 
-module _ (img : List ℕ) (n at : ℕ) (l : Location) {p : Places} where
+module _ (img : List ℕ) (n at : ℕ) (l : Location) {p : PlaceSet} where
   -- it ends beyond every address
-  pub location_far : (a : ℕ) → ((j : ℕ) → get_or img j 0 < 256) → 2 ^ 64 ≤ a → Taken p p (joins l a (locations_in img n at)) (Some tt)
-  location_far a b h =
+  pub location_far : p.known.full ≡ false → (a : ℕ) → ((j : ℕ) → get_or img j 0 < 256) → 2 ^ 64 ≤ a → Taken p p (joins l a (locations_in img n at)) (Some tt)
+  location_far live a b h =
       let none : joins l a (locations_in img n at) ≡ [] = joins_none l a (locations_in img n at) (λ m i e. omega (arith, addresses_fit n img at b m i)) in
-      subst (λ (ls : List Location). Taken p p ls (Some tt)) (sym none) taken_none
+      subst (λ (ls : List Location). Taken p p ls (Some tt)) (sym none) (taken_none live)

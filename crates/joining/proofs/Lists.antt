@@ -3,13 +3,14 @@ use Prim.Native.Nat.{ℕ, ◌+◌, ◌-◌, ◌*◌, ◌≤◌, ◌<◌}
 use native.Mathlib.Omega.{arith}
 use mathlib.Core.Path.{◌≡◌, sym, ap, subst, ◌∙◌}
 use Rattle.std.specs.Prelude.{Option, Some, None, ⊤}
+use mathlib.Core.Bool.{false}
 use mathlib.Core.List.Memᴰ.{append_left}
 use mathlib.Core.List.Memᴰ.{not-nil}
 use mathlib.Core.List.{List, [], ◌∷◌, ◌++◌, append-nil}
 use Rattle.definitions.specs.Location.{Location, location_at, locations_in}
 use Rattle.definitions.specs.Places.{joins}
 use Rattle.trie.specs.Find.{joins_each}
-use Rattle.place_buffer.specs.declared.Places.{Places}
+use Rattle.place_buffer.specs.declared.PlaceSet.{PlaceSet}
 use Rattle.place_buffer.specs.Buffer.{Taken}
 use Rattle.place_lookup.specs.Lookup.{Within}
 use Rattle.definitions.proofs.Locations.{locations_snoc}
@@ -21,15 +22,15 @@ use Rattle.joining.proofs.Search.{locations_part}
 -- ── place by place: t - from of the places are gone through ──
 
 module _ (k : ℕ) (ls : List Location) (from : ℕ) where
-  pub each_start : {p : Places} (t : ℕ) → t ≡ from → Taken p p (joins_each k ls (locations_in p.scratch.now (t - from) (from * 24))) (Some tt)
+  pub each_start : {p : PlaceSet} (t : ℕ) → p.known.full ≡ false → t ≡ from → Taken p p (joins_each k ls (locations_in p.scratch.now (t - from) (from * 24))) (Some tt)
   unfolding locations_in
-  each_start {p} t e =
+  each_start {p} t live e =
       let z : t - from ≡ 0 = omega arith in
-      rw z (taken_same taken_none (λ x j. absurd (not-nil j)) (λ x j. absurd (none_joined k ls [] (λ a b c d f. not-nil d) j)))
+      rw z (taken_same (taken_none live) (λ x j. absurd (not-nil j)) (λ x j. absurd (none_joined k ls [] (λ a b c d f. not-nil d) j)))
 
-  module _ (t : ℕ) {p r : Places} where
+  module _ (t : ℕ) {p r : PlaceSet} where
     -- a place before the set is read as it was
-    pub each_next : {r' : Places} {o : Option ⊤} {m : Location} → from ≤ t → t < p.base → Taken p r (joins_each k ls (locations_in p.scratch.now (t - from) (from * 24))) (Some tt)
+    pub each_next : {r' : PlaceSet} {o : Option ⊤} {m : Location} → from ≤ t → t < p.known.base → Taken p r (joins_each k ls (locations_in p.scratch.now (t - from) (from * 24))) (Some tt)
         → m ≡ location_at r.scratch.now (t * 24) → Taken r r' (joins_each k ls (m ∷ [])) o → Taken p r' (joins_each k ls (locations_in p.scratch.now (t + 1 - from) (from * 24))) o
     each_next {r'} {o} {m} h b u em w =
         let s = p.scratch.now in
@@ -57,18 +58,18 @@ module _ (k : ℕ) (ls : List Location) (from : ℕ) where
         subst (λ (x : ℕ). Taken p r (joins_each k ls (locations_in p.scratch.now (x - from) (from * 24))) o) e u
 
 -- there are no locations
-pub each_none : {p : Places} (img : List ℕ) (n at k : ℕ) (ms : List Location) → n ≡ 0 → Taken p p (joins_each k (locations_in img n at) ms) (Some tt)
+pub each_none : {p : PlaceSet} (img : List ℕ) (n at k : ℕ) (ms : List Location) → p.known.full ≡ false → n ≡ 0 → Taken p p (joins_each k (locations_in img n at) ms) (Some tt)
 unfolding locations_in
-each_none img n at k ms e = rw e taken_none
+each_none img n at k ms live e = rw e (taken_none live)
 
 -- ── location by location: u of the n are gone through ──
 
 module _ (k : ℕ) (img : List ℕ) (at : ℕ) (ms : List Location) where
-  pub lists_start : {p : Places} → Taken p p (joins_each k (locations_in img 0 at) ms) (Some tt)
+  pub lists_start : {p : PlaceSet} → p.known.full ≡ false → Taken p p (joins_each k (locations_in img 0 at) ms) (Some tt)
   unfolding locations_in
-  lists_start = taken_none
+  lists_start live = taken_none live
 
-  module _ (u : ℕ) {p r : Places} where
+  module _ (u : ℕ) {p r : PlaceSet} where
     -- one has no room, whatever else were added
     pub lists_refused : (n : ℕ) → u ≤ n → Taken p r (joins_each k (locations_in img u at) ms) None → Taken p r (joins_each k (locations_in img n at) ms) None
     lists_refused n h t =
@@ -76,7 +77,7 @@ module _ (k : ℕ) (img : List ℕ) (at : ℕ) (ms : List Location) where
         ap (λ (ls : List Location). joins_each k ls ms) (locations_part img n at u h) ∙ each_append k (locations_in img u at) (locations_in img (n - u) (at + u * 24)) ms in
         taken_over t (subst (Within (joins_each k (locations_in img u at) ms)) (sym whole) (λ x i. append_left (joins_each k (locations_in img (n - u) (at + u * 24)) ms) i))
 
-    pub lists_next : {r' : Places} {o : Option ⊤} {l : Location} → Taken p r (joins_each k (locations_in img u at) ms) (Some tt) → l ≡ location_at img (at + u * 24)
+    pub lists_next : {r' : PlaceSet} {o : Option ⊤} {l : Location} → Taken p r (joins_each k (locations_in img u at) ms) (Some tt) → l ≡ location_at img (at + u * 24)
         → Taken r r' (joins l (l.address + k) ms) o → Taken p r' (joins_each k (locations_in img (u + 1) at) ms) o
     lists_next {r'} {o} {l} t e w =
         let whole : joins_each k (locations_in img (u + 1) at) ms ≡ joins_each k (locations_in img u at) ms ++ joins l (l.address + k) ms =

@@ -14,7 +14,7 @@ ghost use Rattle.joining.specs.Below.{below_count, NoneAt, FirstAt};
 use definitions::LOCATION_SIZE;
 use location::SpacetimeLocation;
 use location_lists::List;
-use place_buffer::Places;
+use place_buffer::PlaceSet;
 
 // The places number from to to - 1 of scratch.
 #[derive(Clone, Copy)]
@@ -60,11 +60,14 @@ fn join_from(
     list: List,
     first: usize,
     x: SpacetimeLocation,
-    places: &mut Places<'_>,
+    places: &mut PlaceSet<'_>,
 ) -> Option<()>
     requires { Ascends img.now list × FirstAt img.now list (le64 img.now (list.at + first * 24)) first }
     ensures { Taken places.old places.new (joins (plain x) (le64 img.now (list.at + first * 24)) (listed img.now list)) result }
 {
+    if places.known.full {
+        return None;
+    }
     let key = location_in(img, list, first).address.0;
     for i in first..list.count {
         let m = location_in(img, list, i);
@@ -85,11 +88,14 @@ pub fn filter_results(
     list: List,
     k: usize,
     behind: Span,
-    places: &mut Places<'_>,
+    places: &mut PlaceSet<'_>,
 ) -> Option<()>
-    requires { Ascends img.now list × (behind.from ≤ behind.to) × (behind.to ≤ places.old.base) }
+    requires { Ascends img.now list × (behind.from ≤ behind.to) × (behind.to ≤ places.old.known.base) }
     ensures { Taken places.old places.new (joins_each k (listed img.now list) (spanned places.old.scratch.now behind)) result }
 {
+    if places.known.full {
+        return None;
+    }
     if list.count == 0 {
         return Some(());
     }
@@ -113,11 +119,14 @@ pub fn filter_lists(
     list: List,
     k: usize,
     to: List,
-    places: &mut Places<'_>,
+    places: &mut PlaceSet<'_>,
 ) -> Option<()>
     requires { Inside img.now list × Ascends img.now to }
     ensures { Taken places.old places.new (joins_each k (listed img.now list) (listed img.now to)) result }
 {
+    if places.known.full {
+        return None;
+    }
     for u in 0..list.count {
         let l = location_in(img, list, u);
         let Some(key) = l.address.0.checked_add(k as u64) else {

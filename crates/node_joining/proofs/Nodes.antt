@@ -13,7 +13,7 @@ use Rattle.definitions.proofs.Order.{mem_normal, normal_mem}
 use Rattle.trie.specs.Trie.{Node, lists_at}
 use Rattle.trie.specs.Find.{joins_each, ends_found}
 use Rattle.image_walk.specs.declared.Node.{Node as Parts}
-use Rattle.place_buffer.specs.declared.Places.{Places}
+use Rattle.place_buffer.specs.declared.PlaceSet.{PlaceSet}
 use Rattle.place_buffer.specs.Buffer.{Taken}
 use Rattle.place_buffer.proofs.Adding.{taken_none, taken_same, taken_over, taken_more}
 use Rattle.place_buffer.proofs.Holding.{taken_elsewhere}
@@ -50,57 +50,57 @@ listed_here false l = record {
 pub ended_here : {img : List ℕ} (front : Bool) {m : Parts} {e : Ended} → e ≡ ended_at front m → Listed img m → EndedHere img e
 ended_here {img} front ee l = subst (EndedHere img) (sym ee) (listed_here front l)
 
-module _ (img : List ℕ) (k : ℕ) (ms : List Location) {p : Places} where
+module _ (img : List ℕ) (k : ℕ) (ms : List Location) {p : PlaceSet} where
   -- one list after the other
-  pub joined_ended : (e : Ended) {a r : Places} {o : Option ⊤} → Taken p a (joins_each k (listed img e.prefixes) ms) (Some tt) → Taken a r (joins_each k (listed img e.chunks) ms) o
+  pub joined_ended : (e : Ended) {a r : PlaceSet} {o : Option ⊤} → Taken p a (joins_each k (listed img e.prefixes) ms) (Some tt) → Taken a r (joins_each k (listed img e.chunks) ms) o
       → Taken p r (joins_each k (ended_in img e) ms) o
   joined_ended e {r = r} {o = o} t u = subst (λ (ls : List Location). Taken p r ls o) (sym (each_append k (listed img e.prefixes) (listed img e.chunks) ms)) (taken_more t u)
 
   -- the first has no room
-  pub ended_over : (e : Ended) {r : Places} → Taken p r (joins_each k (listed img e.prefixes) ms) None → Taken p r (joins_each k (ended_in img e) ms) None
+  pub ended_over : (e : Ended) {r : PlaceSet} → Taken p r (joins_each k (listed img e.prefixes) ms) None → Taken p r (joins_each k (ended_in img e) ms) None
   ended_over e {r} t = subst (λ (ls : List Location). Taken p r ls None) (sym (each_append k (listed img e.prefixes) (listed img e.chunks) ms)) (taken_over t (λ x h. append_left (joins_each k (listed img e.chunks) ms) h))
 
   -- the first is empty
-  pub joined_chunks : (e : Ended) {r : Places} {o : Option ⊤} → e.prefixes.count ≡ 0 → Taken p r (joins_each k (listed img e.chunks) ms) o → Taken p r (joins_each k (ended_in img e) ms) o
+  pub joined_chunks : (e : Ended) {r : PlaceSet} {o : Option ⊤} → e.prefixes.count ≡ 0 → Taken p r (joins_each k (listed img e.chunks) ms) o → Taken p r (joins_each k (ended_in img e) ms) o
   unfolding locations_in
   joined_chunks e {r} {o} z t =
       let none : listed img e.prefixes ≡ [] = ap (λ (n : ℕ). locations_in img n e.prefixes.at) z in
       subst (λ (ls : List Location). Taken p r (joins_each k (ls ++ listed img e.chunks) ms) o) (sym none) t
 
   -- nothing ends there
-  pub joined_none : (e : Ended) → EndsNothing e → Taken p p (joins_each k (ended_in img e) ms) (Some tt)
+  pub joined_none : (e : Ended) → p.known.full ≡ false → EndsNothing e → Taken p p (joins_each k (ended_in img e) ms) (Some tt)
   unfolding locations_in
-  joined_none e z =
+  joined_none e live z =
       let a : listed img e.prefixes ≡ [] = ap (λ (n : ℕ). locations_in img n e.prefixes.at) z.prefixes in
       let b : listed img e.chunks ≡ [] = ap (λ (n : ℕ). locations_in img n e.chunks.at) z.chunks in
       let none : ended_in img e ≡ [] = ap (λ (ls : List Location). ls ++ listed img e.chunks) a ∙ b in
-      subst (λ (ls : List Location). Taken p p (joins_each k ls ms) (Some tt)) (sym none) taken_none
+      subst (λ (ls : List Location). Taken p p (joins_each k ls ms) (Some tt)) (sym none) (taken_none live)
 
-  pub joined_at : {r : Places} {o : Option ⊤} (front : Bool) (m : Parts) {e : Ended} → e ≡ ended_at front m → Taken p r (joins_each k (ended_in img e) ms) o → Taken p r (joins_each k (ended_lists front (lists_of img m)) ms) o
+  pub joined_at : {r : PlaceSet} {o : Option ⊤} (front : Bool) (m : Parts) {e : Ended} → e ≡ ended_at front m → Taken p r (joins_each k (ended_in img e) ms) o → Taken p r (joins_each k (ended_lists front (lists_of img m)) ms) o
   joined_at {r} {o} front m ee t =
       subst (λ (ls : List Location). Taken p r (joins_each k ls ms) o) (ap (ended_in img) ee ∙ ended_same img front m) t
 
 -- places before the set are joined as they were
-pub joined_later : (k : ℕ) (xs : List Location) (b : Span) {p a r : Places} {o o' : Option ⊤} {ls : List Location} → b.from ≤ b.to → b.to ≤ p.base → Taken p a ls o'
+pub joined_later : (k : ℕ) (xs : List Location) (b : Span) {p a r : PlaceSet} {o o' : Option ⊤} {ls : List Location} → b.from ≤ b.to → b.to ≤ p.known.base → Taken p a ls o'
     → Taken a r (joins_each k xs (spanned a.scratch.now b)) o → Taken a r (joins_each k xs (spanned p.scratch.now b)) o
 joined_later k xs b {a = a} {r = r} {o = o} h l t u =
     subst (λ (ms : List Location). Taken a r (joins_each k xs ms) o) (taken_elsewhere t (b.to - b.from) (b.from * 24) (omega arith)) u
 
 -- ── the places behind a node ──
 
-pub joined_with : (k : ℕ) (ls : List Location) {ms ns : List Location} {p r : Places} {o : Option ⊤} → ms ≡ ns → Taken p r (joins_each k ls ms) o → Taken p r (joins_each k ls ns) o
+pub joined_with : (k : ℕ) (ls : List Location) {ms ns : List Location} {p r : PlaceSet} {o : Option ⊤} → ms ≡ ns → Taken p r (joins_each k ls ms) o → Taken p r (joins_each k ls ns) o
 joined_with k ls {p = p} {r = r} {o = o} e t = subst (λ (xs : List Location). Taken p r (joins_each k ls xs) o) e t
 
 -- two lists of them
-pub joined_both : (k : ℕ) (ls ms ns : List Location) {p a r : Places} {o : Option ⊤} → Taken p a (joins_each k ls ms) (Some tt) → Taken a r (joins_each k ls ns) o → Taken p r (joins_each k ls (ms ++ ns)) o
+pub joined_both : (k : ℕ) (ls ms ns : List Location) {p a r : PlaceSet} {o : Option ⊤} → Taken p a (joins_each k ls ms) (Some tt) → Taken a r (joins_each k ls ns) o → Taken p r (joins_each k ls (ms ++ ns)) o
 joined_both k ls ms ns t u = taken_same (taken_more t u) (places_each k ls ms ns) (each_places k ls ms ns)
 
 -- the first has no room
-pub both_over : (k : ℕ) (ls ms ns : List Location) {p r : Places} → Taken p r (joins_each k ls ms) None → Taken p r (joins_each k ls (ms ++ ns)) None
+pub both_over : (k : ℕ) (ls ms ns : List Location) {p r : PlaceSet} → Taken p r (joins_each k ls ms) None → Taken p r (joins_each k ls (ms ++ ns)) None
 both_over k ls ms ns t = taken_over t (each_within k ls ls ms (ms ++ ns) (λ x h. h) (λ x h. append_left ns h))
 
 -- those of the last byte
-pub behind_last : (k : ℕ) (ls : List Location) (img q : List ℕ) (j : ℕ) {last : Beyond} {p r : Places} {o : Option ⊤} → 1 ≤ j → j + 1 ≡ length q → ∥ Ending img (last_of q) last ∥₁
+pub behind_last : (k : ℕ) (ls : List Location) (img q : List ℕ) (j : ℕ) {last : Beyond} {p r : PlaceSet} {o : Option ⊤} → 1 ≤ j → j + 1 ≡ length q → ∥ Ending img (last_of q) last ∥₁
     → Taken p r (joins_each k ls (ending_in img last)) o → Taken p r (joins_each k ls (first_of (ends_found (rooted img) (drop j q)))) o
 behind_last k ls img q j {last} {p} {r} {o} h e x t =
     let f : length q - 1 ≡ j = omega arith in
@@ -124,7 +124,7 @@ module _ (i j : ℕ) {n : Node} {q ends s : List ℕ} (d : LaidOut n q (i + 1) e
 
 -- ── what goes beyond it ──
 
-module _ {img : List ℕ} {at : ℕ} {p r : Places} {o : Option ⊤} where
+module _ {img : List ℕ} {at : ℕ} {p r : PlaceSet} {o : Option ⊤} where
   pub reached_front : (front : Bool) → front ≡ true → collecting.Collected img 16 at p r o → Reached img at front p r o
   reached_front front f c = record { taken = λ n h. rw f (c.taken n h) }
 

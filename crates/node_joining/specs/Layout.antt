@@ -7,7 +7,7 @@ use Rattle.trie.specs.Rule.{ListsSorted, NodeRule}
 use Rattle.image_format.specs.Held.{trie_in}
 use Rattle.image_walk.specs.declared.Node.{Node as Parts}
 use Rattle.image_walk.specs.Here.{NodeHere}
-use Rattle.place_buffer.specs.declared.Places.{Places}
+use Rattle.place_buffer.specs.declared.PlaceSet.{PlaceSet}
 use Rattle.place_buffer.specs.Scratch.{room}
 use Rattle.place_buffer.specs.Buffer.{Taken}
 use Rattle.joining.specs.Lists.{Inside, Ascends, listed}
@@ -72,7 +72,7 @@ pub record Ending (img path : List ℕ) (m : Beyond) : Type 0 where
   pub lists : ending_in img m ≡ ending_lists (lists_at (rooted img) path)
 
 -- what ends at the node at index `at` or goes beyond it is added to a set
-pub record Reached (img : List ℕ) (at : ℕ) (front : Bool) (p r : Places) (o : Option ⊤) : Type 0 where
+pub record Reached (img : List ℕ) (at : ℕ) (front : Bool) (p r : PlaceSet) (o : Option ⊤) : Type 0 where
   pub taken : (n : Node) → NodeHere img 16 at n → Taken p r (beyond_of front n) o
 
 -- T(j) stands from place number ends[j + 1] to ends[j] - 1

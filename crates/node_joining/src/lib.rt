@@ -12,7 +12,7 @@ ghost use Rattle.node_joining.specs.Layout.{lists_of, Listed, ended_at, ended_in
 use image_walk::Node;
 use joining::Span;
 use location_lists::List;
-use place_buffer::Places;
+use place_buffer::PlaceSet;
 
 // What ends at a node. Inside a query its prefixes are an empty list.
 #[derive(Clone, Copy)]
@@ -70,8 +70,8 @@ impl Ended {
 
 // Joins what ends at a node, k bytes long, with the places of a span, which stands before the set.
 // Inside a query there are no prefixes, and they cost no call then.
-fn join_node(img: &[u8], e: Ended, k: usize, behind: Span, places: &mut Places<'_>) -> Option<()>
-    requires { EndedHere img.now e × (behind.from ≤ behind.to) × (behind.to ≤ places.old.base) }
+fn join_node(img: &[u8], e: Ended, k: usize, behind: Span, places: &mut PlaceSet<'_>) -> Option<()>
+    requires { EndedHere img.now e × (behind.from ≤ behind.to) × (behind.to ≤ places.old.known.base) }
     ensures { Taken places.old places.new (joins_each k (ended_in img.now e) (spanned places.old.scratch.now behind)) result }
 {
     if e.prefixes.count == 0 {
@@ -82,7 +82,7 @@ fn join_node(img: &[u8], e: Ended, k: usize, behind: Span, places: &mut Places<'
 }
 
 // Joins what ends at a node, k bytes long, with a sorted list.
-fn join_list(img: &[u8], e: Ended, k: usize, to: List, places: &mut Places<'_>) -> Option<()>
+fn join_list(img: &[u8], e: Ended, k: usize, to: List, places: &mut PlaceSet<'_>) -> Option<()>
     requires { EndedHere img.now e × Ascends img.now to }
     ensures { Taken places.old places.new (joins_each k (ended_in img.now e) (listed img.now to)) result }
 {
@@ -91,7 +91,7 @@ fn join_list(img: &[u8], e: Ended, k: usize, to: List, places: &mut Places<'_>) 
 }
 
 // Joins what ends at a node, k bytes long, with the places of the query's last byte, which are two lists.
-fn join_last(query: Query, e: Ended, k: usize, places: &mut Places<'_>) -> Option<()>
+fn join_last(query: Query, e: Ended, k: usize, places: &mut PlaceSet<'_>) -> Option<()>
     requires { EndedHere query.img.now e }
     ensures { Taken places.old places.new (joins_each k (ended_in query.entry.img.now e) (ending_in query.entry.img.now query.entry.last)) result }
 {
@@ -100,10 +100,18 @@ fn join_last(query: Query, e: Ended, k: usize, places: &mut Places<'_>) -> Optio
 }
 
 // Joins what ends at the node of a step with the places of the query from j on, for those of the query from i on.
-pub fn join_behind(query: Query, step: Step, ends: &[usize], places: &mut Places<'_>) -> Option<()>
-    requires { Listed query.img.now step.n × (step.i < step.j) × (step.j < length query.bytes.now) × LaidOut (rooted query.img.now) query.bytes.now (step.i + 1) ends.now places.old.scratch.now × (places.old.base ≡ get_or ends.now (step.i + 1) 0) }
+pub fn join_behind(
+    query: Query,
+    step: Step,
+    ends: &[usize],
+    places: &mut PlaceSet<'_>,
+) -> Option<()>
+    requires { Listed query.img.now step.n × (step.i < step.j) × (step.j < length query.bytes.now) × LaidOut (rooted query.img.now) query.bytes.now (step.i + 1) ends.now places.old.scratch.now × (places.old.known.base ≡ get_or ends.now (step.i + 1) 0) }
     ensures { Taken places.old places.new (joins_each (step.j - step.i) (ended_lists (eqb step.i 0) (lists_of query.entry.img.now step.n)) (first_of (ends_found (rooted query.entry.img.now) (drop step.j query.entry.bytes.now)))) result }
 {
+    if places.known.full {
+        return None;
+    }
     let j = step.j;
     let k = j - step.i;
     let e = Ended::at(step.n, step.i == 0);

@@ -8,15 +8,22 @@ use definitions::LOCATION_SIZE;
 use location::SpacetimeLocation;
 use location_lists::List;
 
-// The places of scratch from number base to count - 1 are a set.
-// tight: there is no room, and they ascend, so that a further place is only looked up.
-#[derive(Drop)]
-pub struct Places<'s> {
-    pub scratch: &'s mut [u8],
+// What is known of a set: it is the places of scratch from number base to count - 1.
+// tight: there is no room, and they ascend, so that a further place is only looked up. full: one had no room, and the set is refused.
+#[derive(Clone, Copy)]
+pub struct Places {
     pub base: usize,
     pub count: usize,
     pub tight: bool,
-    pub ghost valid: { Valid scratch.now base count tight } by { valid_prop scratch.now base count tight },
+    pub full: bool,
+}
+
+// A set of places with the scratch that is lent to it.
+#[derive(Drop)]
+pub struct PlaceSet<'s> {
+    pub scratch: &'s mut [u8],
+    pub known: Places,
+    pub ghost valid: { Valid scratch.now known.base known.count known.tight } by { valid_prop scratch.now known.base known.count known.tight },
 }
 
 // Sorts the places from base to count - 1 and drops those that repeat. Answers the new count.
@@ -31,28 +38,30 @@ pub fn tidy(scratch: &mut [u8], base: usize, count: usize) -> usize
     base + kept
 }
 
-impl<'s> Places<'s> {
+impl<'s> PlaceSet<'s> {
     ghost use Rattle.std.specs.Prelude.{◌≡◌, true, false, ◌+◌, ◌*◌, ◌≤◌, ◌<◌, length, Some};
     ghost use Rattle.definitions.specs.Location.{location_at, locations_in};
     ghost use Rattle.location.specs.Plain.{plain};
-    ghost use Rattle.place_buffer.specs.Buffer.{Behind, TidiedTo, Placed, Taken};
+    ghost use Rattle.place_lookup.specs.Lookup.{There};
+    ghost use Rattle.place_buffer.specs.Buffer.{held, Behind, TidiedTo, Placed, Taken};
 
     // An empty set behind place number base.
-    pub fn behind(scratch: &'s mut [u8], base: usize) -> Places<'s>
+    pub fn behind(scratch: &'s mut [u8], base: usize) -> PlaceSet<'s>
         requires { base * 24 ≤ length scratch.old }
         ensures { Behind scratch.entry base result }
     {
-        Places {
-            scratch,
+        let known = Places {
             base,
             count: base,
             tight: false,
-        }
+            full: false,
+        };
+        PlaceSet { scratch, known }
     }
 
     // Place number i of scratch, within the set or before it.
     pub fn location(&self, i: usize) -> SpacetimeLocation
-        requires { i < self.now.count }
+        requires { i < self.now.known.count }
         ensures { plain result ≡ location_at self.now.scratch.now (i * 24) }
     {
         location::location_at(self.scratch, i * LOCATION_SIZE)
@@ -62,50 +71,64 @@ impl<'s> Places<'s> {
     pub fn tidy(&mut self)
         ensures { TidiedTo self.old self.new }
     {
-        self.tight = false;
-        self.count = tidy(self.scratch, self.base, self.count);
+        self.known.tight = false;
+        self.known.count = tidy(self.scratch, self.known.base, self.known.count);
+    }
+
+    // Whether l is in a set that is tight.
+    fn has(&self, l: SpacetimeLocation) -> bool
+        requires { self.now.known.tight ≡ true }
+        ensures { There result (plain l) (held self.now) }
+    {
+        let at = self.known.base * LOCATION_SIZE;
+        place_lookup::is_there(self.scratch, at, self.known.count - self.known.base, l)
     }
 
     // Adds l to a set that is tight: it is there already, or has no room.
-    fn look_up(&self, l: SpacetimeLocation) -> Option<()>
-        requires { self.now.tight ≡ true }
-        ensures { Placed self.now self.now (plain l) result }
+    fn look_up(&mut self, l: SpacetimeLocation) -> Option<()>
+        requires { (self.old.known.tight ≡ true) × (self.old.known.full ≡ false) }
+        ensures { Placed self.old self.new (plain l) result }
     {
-        let at = self.base * LOCATION_SIZE;
-        if place_lookup::is_there(self.scratch, at, self.count - self.base, l) {
+        if self.has(l) {
             Some(())
         } else {
+            self.known.full = true;
             None
         }
     }
 
     // Adds l behind the places of a set, where there is room.
     fn append(&mut self, l: SpacetimeLocation)
-        requires { (self.old.tight ≡ false) × (self.old.count * 24 + 24 ≤ length self.old.scratch.now) }
+        requires { (self.old.known.tight ≡ false) × (self.old.known.full ≡ false) × (self.old.known.count * 24 + 24 ≤ length self.old.scratch.now) }
         ensures { Placed self.old self.new (plain l) (Some tt) }
     {
-        location::put_location(self.scratch, self.count * LOCATION_SIZE, l);
-        self.count += 1;
+        location::put_location(self.scratch, self.known.count * LOCATION_SIZE, l);
+        self.known.count += 1;
     }
 
-    // Adds l to a set. Where there is no room, those that repeat are dropped first; None where there is none even then.
+    // Adds l to a set. Where there is no room, those that repeat are dropped first.
+    // None where there is none even then, and from then on.
     pub fn place(&mut self, l: SpacetimeLocation) -> Option<()>
         ensures { Placed self.old self.new (plain l) result }
     {
-        if self.tight {
+        let Places { tight, full, .. } = self.known;
+        if full {
+            return None;
+        }
+        if tight {
             return self.look_up(l);
         }
-        if self.count < self.scratch.len() / LOCATION_SIZE {
+        if self.known.count < self.scratch.len() / LOCATION_SIZE {
             self.append(l);
             return Some(());
         }
-        let full = self.count;
+        let count = self.known.count;
         self.tidy();
-        if self.count < full {
+        if self.known.count < count {
             self.append(l);
             return Some(());
         }
-        self.tight = true;
+        self.known.tight = true;
         self.look_up(l)
     }
 
@@ -114,6 +137,9 @@ impl<'s> Places<'s> {
         requires { list.at + list.count * 24 ≤ length img.now }
         ensures { Taken self.old self.new (locations_in img.now list.count list.at) result }
     {
+        if self.known.full {
+            return None;
+        }
         for i in 0..list.count {
             self.place(location::location_at(img, list.at + i * LOCATION_SIZE))?;
         }
@@ -125,13 +151,16 @@ impl<'s> Places<'s> {
         requires { list.at + list.count * 24 ≤ length img.now }
         ensures { Taken self.old self.new (locations_in img.now list.count list.at) result }
     {
-        if self.scratch.len() / LOCATION_SIZE - self.count < list.count {
+        if self.scratch.len() / LOCATION_SIZE - self.known.count < list.count {
             return self.take_each(img, list);
         }
-        let to = self.count * LOCATION_SIZE;
-        self.tight = false;
+        if self.known.full {
+            return None;
+        }
+        let to = self.known.count * LOCATION_SIZE;
+        self.known.tight = false;
         copying::copy(img, list.at, self.scratch, to, list.count * LOCATION_SIZE);
-        self.count += list.count;
+        self.known.count += list.count;
         Some(())
     }
 }

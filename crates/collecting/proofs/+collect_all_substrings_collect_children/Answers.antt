@@ -36,7 +36,7 @@ collect_all_substrings-returns t c =
     followed_collected ends (collected_below ends.parts c.if-end-eq0.false c.in_ok-take_both.ensures c.collect_children.ensures)
 
 pub collect_children-loop-j-init : goal.collect_children-loop-j-init
-collect_children-loop-j-init t c = passing_none _ _ _
+collect_children-loop-j-init t c = passing_none _ _ _ c.if-places.false
 
 pub collect_children-collect_all_substrings-requires : goal.collect_children-collect_all_substrings-requires
 collect_children-collect_all_substrings-requires t c =

@@ -9,7 +9,7 @@ pub node_at-node-requires : goal.node_at-node-requires
 node_at-node-requires c = standing_laid c.requires
 
 pub loop-next-init : goal.loop-next-init
-loop-next-init c = follow_start c.node_at-node.ensures
+loop-next-init c = follow_start c.if-places.false c.node_at-node.ensures
 
 pub only_child-requires : goal.only_child-requires
 only_child-requires c = followed_table c.loop-next.invariant c.requires

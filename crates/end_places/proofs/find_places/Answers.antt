@@ -17,7 +17,7 @@ loop-j-init c =
     let none : args.i - args.i ≡ 0 = omega arith in
     let one : 1 ≡ args.i + 1 - args.i = omega arith in
     let root = walked_path (ap (λ (k : ℕ). take k (drop args.i args.search.query.bytes.now)) (sym none)) (walked_at [] c.node_at-n.ensures (root_found args.search.sound)) in
-    (root, progress_at 1 (args.i + 1 - args.i) one (progress_start (eqb args.i 0) (rooted args.search.query.img.now) (drop args.i args.search.query.bytes.now) (omega (arith, length-drop args.i args.search.query.bytes.now))))
+    (root, progress_at 1 (args.i + 1 - args.i) one (progress_start c.if-places.false (eqb args.i 0) (rooted args.search.query.img.now) (drop args.i args.search.query.bytes.now) (omega (arith, length-drop args.i args.search.query.bytes.now))))
 
 pub node_at-n-requires : goal.node_at-n-requires
 node_at-n-requires c = laid_found (root_found c.args.search.sound)

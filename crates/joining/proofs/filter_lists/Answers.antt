@@ -12,19 +12,19 @@ use Rattle.joining.proofs.filter_lists.Goals as goal
 pub loop-u-init : goal.loop-u-init
 loop-u-init c =
     let args = c.args in
-    lists_start args.k args.img.now args.list.at (listed args.img.now args.to)
+    lists_start args.k args.img.now args.list.at (listed args.img.now args.to) c.if-places.false
 
 pub loop-u-preserved-in_default : goal.loop-u-preserved-in_default
 loop-u-preserved-in_default c =
     let args = c.args in
     lists_next args.k args.img.now args.list.at (listed args.img.now args.to) _ c.loop-u.invariant c.location_in-l.ensures
-    (location_far _ _ _ (plain c.location_in-l.result) _ (λ j. omega (arith, c.type_inv.img j)) (omega (arith, c.in_default.ensures)))
+    (location_far _ _ _ (plain c.location_in-l.result) c.loop-u.invariant.set.live _ (λ j. omega (arith, c.type_inv.img j)) (omega (arith, c.in_default.ensures)))
 
 pub loop-u-preserved-in_default-first_at : goal.loop-u-preserved-in_default-first_at
 loop-u-preserved-in_default-first_at c =
     let args = c.args in
     lists_next args.k args.img.now args.list.at (listed args.img.now args.to) _ c.loop-u.invariant c.location_in-l.ensures
-    (joined_to_key _ _ c.in-Some.ensures.1 (none_joined_to (plain c.location_in-l.result) c.in_default-first_at.ensures))
+    (joined_to_key _ _ c.in-Some.ensures.1 (none_joined_to (plain c.location_in-l.result) c.loop-u.invariant.set.live c.in_default-first_at.ensures))
 
 pub join_from-requires : goal.join_from-requires
 join_from-requires c =

@@ -10,23 +10,23 @@ use Rattle.joining.proofs.Lists.{each_none, each_start, each_next, each_refused,
 use Rattle.joining.proofs.filter_results.Goals as goal
 
 pub returns-then-list-eq0 : goal.returns-then-list-eq0
-returns-then-list-eq0 c = each_none _ _ _ _ _ c.if-list-eq0.true
+returns-then-list-eq0 c = each_none _ _ _ _ _ c.if-places.false c.if-list-eq0.true
 
 pub loop-t-init : goal.loop-t-init
 loop-t-init c =
     let args = c.args in
-    each_start args.k (listed args.img.now args.list) args.behind.from _ refl
+    each_start args.k (listed args.img.now args.list) args.behind.from _ c.if-places.false refl
 
 pub loop-t-preserved-in_default : goal.loop-t-preserved-in_default
 loop-t-preserved-in_default c =
     let args = c.args in
     each_next args.k (listed args.img.now args.list) args.behind.from _ c.loop-t.auto.t (omega arith) c.loop-t.invariant c.location-m.ensures
-    (place_low args.k (listed args.img.now args.list) (plain c.location-m.result) (omega (arith, c.in_default.ensures)))
+    (place_low args.k (listed args.img.now args.list) (plain c.location-m.result) c.loop-t.invariant.set.live (omega (arith, c.in_default.ensures)))
 
 pub loop-t-preserved-in_default-first_at : goal.loop-t-preserved-in_default-first_at
 loop-t-preserved-in_default-first_at c =
     let args = c.args in
-    let w = joined_to_key _ _ c.in-Some.ensures.1 (none_joined_to (plain c.location-m.result) c.in_default-first_at.ensures) in
+    let w = joined_to_key _ _ c.in-Some.ensures.1 (none_joined_to (plain c.location-m.result) c.loop-t.invariant.set.live c.in_default-first_at.ensures) in
     each_next args.k (listed args.img.now args.list) args.behind.from _ c.loop-t.auto.t (omega arith) c.loop-t.invariant c.location-m.ensures
     (place_joined args.k (listed args.img.now args.list) (plain c.location-m.result) c.in-Some.ensures.0 w)
 

@@ -10,7 +10,7 @@ use Rattle.joining.proofs.join_from.Goals as goal
 pub loop-i-init : goal.loop-i-init
 loop-i-init c =
     let parts = parted_at c.requires.0.sorted c.requires.1 (ap (λ (m : Location). m.address) c.location_in-key.ensures) in
-    key_start _ _ _ _ _ parts (plain c.args.x)
+    key_start _ _ _ _ _ parts (plain c.args.x) c.if-places.false
 
 pub returns-then-key-m : goal.returns-then-key-m
 returns-then-key-m c =
@@ -33,7 +33,7 @@ loop-i-preserved c =
     let m = plain c.location_in-m.result in
     elim c.match-overlap.branch [
       | in-Some+in_ok-place w ↦ rw (w.places-is) (key_next _ _ _ _ _ parts x _ c.loop-i.auto.i c.loop-i-test.true c.location_in-m.ensures c.if-key-m.false c.loop-i.invariant (one_life x m _ w.in-Some.ensures w.in_ok-place.ensures))
-      | in_default w ↦ rw (w.places-is) (key_next _ _ _ _ _ parts x _ c.loop-i.auto.i c.loop-i-test.true c.location_in-m.ensures c.if-key-m.false c.loop-i.invariant (one_nothing x m w.in_default.ensures))
+      | in_default w ↦ rw (w.places-is) (key_next _ _ _ _ _ parts x _ c.loop-i.auto.i c.loop-i-test.true c.location_in-m.ensures c.if-key-m.false c.loop-i.invariant (one_nothing x m c.loop-i.invariant.set.live w.in_default.ensures))
     ]
 
 pub returns : goal.returns

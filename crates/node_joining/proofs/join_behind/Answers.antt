@@ -11,7 +11,7 @@ pub returns-then-is_empty : goal.returns-then-is_empty
 returns-then-is_empty c =
     let img = c.args.query.img.now in
     let step = c.args.step in
-    joined_at img (step.j - step.i) _ (eqb step.i 0) step.n c.at-e.ensures (joined_none img (step.j - step.i) _ _ (c.is_empty.ensures c.if-is_empty.true))
+    joined_at img (step.j - step.i) _ (eqb step.i 0) step.n c.at-e.ensures (joined_none img (step.j - step.i) _ _ c.if-places.false (c.is_empty.ensures c.if-is_empty.true))
 
 pub join_last-requires : goal.join_last-requires
 join_last-requires c = ended_here (eqb c.args.step.i 0) c.at-e.ensures c.requires.0

@@ -1,10 +1,10 @@
--- `Places::take_each` meets its contract: the locations so far are added, or one of them has no room. Assumes nothing.
+-- `PlaceSet::take_each` meets its contract: the locations so far are added, or one of them has no room. Assumes nothing.
 use native.Mathlib.Omega.{arith}
 use Rattle.place_buffer.proofs.Adding.{take_start, take_next, take_refused, take_done}
-use Rattle.place_buffer.proofs.Places.take_each.Goals as goal
+use Rattle.place_buffer.proofs.PlaceSet.take_each.Goals as goal
 
 pub loop-i-init : goal.loop-i-init
-loop-i-init c = take_start _ _
+loop-i-init c = take_start _ _ c.if-self.false
 
 pub loop-i-preserved : goal.loop-i-preserved
 loop-i-preserved c = take_next _ _ _ c.loop-i.invariant c.location_at.ensures c.in_ok-place.ensures

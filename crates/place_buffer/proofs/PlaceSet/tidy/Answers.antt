@@ -1,9 +1,9 @@
--- `Places::tidy` meets its contract: the places that are left are within scratch. Assumes nothing.
+-- `PlaceSet::tidy` meets its contract: the places that are left are within scratch. Assumes nothing.
 use mathlib.Core.Path.{sym}
 use native.Mathlib.Omega.{arith}
 use Rattle.records.proofs.Order.{clash}
 use Rattle.place_buffer.proofs.Scratch.{tidied_le}
-use Rattle.place_buffer.proofs.Places.tidy.Goals as goal
+use Rattle.place_buffer.proofs.PlaceSet.tidy.Goals as goal
 
 pub invariant_of-self-2 : goal.invariant_of-self-2
 invariant_of-self-2 c =
