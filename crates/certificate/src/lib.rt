@@ -25,6 +25,7 @@ const PIECE_END: usize = 40;
 
 // Where the certificate begins.
 pub fn certificate_at(h: Header) -> usize
+    requires { (h.capacity.nodes ≤ 1048576) × (h.capacity.entries ≤ 1048576) }
     ensures { result ≡ work_at (header_of h).capacity }
 {
     h.capacity.work_at()

@@ -19,5 +19,7 @@ abbrev pub closed : List ℕ → Header → List ℕ
 closed s h = sets (sets s (header_size + h.payload) (replicate (needed h.capacity - (header_size + h.payload)) 0)) 0 (header_bytes h)
 
 pub record Closable (s : List ℕ) (h : Header) : Type 0 where
+  pub nodes : h.capacity.nodes ≤ 1048576
+  pub entries : h.capacity.entries ≤ 1048576
   pub payload : header_size + h.payload ≤ needed h.capacity
   pub held : needed h.capacity ≤ length s

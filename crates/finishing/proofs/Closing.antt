@@ -24,7 +24,7 @@ use Rattle.node_writer.specs.Images.{ImageWritten}
 use Rattle.finished_memory.specs.Finished.{finished_header, finished_memory, closed, Closable}
 use Rattle.finished_memory.proofs.Standing.{closed_is}
 use Rattle.finishing.specs.Steps.{TailsSorted}
-use Rattle.finishing.proofs.Image.{held_memory, few_tails, trie_is}
+use Rattle.finishing.proofs.Image.{held_memory, small_nodes, small_entries, few_tails, trie_is}
 
 module _ (m : List ℕ) (c : Capacity) (pieces : ℕ) (b : Bytes m) (o : OpenIs m c (log_in m pieces 64)) (work : ℕ) (at : work ≡ work_at c)
     (s : List ℕ) (n : ℕ) (w : TailsSorted m s pieces work n) (s' : List ℕ) (r : End) (v : ImageWritten s s' work n r) where
@@ -61,6 +61,8 @@ module _ (m : List ℕ) (c : Capacity) (pieces : ℕ) (b : Bytes m) (o : OpenIs 
       let n : g.capacity.nodes ≡ c.nodes = ap (λ (x : Capacity). x.nodes) same in
       let e : g.capacity.entries ≡ c.entries = ap (λ (x : Capacity). x.entries) same in
       record {
+        nodes = omega (arith, small_nodes m c pieces b o);
+        entries = omega (arith, small_entries m c pieces b o);
         payload = omega arith;
         held = omega (arith, long, held_memory m c pieces b o);
       }

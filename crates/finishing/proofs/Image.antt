@@ -104,6 +104,12 @@ module _ (m : List ℕ) (c : Capacity) (pieces : ℕ) (b : Bytes m) (o : OpenIs 
   pub held_memory : needed c ≤ length m
   held_memory = subst (λ (x : Capacity). needed x ≤ length m) o.capacity o.header.held
 
+  pub small_nodes : c.nodes ≤ 1048576
+  small_nodes = subst (λ (x : Capacity). x.nodes ≤ 1048576) o.capacity o.header.few_nodes
+
+  pub small_entries : c.entries ≤ 1048576
+  small_entries = subst (λ (x : Capacity). x.entries ≤ 1048576) o.capacity o.header.few_entries
+
   pub few_tails : tail_count m pieces ≤ c.entries
   few_tails = omega (arith, o.few_entries, weights_charged 0 ps, light 0 all, length_numbered 0 (entered_all ps))
 

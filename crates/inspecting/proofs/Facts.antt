@@ -21,8 +21,6 @@ use Rattle.memory_header.proofs.HeaderFacts.{HeaderFacts, heading_is}
 use Rattle.index_memory.proofs.Holding.{index_broken, open_by_log, broken_by_log, broken_by_order, index_by_image}
 use Rattle.definitions.specs.declared.refusal.Refusal.{Refusal}
 use Rattle.definitions.specs.declared.refusal.Refusal.TheVariants.{IndexRuleBroken}
-use Rattle.tally.specs.Phases.{phase_number}
-use Rattle.tally.specs.declared.Phase.TheVariants as P
 use Rattle.inspecting.specs.Held.{SaysImage, Inspects}
 use Rattle.inspecting.specs.declared.Held.TheVariants.{Open, Finished}
 
@@ -56,10 +54,7 @@ module _ (m : List ℕ) where
   no_header (Some h) r e f = cc
 
   module _ (h : C.Header) (e : some (header_of h) ≡ heading_at m) where
-    module _ (z : h.tally.phase ≡ P.Open) where
-      phase : (header_of h).phase ≡ 0
-      phase = ap phase_number z
-
+    module _ (phase : (header_of h).phase ≡ 0) where
       pub log_broken : log_right m (header_of h) ≡ false → Inspects m (Err IndexRuleBroken)
       log_broken q = record { holds = broken_by_log m (header_of h) (sym e) phase q; told = refl }
 
@@ -70,10 +65,7 @@ module _ (m : List ℕ) where
         pub order_broken : order_right m (header_of h) ≡ false → Inspects m (Err IndexRuleBroken)
         order_broken q = record { holds = broken_by_order m (header_of h) (sym e) phase l q; told = refl }
 
-    module _ (z : h.tally.phase ≡ P.Finished) where
-      one : (header_of h).phase ≡ 1
-      one = ap phase_number z
-
+    module _ (one : (header_of h).phase ≡ 1) where
       by_image : (r : Bool) → SaysImage m (header_of h) r → read_index m ≡ cond r (finished (header_of h).capacity (trie_in (image_part m (header_of h)))) broken
       by_image r q = index_by_image m (header_of h) (sym e) (λ k. omega (arith, one)) ∙ q.is
 

@@ -8,7 +8,6 @@ ghost use Rattle.inspecting.specs.Held.{SaysImage, Inspects};
 
 use definitions::Refusal;
 use memory_header::{HEADER_SIZE, Header};
-use tally::Phase;
 
 // The index that a memory holds, by its header.
 #[derive(Clone, Copy)]
@@ -33,11 +32,11 @@ pub fn inspect(mem: &[u8]) -> Result<Held, Refusal>
     ensures { Inspects mem.now result }
 {
     let h = memory_header::header_in(mem).ok_or(Refusal::IndexRuleBroken)?;
-    match h.tally.phase {
-        Phase::Open if index_memory::log_right(mem, h) && certificate::order_right(mem, h) => {
+    match h.tally.phase.number() {
+        0 if index_memory::log_right(mem, h) && certificate::order_right(mem, h) => {
             Ok(Held::Open(h))
         }
-        Phase::Finished if image_right(mem, h) => Ok(Held::Finished(h)),
+        1 if image_right(mem, h) => Ok(Held::Finished(h)),
         _ => Err(Refusal::IndexRuleBroken),
     }
 }

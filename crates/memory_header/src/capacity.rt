@@ -1,4 +1,5 @@
-// How many nodes and entries an index has room for.
+// How many nodes and entries an index has room for. A capacity may say any two numbers: `header_in` answers headers alone whose
+// capacity is in the limit.
 
 ghost use Rattle.std.specs.Prelude.{◌≡◌, ◌≤◌};
 
@@ -8,7 +9,6 @@ use crate::{ENTRY_SIZE, HEADER_SIZE, LOGGED_SIZE, NODE_SIZE};
 pub struct Capacity {
     pub nodes: usize,
     pub entries: usize,
-    pub ghost in_range: { (nodes ≤ 1048576) × (entries ≤ 1048576) },
 }
 
 impl Capacity {
@@ -18,6 +18,7 @@ impl Capacity {
 
     // The bytes of lent memory that it needs.
     pub fn needed(self) -> usize
+        requires { (self.nodes ≤ 1048576) × (self.entries ≤ 1048576) }
         ensures { result ≡ needed (capacity_of self) }
     {
         HEADER_SIZE + NODE_SIZE * self.nodes + ENTRY_SIZE * self.entries
@@ -25,6 +26,7 @@ impl Capacity {
 
     // How many bytes the payload has.
     pub fn payload_size(self) -> usize
+        requires { (self.nodes ≤ 1048576) × (self.entries ≤ 1048576) }
         ensures { result ≡ payload_size (capacity_of self) }
     {
         NODE_SIZE * self.nodes + LOGGED_SIZE * self.entries
@@ -32,6 +34,7 @@ impl Capacity {
 
     // Where the room to work in begins.
     pub fn work_at(self) -> usize
+        requires { (self.nodes ≤ 1048576) × (self.entries ≤ 1048576) }
         ensures { result ≡ work_at (capacity_of self) }
     {
         HEADER_SIZE + self.payload_size()

@@ -60,12 +60,13 @@ fn room_for(mem: &[u8], nodes: u64, entries: u64) -> Option<Capacity>
 impl Header {
     // The most that the payload may count: pieces in a log, bytes in an image.
     fn payload_limit(self) -> usize
+        requires { (self.capacity.nodes ≤ 1048576) × (self.capacity.entries ≤ 1048576) }
         ensures { result ≡ payload_limit (header_of self) }
     {
-        match self.tally.phase {
-            Phase::Open => self.capacity.entries,
-            Phase::Finished => self.capacity.payload_size(),
+        if self.tally.phase.number() == 0 {
+            return self.capacity.entries;
         }
+        self.capacity.payload_size()
     }
 
     // What it says, in the order in which the numbers stand.
@@ -84,6 +85,7 @@ impl Header {
 
     // Whether the tally and the payload are within the capacity.
     fn is_within(self) -> bool
+        requires { (self.capacity.nodes ≤ 1048576) × (self.capacity.entries ≤ 1048576) }
         ensures { IsTrue result ↔ Within (header_of self) }
     {
         self.tally.nodes <= self.capacity.nodes

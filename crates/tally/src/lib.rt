@@ -6,23 +6,28 @@ ghost use Rattle.std.specs.Prelude.{◌≡◌, ◌+◌, ◌^◌, ◌<◌};
 ghost use Rattle.tally.specs.Phases.{phase_number, Decodes};
 ghost use Rattle.tally.specs.Tallied.{recorded, finished};
 
-// An open index takes blocks, a finished one is searched. The header has the number in the declaration.
-#[derive(Clone, Copy, Debug, PartialEq, Eq)]
-pub enum Phase {
-    Open = 0,
-    Finished = 1,
-}
-
 // A number that is no phase's.
 #[derive(Clone, Copy, Debug, PartialEq, Eq)]
 pub struct UnknownPhase(pub u64);
+
+// An open index takes blocks, a finished one is searched. A tally may say any other number, which no index has.
+#[derive(Clone, Copy, Debug, PartialEq, Eq)]
+pub enum Phase {
+    Open,
+    Finished,
+    Unknown(UnknownPhase),
+}
 
 impl Phase {
     // Its number in the header.
     pub fn number(self) -> u64
         ensures { result ≡ phase_number self }
     {
-        self as u64
+        match self {
+            Phase::Open => 0,
+            Phase::Finished => 1,
+            Phase::Unknown(other) => other.0,
+        }
     }
 }
 
