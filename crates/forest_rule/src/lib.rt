@@ -1,7 +1,8 @@
 // The index rule at all nodes below the root: each child with its fronts, runs of nodes with one child at once.
 #![tactic(auto)]
 
-ghost use Rattle.std.specs.Prelude.{◌≡◌, IfSome};
+ghost use Rattle.std.specs.Prelude.{◌≡◌, ◌≤◌, length, IfSome};
+ghost use Rattle.location_lists.specs.Lists.{SameSpans};
 ghost use Rattle.node_rule.specs.Parts.{HasTable};
 ghost use Rattle.single_runs.specs.Runs.{LeafSays, SaysNone};
 ghost use Rattle.forest_rule.specs.Says.{ChildAsked, ChildSays, ChildrenAsked, ChildrenSays, RunSays};
@@ -15,9 +16,10 @@ use single_runs::{Pair, Run};
 const NO_LIST: List = List { at: 0, count: 0 };
 
 // Whether the child in a table of one entry has neither chunk nor suffix.
-fn owes_none(s: &[u8], table: usize, lists: &mut Lists) -> bool
-    requires { HasTable s.now table 1 }
-    ensures { SaysNone s.now table result }
+fn owes_none(s: &[u8], table: usize, lists: &mut Lists<'_>) -> bool
+    requires { HasTable s.now table 1 × (512 ≤ length lists.old.each.now) }
+    ensures says { SaysNone s.now table result }
+    ensures lent { SameSpans lists.old lists.new }
 {
     let only = Table {
         at: table,
@@ -28,9 +30,10 @@ fn owes_none(s: &[u8], table: usize, lists: &mut Lists) -> bool
 }
 
 // Whether the children in two tables of one entry, of a node and of its front, are right, if they are leaves by the same byte.
-fn leaf_right(s: &[u8], tables: Pair, lists: &mut Lists) -> Option<bool>
-    requires { HasTable s.now tables.table 1 × HasTable s.now tables.other 1 }
-    ensures { IfSome result (LeafSays s.now tables) }
+fn leaf_right(s: &[u8], tables: Pair, lists: &mut Lists<'_>) -> Option<bool>
+    requires { HasTable s.now tables.table 1 × HasTable s.now tables.other 1 × (512 ≤ length lists.old.each.now) }
+    ensures says { IfSome result (LeafSays s.now tables) }
+    ensures lent { SameSpans lists.old lists.new }
 {
     let table = Table {
         at: tables.table,
@@ -80,10 +83,11 @@ fn run_with_front(
     below: Siblings,
     fronts: &mut [Front; STACK_SIZE],
     count: usize,
-    lists: &mut Lists,
+    lists: &mut Lists<'_>,
 ) -> RunEnd
-    requires { ChildrenAsked s.now below fronts.old count × (below.table.count ≡ 1) }
-    ensures { RunSays s.now below fronts.old count fronts.new result }
+    requires { ChildrenAsked s.now below fronts.old count × (below.table.count ≡ 1) × (512 ≤ length lists.old.each.now) }
+    ensures says { RunSays s.now below fronts.old count fronts.new result }
+    ensures lent { SameSpans lists.old lists.new }
 {
     let here = RunEnd::GoesOn(Run::none(below.table.at));
     let front = fronts[below.depth * LEVEL_SIZE].table;
@@ -121,10 +125,11 @@ fn run_below(
     below: Siblings,
     fronts: &mut [Front; STACK_SIZE],
     count: usize,
-    lists: &mut Lists,
+    lists: &mut Lists<'_>,
 ) -> RunEnd
-    requires { ChildrenAsked s.now below fronts.old count }
-    ensures { RunSays s.now below fronts.old count fronts.new result }
+    requires { ChildrenAsked s.now below fronts.old count × (512 ≤ length lists.old.each.now) }
+    ensures says { RunSays s.now below fronts.old count fronts.new result }
+    ensures lent { SameSpans lists.old lists.new }
 {
     if below.table.count != 1 {
         return RunEnd::GoesOn(Run::none(below.table.at));
@@ -143,11 +148,12 @@ fn child_right(
     child: Place,
     fronts: &mut [Front; STACK_SIZE],
     count: usize,
-    lists: &mut Lists,
+    lists: &mut Lists<'_>,
     left: usize,
 ) -> bool
-    requires { ChildAsked s.now child fronts.old count left }
-    ensures { ChildSays s.now child fronts.old count left fronts.new result }
+    requires { ChildAsked s.now child fronts.old count left × (512 ≤ length lists.old.each.now) }
+    ensures says { ChildSays s.now child fronts.old count left fronts.new result }
+    ensures lent { SameSpans lists.old lists.new }
 {
     let c = image_walk::node_at(s, child.at);
     let met = fronts::next_fronts(s, child, fronts, count, lists);
@@ -173,10 +179,11 @@ fn each_right(
     here: Siblings,
     fronts: &mut [Front; STACK_SIZE],
     count: usize,
-    lists: &mut Lists,
+    lists: &mut Lists<'_>,
 ) -> bool
-    requires { ChildrenAsked s.now here fronts.old count }
-    ensures { ChildrenSays s.now here fronts.old count fronts.new result }
+    requires { ChildrenAsked s.now here fronts.old count × (512 ≤ length lists.old.each.now) }
+    ensures says { ChildrenSays s.now here fronts.old count fronts.new result }
+    ensures lent { SameSpans lists.old lists.new }
 {
     if here.left == 0 {
         return true;
@@ -204,10 +211,11 @@ pub fn children_right(
     below: Siblings,
     fronts: &mut [Front; STACK_SIZE],
     count: usize,
-    lists: &mut Lists,
+    lists: &mut Lists<'_>,
 ) -> bool
-    requires { ChildrenAsked s.now below fronts.old count }
-    ensures { ChildrenSays s.now below fronts.old count fronts.new result }
+    requires { ChildrenAsked s.now below fronts.old count × (512 ≤ length lists.old.each.now) }
+    ensures says { ChildrenSays s.now below fronts.old count fronts.new result }
+    ensures lent { SameSpans lists.old lists.new }
 {
     match run_below(s, below, fronts, count, lists) {
         RunEnd::Said(right) => right,

@@ -46,10 +46,10 @@ module _ (s : List ℕ) (b from to : ℕ) (old : List Front) (count : ℕ) where
     pub met_few : met ≤ i
     pub in_count : i ≤ count
     pub few : lists.count ≤ met * 2
-    pub size : length lists.each ≡ 512
+    pub size : 512 ≤ length lists.each.now
     pub each : (d : ℕ) (fs : List Node) → FrontsHere s d old from count fs → FoundSoFar d i fronts met lists fs
 
-  pub finding_start : (lists : Lists) → lists.count ≡ 0 → length lists.each ≡ 512 → Finding 0 old 0 lists
+  pub finding_start : (lists : Lists) → lists.count ≡ 0 → 512 ≤ length lists.each.now → Finding 0 old 0 lists
   finding_start lists z k = record { kept = kept_none to old; valid = no_lists s lists z; met_few = omega arith; in_count = omega arith; few = omega arith; size = k; each = step }
     where
       step : (d : ℕ) (fs : List Node) → FrontsHere s d old from count fs → FoundSoFar d 0 old 0 lists fs
@@ -144,7 +144,7 @@ module _ (s : List ℕ) (b from to : ℕ) (old : List Front) (count : ℕ) where
           fronts_now = set fronts (to + met) y
 
           -- there is room for two lists
-          room : HasFronts s old from count → lists.count + 2 ≤ length lists.each
+          room : HasFronts s old from count → lists.count + 2 ≤ length lists.each.now
           room h = omega (arith, o.few, o.met_few, o.size, h.is.few)
 
           pub finding_some : HasFronts s old from count → SaysMask s y.table.at y.table.count y.mask → to + met < length fronts → Finding (i + 1) fronts_now (met + 1) lists_now
@@ -156,7 +156,7 @@ module _ (s : List ℕ) (b from to : ℕ) (old : List Front) (count : ℕ) where
                 met_few = omega (arith, o.met_few);
                 in_count = omega arith;
                 few = omega (arith, o.few, count_two lists c.chunks c.prefixes);
-                size = length_two lists c.chunks c.prefixes ∙ o.size;
+                size = omega (arith, length_two lists c.chunks c.prefixes, o.size);
                 each = step;
               }
             where

@@ -3,6 +3,7 @@
 
 ghost use Rattle.std.specs.Prelude.{◌≡◌, ℕ, ◌+◌, ◌*◌, ◌≤◌, cond, eqb, Bool, length, take};
 ghost use Rattle.image_walk.specs.Bounds.{TableHere};
+ghost use Rattle.location_lists.specs.Lists.{SameSpans};
 ghost use Rattle.node_rule.specs.Parts.{HasTable};
 ghost use Rattle.fronts.specs.Fronts.{HasFronts};
 ghost use Rattle.fronts.specs.FrontRule.{RootFronts, NextFronts, SaysFronts};
@@ -39,17 +40,6 @@ pub const LEVEL_SIZE: usize = 256;
 // The fronts on the stack: those of 17 depths.
 pub const STACK_SIZE: usize = 4352;
 
-// The front with a table.
-fn front_of(s: &[u8], table: Table) -> Front
-    requires { HasTable s.now table.at table.count }
-    ensures { (result.table ≡ table) × SaysMask s.now result.table.at result.table.count result.mask }
-{
-    Front {
-        table,
-        mask: mask_of(s, table),
-    }
-}
-
 // The fronts of the root, which are its children in a table; how many.
 pub fn root_fronts(s: &[u8], table: Table, fronts: &mut [Front]) -> usize
     requires { HasTable s.now table.at table.count × (256 ≤ length fronts.old) }
@@ -59,7 +49,10 @@ pub fn root_fronts(s: &[u8], table: Table, fronts: &mut [Front]) -> usize
     for j in 0..table.count {
         if let Some(entry) = image_walk::slot_in(s, table, j) {
             let child = image_walk::node_at(s, entry.node);
-            fronts[count] = front_of(s, child.table);
+            fronts[count] = Front {
+                table: child.table,
+                mask: mask_of(s, child.table),
+            };
             count += 1;
         }
     }
@@ -74,10 +67,11 @@ fn fronts_by(
     depth: usize,
     fronts: &mut [Front; STACK_SIZE],
     count: usize,
-    lists: &mut Lists,
+    lists: &mut Lists<'_>,
 ) -> usize
-    requires { HasFronts s.now fronts.old (depth * 256) count × (depth ≤ 15) }
-    ensures { NextFronts s.now byte depth fronts.old count fronts.new result lists.new }
+    requires { HasFronts s.now fronts.old (depth * 256) count × (depth ≤ 15) × (512 ≤ length lists.old.each.now) }
+    ensures says { NextFronts s.now byte depth fronts.old count fronts.new result lists.new }
+    ensures lent { SameSpans lists.old lists.new }
 {
     let from = depth * LEVEL_SIZE;
     let to = (depth + 1) * LEVEL_SIZE;
@@ -88,7 +82,10 @@ fn fronts_by(
         if !is_absent(front.mask, byte) {
             if let Some(at) = image_walk::child_in(s, front.table, byte) {
                 let child = image_walk::node_at(s, at);
-                fronts[to + met] = front_of(s, child.table);
+                fronts[to + met] = Front {
+                    table: child.table,
+                    mask: mask_of(s, child.table),
+                };
                 met += 1;
                 node_rule::add_front(lists, child);
             }
@@ -111,10 +108,11 @@ pub fn next_fronts(
     child: Place,
     fronts: &mut [Front; STACK_SIZE],
     count: usize,
-    lists: &mut Lists,
+    lists: &mut Lists<'_>,
 ) -> usize
-    requires { HasFronts s.now fronts.old (child.depth * 256) count × (child.depth ≤ 15) }
-    ensures { NextFronts s.now child.byte child.depth fronts.old count fronts.new result lists.new }
+    requires { HasFronts s.now fronts.old (child.depth * 256) count × (child.depth ≤ 15) × (512 ≤ length lists.old.each.now) }
+    ensures says { NextFronts s.now child.byte child.depth fronts.old count fronts.new result lists.new }
+    ensures lent { SameSpans lists.old lists.new }
 {
     look_ahead(s, child, fronts, count, lists);
     fronts_by(s, child.byte, child.depth, fronts, count, lists)
@@ -153,9 +151,15 @@ fn read_ahead(s: &[u8], byte: u8, fronts: &[Front], at: usize) -> u64
 }
 
 // Reads ahead for a child of the root.
-fn look_ahead(s: &[u8], child: Place, fronts: &[Front; STACK_SIZE], count: usize, lists: &mut Lists)
+fn look_ahead(
+    s: &[u8],
+    child: Place,
+    fronts: &[Front; STACK_SIZE],
+    count: usize,
+    lists: &mut Lists<'_>,
+)
     requires { HasFronts s.now fronts.now (child.depth * 256) count }
-    ensures { lists.new ≡ cond (eqb child.depth 0) (record { each = lists.old.each; count = lists.old.count; ahead = shares_read s.now child.byte (take count fronts.now) child.at }) lists.old }
+    ensures { lists.new ≡ cond (eqb child.depth 0) (record lists.old { ahead = shares_read s.now child.byte (take count fronts.now) child.at }) lists.old }
 {
     if child.depth == 0 {
         lists.ahead = read_ahead(s, child.byte, &fronts[..count], child.at);

@@ -13,13 +13,16 @@ use fields::Counts;
 use forest_rule::Siblings;
 use fronts::{Front, STACK_SIZE};
 use image_walk::Table;
-use location_lists::Lists;
+use location_lists::{Lists, Span};
 
 // A place on the stack of fronts that is not in use.
 const NO_FRONT: Front = Front {
     table: Table { at: 0, count: 0 },
     mask: 0,
 };
+
+// The most lists at once: two for each of 256 children.
+const LISTS_SIZE: usize = 512;
 
 // Whether the finished index rule holds of an image whose layout is right.
 pub fn index_rule(s: &[u8]) -> bool
@@ -30,7 +33,8 @@ pub fn index_rule(s: &[u8]) -> bool
         return true;
     }
     let mut fronts = [NO_FRONT; STACK_SIZE];
-    let mut lists = Lists::new();
+    let mut each = [Span { at: 0, end: 0 }; LISTS_SIZE];
+    let mut lists = Lists::new(&mut each);
     let root = image_walk::node_at(s, 0);
     if !node_rule::node_right(s, root, 0, &mut lists) {
         return false;

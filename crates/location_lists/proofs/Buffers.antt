@@ -18,7 +18,7 @@ use Rattle.definitions.specs.Location.{locations_in}
 use Rattle.location_lists.specs.declared.List.{List as Listing}
 use Rattle.location_lists.specs.declared.Span.{Span}
 use Rattle.location_lists.specs.declared.Lists.{Lists}
-use Rattle.location_lists.specs.Lists.{held, Within, list_from, span_of, lists_from, spans_in, lists_in, IsList, AreLists, with_list}
+use Rattle.location_lists.specs.Lists.{held, Within, list_from, span_of, lists_from, spans_in, lists_in, IsList, AreLists, with_list, SameSpans}
 use Rattle.location_lists.proofs.Single.{locations_none, locations_first}
 
 -- ── lists and spans ──
@@ -38,10 +38,15 @@ lists_last s each (suc n) k m e =
     ap (λ (x : List (List Location)). list_from s (span_of each k) ∷ x) (lists_last s each n (k + 1) m (omega arith))
 
 -- those that count are the lists of their own spans
-pub counted : (s : List ℕ) (lists : Lists) → lists.count ≤ length lists.each → spans_in s (take lists.count lists.each) ≡ lists_in s lists
+pub counted : (s : List ℕ) (lists : Lists) → lists.count ≤ length lists.each.now → spans_in s (take lists.count lists.each.now) ≡ lists_in s lists
 counted s lists h =
-    rw (length-take-le lists.count lists.each h)
-    (lists_ext s (take lists.count lists.each) lists.each lists.count 0 (λ j p q. get_or-take lists.count lists.each j (record { at = 0; end = 0 }) (omega arith)))
+    rw (length-take-le lists.count lists.each.now h)
+    (lists_ext s (take lists.count lists.each.now) lists.each.now lists.count 0 (λ j p q. get_or-take lists.count lists.each.now j (record { at = 0; end = 0 }) (omega arith)))
+
+-- ── the spans that are lent ──
+
+pub same_then : {xs ys zs : Lists} → SameSpans xs ys → SameSpans ys zs → SameSpans xs zs
+same_then f g = record { same_reference = g.same_reference ∙ f.same_reference; same_length = g.same_length ∙ f.same_length }
 
 -- ── adding a list ──
 
@@ -72,37 +77,44 @@ module _ (lists : Lists) (l : Listing) where
   span = record { at = l.at; end = l.at + l.count * 24 }
 
   with_span : List Span
-  with_span = set lists.each lists.count span
+  with_span = set lists.each.now lists.count span
 
-  below_span : (j : ℕ) → j < lists.count → span_of with_span j ≡ span_of lists.each j
+  below_span : (j : ℕ) → j < lists.count → span_of with_span j ≡ span_of lists.each.now j
   unfolding with_span
-  below_span j h = get_or-set_other lists.each lists.count j span (record { at = 0; end = 0 }) (omega arith)
+  below_span j h = get_or-set_other lists.each.now lists.count j span (record { at = 0; end = 0 }) (omega arith)
 
-  span_set : lists.count < length lists.each → span_of with_span lists.count ≡ span
+  span_set : lists.count < length lists.each.now → span_of with_span lists.count ≡ span
   unfolding with_span
-  span_set h = get_or-set_same lists.each lists.count span (record { at = 0; end = 0 }) h
+  span_set h = get_or-set_same lists.each.now lists.count span (record { at = 0; end = 0 }) h
 
-  length_span : length with_span ≡ length lists.each
+  length_span : length with_span ≡ length lists.each.now
   unfolding with_span
   length_span = simp length-set
 
-  pub length_with_list : length (with_list lists l).each ≡ length lists.each
+  pub length_with_list : length (with_list lists l).each.now ≡ length lists.each.now
   unfolding with_span span
   length_with_list = go (eqb l.count 0)
     where
-      go : (o : Bool) → length (cond o lists (record { each = with_span; count = lists.count + 1; ahead = lists.ahead })).each ≡ length lists.each
+      go : (o : Bool) → length (cond o lists (record lists { each = record lists.each { now = with_span }; count = lists.count + 1 })).each.now ≡ length lists.each.now
       go true = refl
       go false = length_span
+
+  pub same_with_list : SameSpans lists (with_list lists l)
+  same_with_list = go (eqb l.count 0)
+    where
+      go : (o : Bool) → SameSpans lists (cond o lists (record lists { each = record lists.each { now = set lists.each.now lists.count (record { at = l.at; end = l.at + l.count * 24 }) }; count = lists.count + 1 }))
+      go true = record { same_reference = refl; same_length = refl }
+      go false = record { same_reference = refl; same_length = simp length-set }
 
   pub count_with_le : (with_list lists l).count ≤ lists.count + 1
   count_with_le = go (eqb l.count 0)
     where
-      go : (o : Bool) → (cond o lists (record { each = set lists.each lists.count (record { at = l.at; end = l.at + l.count * 24 }); count = lists.count + 1; ahead = lists.ahead })).count ≤ lists.count + 1
+      go : (o : Bool) → (cond o lists (record lists { each = record lists.each { now = set lists.each.now lists.count (record { at = l.at; end = l.at + l.count * 24 }) }; count = lists.count + 1 })).count ≤ lists.count + 1
       go true = omega arith
       go false = omega arith
 
 -- the lists after it are those before it, and then the added one, if it has any
-pub added_lists : (s : List ℕ) (lists : Lists) (l : Listing) → lists.count < length lists.each
+pub added_lists : (s : List ℕ) (lists : Lists) (l : Listing) → lists.count < length lists.each.now
     → lists_in s (with_list lists l) ≡ lists_in s lists ++ and_list (held s l) []
 unfolding with_span span
 added_lists s lists l h = go (eqb l.count 0) refl
@@ -110,20 +122,20 @@ added_lists s lists l h = go (eqb l.count 0) refl
     ys : List Span
     ys = with_span lists l
 
-    go : (o : Bool) → eqb l.count 0 ≡ o → lists_in s (cond o lists (record { each = ys; count = lists.count + 1; ahead = lists.ahead })) ≡ lists_in s lists ++ and_list (held s l) []
+    go : (o : Bool) → eqb l.count 0 ≡ o → lists_in s (cond o lists (record lists { each = record lists.each { now = ys }; count = lists.count + 1 })) ≡ lists_in s lists ++ and_list (held s l) []
     go true e =
         let z : l.count ≤ 0 = omega (arith, eqb-true l.count 0 e) in
         rw (locations_none s l.count l.at z, append-nil)
     go false e =
         let z : 0 < l.count = lt_of_ne (eqb-false l.count 0 e) in
-        let f : lists_from s ys lists.count 0 ≡ lists_in s lists = lists_ext s ys lists.each lists.count 0 (λ j p q. below_span lists l j (omega arith)) in
+        let f : lists_from s ys lists.count 0 ≡ lists_in s lists = lists_ext s ys lists.each.now lists.count 0 (λ j p q. below_span lists l j (omega arith)) in
         let g : list_from s (span_of ys lists.count) ≡ held s l = rw (span_set lists l h) (list_whole s l) in
         let w : lists_from s ys (suc lists.count) 0 ≡ lists_from s ys lists.count 0 ++ (list_from s (span_of ys lists.count) ∷ []) = lists_last s ys lists.count 0 lists.count (omega arith) in
         let o = and_some s l.count l.at z in
         rw (add-one lists.count) (cc)
 
 -- the same in front of others: one step of a loop that adds lists in turn
-pub added_among : (s : List ℕ) (lists : Lists) (l : Listing) (lss : List (List Location)) → lists.count < length lists.each
+pub added_among : (s : List ℕ) (lists : Lists) (l : Listing) (lss : List (List Location)) → lists.count < length lists.each.now
     → lists_in s (with_list lists l) ++ lss ≡ lists_in s lists ++ and_list (held s l) lss
 added_among s lists l lss h =
     let ls : List Location = held s l in
@@ -133,7 +145,7 @@ added_among s lists l lss h =
     ∙ ap (λ (x : List (List Location)). before ++ x) (sym (and_list_first ls lss))
 
 -- they are then lists of s too
-pub added_valid : (s : List ℕ) (lists : Lists) (l : Listing) → lists.count < length lists.each → Within s l → AreLists s lists → AreLists s (with_list lists l)
+pub added_valid : (s : List ℕ) (lists : Lists) (l : Listing) → lists.count < length lists.each.now → Within s l → AreLists s lists → AreLists s (with_list lists l)
 unfolding with_span span
 added_valid s lists l h k v = go (eqb l.count 0)
   where
@@ -144,7 +156,7 @@ added_valid s lists l h k v = go (eqb l.count 0)
     one j (inl p) = rw (below_span lists l j p) (v.each j p)
     one j (inr p) = rw (p, span_set lists l h) (record { ordered = omega arith; within = omega arith; whole = omega arith })
 
-    go : (o : Bool) → AreLists s (cond o lists (record { each = ys; count = lists.count + 1; ahead = lists.ahead }))
+    go : (o : Bool) → AreLists s (cond o lists (record lists { each = record lists.each { now = ys }; count = lists.count + 1 }))
     go true = v
     go false = record { room = omega (arith, length_span lists l); each = λ j p. one j (last_or_before j lists.count p) }
 

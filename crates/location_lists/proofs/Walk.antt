@@ -5,7 +5,7 @@ use mathlib.Core.Path.{◌≡◌, refl, sym, ap, ◌∙◌}
 use mathlib.Core.Bool.{Bool, true, false, ◌&&◌, ◌||◌, cond}
 use mathlib.Core.List.{List, ◌∷◌}
 use lib.ListN.{length, set}
-use lib.Dec.{ltb, compare_is_eq}
+use lib.Dec.{ltb, eqb, compare_is_eq}
 use borrow.Author.Tests.{le-leb, lt-leb, lt-ltb, le-ltb, eq-eqb, ne_eqb}
 use Rattle.definitions.specs.Location.{Location, order, location_at}
 use Rattle.trie.specs.Test.{any_begins, all_ended, moved_back, is_union}
@@ -41,36 +41,38 @@ next_other s key p h = ap (λ (o : Bool). ltb p.at p.end && o) h ∙ and_false (
     and_false true = refl
     and_false false = refl
 
-or_false : (a : Bool) → a ≡ (a || false)
-or_false true = refl
-or_false false = refl
+-- so many had key next: whether any had
+abbrev pub some_met : ℕ → Bool
+some_met met = cond (eqb met 0) false true
 
-pub record Stepping (s : List ℕ) (key : Location) (each₀ each : List Span) (met : Bool) (i : ℕ) : Type 0 where
+pub record Stepping (s : List ℕ) (key : Location) (each₀ each : List Span) (met : ℕ) (i : ℕ) : Type 0 where
   pub valid : AreSpans s each
   pub same_length : length each ≡ length each₀
+  pub few : met ≤ i
   pub steps : stepped_from s key each (length each₀ - i) i ≡ stepped_all s key each₀
-  pub any : (met || any_next s key each (length each₀ - i) i) ≡ any_next s key each₀ (length each₀) 0
+  pub any : (some_met met || any_next s key each (length each₀ - i) i) ≡ any_next s key each₀ (length each₀) 0
 
 module _ (s : List ℕ) (key : Location) (each₀ : List Span) where
-  pub stepping_start : AreSpans s each₀ → Stepping s key each₀ each₀ false 0
+  pub stepping_start : AreSpans s each₀ → Stepping s key each₀ each₀ 0 0
   stepping_start v =
       let e : length each₀ - 0 ≡ length each₀ = omega arith in
-      record { valid = v; same_length = refl; steps = rw e; any = rw e }
+      record { valid = v; same_length = refl; few = omega arith; steps = rw e; any = rw e }
 
-  module _ (each : List Span) (met : Bool) (i : ℕ) (v : Stepping s key each₀ each met i) where
-    pub stepping_again : i < length each₀ → (ys : List Span) → ys ≡ stepped s key each i
-        → (r any : Bool) → r ≡ has_next s key (span_of each i) → any ≡ (met || r) → Stepping s key each₀ ys any (i + 1)
-    stepping_again h ys e r any f x =
-        let n : length each₀ - i ≡ suc (length each₀ - (i + 1)) = omega arith in
+  module _ (each : List Span) (met i : ℕ) (v : Stepping s key each₀ each met i) where
+    stepping_again : i < length each₀ → (ys : List Span) → ys ≡ stepped s key each i
+        → (r : Bool) (n : ℕ) → r ≡ has_next s key (span_of each i) → n ≤ i + 1 → some_met n ≡ (some_met met || r) → Stepping s key each₀ ys n (i + 1)
+    stepping_again h ys e r n f few x =
+        let m : length each₀ - i ≡ suc (length each₀ - (i + 1)) = omega arith in
         let same : length (stepped s key each i) ≡ length each = length_stepped s key each i in
         let g = any_ext s key (stepped s key each i) each (length each₀ - (i + 1)) (i + 1) (λ j p. stepped_other s key each i j (omega arith)) in
-        let a : (met || (has_next s key (span_of each i) || any_next s key each (length each₀ - (i + 1)) (i + 1))) ≡ any_next s key each₀ (length each₀) 0 = rw n at v.any in
-        rw (e, x, f)
+        let a : (some_met met || (has_next s key (span_of each i) || any_next s key each (length each₀ - (i + 1)) (i + 1))) ≡ any_next s key each₀ (length each₀) 0 = rw m at v.any in
+        rw e
         (record {
           valid = λ j p. stepped_valid s key (length each) each i (omega arith) (omega (arith, v.same_length)) v.valid j (omega arith);
           same_length = same ∙ v.same_length;
-          steps = rw n at v.steps;
-          any = rw g (or_assoc met (has_next s key (span_of each i)) (any_next s key each (length each₀ - (i + 1)) (i + 1)) ∙ a);
+          few = few;
+          steps = rw m at v.steps;
+          any = rw (x, f, g) (or_assoc (some_met met) (has_next s key (span_of each i)) (any_next s key each (length each₀ - (i + 1)) (i + 1)) ∙ a);
         })
       where
         or_assoc : (a b c : Bool) → ((a || b) || c) ≡ (a || (b || c))
@@ -79,25 +81,31 @@ module _ (s : List ℕ) (key : Location) (each₀ : List Span) where
 
     -- a list that has key next goes on behind it
     pub stepping_over : i < length each₀ → (span_of each i).at < (span_of each i).end → compare_is_eq (order (location_at s (span_of each i).at) key) ≡ true
-        → Stepping s key each₀ (set each i (record { at = (span_of each i).at + 24; end = (span_of each i).end })) true (i + 1)
+        → Stepping s key each₀ (set each i (record { at = (span_of each i).at + 24; end = (span_of each i).end })) (met + 1) (i + 1)
     stepping_over h k q =
         let n : has_next s key (span_of each i) ≡ true = rw (lt-ltb (span_of each i).at (span_of each i).end k, q) refl in
-        stepping_again h _ (sym (ap (λ (o : Bool). cond o (set each i (record { at = (span_of each i).at + 24; end = (span_of each i).end })) each) n)) true true (sym n) (or_true met)
+        let z : met + 1 ≡ 0 → ⊥ = omega arith in
+        let w : some_met (met + 1) ≡ true = rw (ne_eqb (met + 1) 0 z) refl in
+        stepping_again h _ (sym (ap (λ (o : Bool). cond o (set each i (record { at = (span_of each i).at + 24; end = (span_of each i).end })) each) n)) true (met + 1) (sym n) (omega (arith, v.few)) (w ∙ or_true (some_met met))
       where
         or_true : (a : Bool) → true ≡ (a || true)
         or_true true = refl
         or_true false = refl
 
+    or_false : (a : Bool) → a ≡ (a || false)
+    or_false true = refl
+    or_false false = refl
+
     -- any other stays
     pub stepping_past : i < length each₀ → has_next s key (span_of each i) ≡ false → Stepping s key each₀ each met (i + 1)
     stepping_past h n =
-        stepping_again h each (sym (ap (λ (o : Bool). cond o (set each i (record { at = (span_of each i).at + 24; end = (span_of each i).end })) each) n)) false met (sym n) (or_false met)
+        stepping_again h each (sym (ap (λ (o : Bool). cond o (set each i (record { at = (span_of each i).at + 24; end = (span_of each i).end })) each) n)) false met (sym n) (omega (arith, v.few)) (or_false (some_met met))
 
-    pub stepping_done : length each₀ ≤ i → (each ≡ stepped_all s key each₀) × (met ≡ any_next s key each₀ (length each₀) 0)
+    pub stepping_done : length each₀ ≤ i → (each ≡ stepped_all s key each₀) × (some_met met ≡ any_next s key each₀ (length each₀) 0)
     stepping_done h =
         let n : length each₀ - i ≡ 0 = omega arith in
-        let a : (met || false) ≡ any_next s key each₀ (length each₀) 0 = rw n at v.any in
-        (rw n at v.steps, or_false met ∙ a)
+        let a : (some_met met || false) ≡ any_next s key each₀ (length each₀) 0 = rw n at v.any in
+        (rw n at v.steps, or_false (some_met met) ∙ a)
 
 -- ── the walk ──
 

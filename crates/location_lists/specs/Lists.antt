@@ -33,7 +33,7 @@ spans_in s each = lists_from s each (length each) 0
 
 -- those that count
 abbrev pub lists_in : List ℕ → Lists → List (List Location)
-lists_in s lists = lists_from s lists.each lists.count 0
+lists_in s lists = lists_from s lists.each.now lists.count 0
 
 -- whole locations of s stand from where a list goes on up to where it ends
 pub record IsList (s : List ℕ) (p : Span) : Type 0 where
@@ -47,16 +47,26 @@ AreSpans s each = (k : ℕ) → k < length each → IsList s (span_of each k)
 
 -- each of those that count is
 pub record AreLists (s : List ℕ) (lists : Lists) : Type 0 where
-  pub room : lists.count ≤ length lists.each
-  pub each : (k : ℕ) → k < lists.count → IsList s (span_of lists.each k)
+  pub room : lists.count ≤ length lists.each.now
+  pub each : (k : ℕ) → k < lists.count → IsList s (span_of lists.each.now k)
+
+-- the same spans lent, and no lists
+abbrev pub emptied : Lists → Lists
+emptied lists = record lists { count = 0 }
 
 -- the lists, and one list more; no locations are no list
 abbrev pub with_list : Lists → Listing → Lists
-with_list lists l = cond (eqb l.count 0) lists (record { each = set lists.each lists.count (record { at = l.at; end = l.at + l.count * 24 }); count = lists.count + 1; ahead = lists.ahead })
+with_list lists l = cond (eqb l.count 0) lists (record lists { each = record lists.each { now = set lists.each.now lists.count (record { at = l.at; end = l.at + l.count * 24 }) }; count = lists.count + 1 })
+
+-- the same spans are lent, as many
+pub record SameSpans (xs ys : Lists) : Type 0 where
+  pub same_reference : ys.each.ghost_name ≡ xs.each.ghost_name
+  pub same_length : length ys.each.now ≡ length xs.each.now
 
 -- no list of another buffer is there, and what is behind the lists is as it was
 pub record Kept (xs ys : Lists) : Type 0 where
   pub count : ys.count ≡ xs.count
   pub ahead : ys.ahead ≡ xs.ahead
-  pub rest : (k : ℕ) → xs.count ≤ k → span_of ys.each k ≡ span_of xs.each k
-  pub same_length : length ys.each ≡ length xs.each
+  pub rest : (k : ℕ) → xs.count ≤ k → span_of ys.each.now k ≡ span_of xs.each.now k
+  pub same_reference : ys.each.ghost_name ≡ xs.each.ghost_name
+  pub same_length : length ys.each.now ≡ length xs.each.now

@@ -1,12 +1,12 @@
 // Lists of locations where they stand in an image: whether one ascends, is sound, or is the union of others.
 #![tactic(auto)]
 
-ghost use Rattle.std.specs.Prelude.{◌≡◌, ◌+◌, ◌*◌, ◌^◌, ◌≤◌, ◌<◌, length, replicate};
+ghost use Rattle.std.specs.Prelude.{ℕ, ◌≡◌, ◌+◌, ◌*◌, ◌^◌, ◌≤◌, ◌<◌, length, take};
 ghost use Rattle.std.proofs.Math.Dec.{compare_is_eq};
 ghost use Rattle.definitions.specs.Location.{order, location_at};
 ghost use Rattle.location.specs.Plain.{plain};
 ghost use Rattle.trie.specs.Test.{is_ascending, all_pass, is_union};
-ghost use Rattle.location_lists.specs.Lists.{held, Within, span_of, spans_in, lists_in, IsList, AreSpans, AreLists, with_list, Kept};
+ghost use Rattle.location_lists.specs.Lists.{held, Within, span_of, spans_in, lists_in, IsList, AreSpans, AreLists, with_list, emptied, Kept};
 ghost use Rattle.location_lists.specs.Steps.{has_next, stepped, stepped_all, any_next, ended_from};
 
 use definitions::LOCATION_SIZE;
@@ -47,24 +47,21 @@ pub struct Span {
     pub end: usize,
 }
 
-// The most lists at once: two for each of 256 children.
-const MOST: usize = 512;
-
-// Lists that are walked over at once. What is read ahead of the walk is kept beside them, so that it is read.
+// Lists that are walked over at once, in spans that are lent. What is read ahead of the walk is kept beside them, so that it is read.
 #[derive(Drop)]
-pub struct Lists {
-    pub each: [Span; MOST],
+pub struct Lists<'a> {
+    pub each: &'a mut [Span],
     pub count: usize,
     pub ahead: u64,
 }
 
-impl Lists {
-    // No lists.
-    pub fn new() -> Self
-        ensures { result ≡ record { each = replicate 512 (record { at = 0; end = 0 }); count = 0; ahead = 0 } }
+impl<'a> Lists<'a> {
+    // No lists, and room for as many as the spans that are lent.
+    pub fn new(each: &'a mut [Span]) -> Lists<'a>
+        ensures { result ≡ record { each = each.entry; count = 0; ahead = 0 } }
     {
         Lists {
-            each: [Span { at: 0, end: 0 }; MOST],
+            each,
             count: 0,
             ahead: 0,
         }
@@ -72,14 +69,14 @@ impl Lists {
 
     // Takes all of them away.
     pub fn clear(&mut self)
-        ensures { (self.new ≡ record { each = self.old.each; count = 0; ahead = self.old.ahead }) × (length self.new.each ≡ 512) }
+        ensures { self.new ≡ emptied self.old }
     {
         self.count = 0;
     }
 
     // Adds a list, if it has any locations.
     pub fn add(&mut self, list: List)
-        requires { (self.old.count < 512) × (list.at + list.count * 24 < 2 ^ 64) }
+        requires { (self.old.count < length self.old.each.now) × (list.at + list.count * 24 < 2 ^ 64) }
         ensures { self.new ≡ with_list self.old list }
     {
         if list.count == 0 {
@@ -96,7 +93,7 @@ impl Lists {
         ensures keeps { Kept self.old self.new }
     {
         let count = self.count;
-        is_union(s, list, back, &mut self.each[..count])
+        is_union_of_first(s, list, back, self.each, count)
     }
 }
 
@@ -149,14 +146,14 @@ fn step_over(s: &[u8], key: SpacetimeLocation, lists: &mut [Span]) -> bool
     requires { AreSpans s.now lists.old }
     ensures { (lists.new ≡ stepped_all s.now (plain key) lists.old) × (result ≡ any_next s.now (plain key) lists.old (length lists.old) 0) }
 {
-    let mut met = false;
+    let mut met = 0usize;
     for list in lists.iter_mut() {
         if list.at < list.end && is_at(s, list.at, key) {
             list.at += LOCATION_SIZE;
-            met = true;
+            met += 1;
         }
     }
-    met
+    met != 0
 }
 
 // Whether each list is at its end.
@@ -189,4 +186,13 @@ pub fn is_union(s: &[u8], list: List, back: u64, lists: &mut [Span]) -> bool
         }
     }
     all_ended(lists)
+}
+
+// The same of the first of them alone: the others stay as they are.
+fn is_union_of_first(s: &[u8], list: List, back: u64, lists: &mut [Span], count: usize) -> bool
+    requires { Within s.now list × (count ≤ length lists.old) × AreSpans s.now (take count lists.old) }
+    ensures says { result ≡ is_union back (held s.now list) (spans_in s.now (take count lists.old)) }
+    ensures keeps { (length lists.new ≡ length lists.old) × ((k : ℕ) → count ≤ k → span_of lists.new k ≡ span_of lists.old k) }
+{
+    is_union(s, list, back, &mut lists[..count])
 }

@@ -42,10 +42,10 @@ module _ (s : List ℕ) (table children : ℕ) where
   pub record Listing (j : ℕ) (lists : Lists) : Type 0 where
     pub valid : AreLists s lists
     pub few : lists.count ≤ j * 2
-    pub size : length lists.each ≡ 512
+    pub size : 512 ≤ length lists.each.now
     pub listed : (d : ℕ) (f : Forest) → TableOf s d table children f → Listed d j lists f
 
-  pub listing_start : (lists : Lists) → lists.count ≡ 0 → length lists.each ≡ 512 → Listing 0 lists
+  pub listing_start : (lists : Lists) → lists.count ≡ 0 → 512 ≤ length lists.each.now → Listing 0 lists
   listing_start lists z k = record { valid = no_lists s lists z; few = omega arith; size = k; listed = λ d f t. record { rest = f; ahead = t.leads; lists_are = rw z refl } }
 
   module _ (j : ℕ) (lists : Lists) (i : Listing j lists) (l : j < children) where
@@ -69,7 +69,7 @@ module _ (s : List ℕ) (table children : ℕ) where
           let x = met h.depth h.forest h.is in
           record { depth = h.depth - 1; node = record { lists = x.lists; children = x.below }; is = next_parts c g x }
 
-      room : HasTable s table children → lists.count + 2 ≤ length lists.each
+      room : HasTable s table children → lists.count + 2 ≤ length lists.each.now
       room h = omega (arith, i.few, i.size, h.is.most)
 
       pub listing_add : HasTable s table children → (c : Parts) → c ≡ parts_at s e.node → Listing (j + 1) (with_two lists c.chunks c.suffixes)
@@ -78,7 +78,7 @@ module _ (s : List ℕ) (table children : ℕ) where
           record {
             valid = two_valid lists c.chunks c.suffixes s (room h) p.chunks_in p.suffixes_in i.valid;
             few = omega (arith, i.few, count_two lists c.chunks c.suffixes);
-            size = length_two lists c.chunks c.suffixes ∙ i.size;
+            size = omega (arith, length_two lists c.chunks c.suffixes, i.size);
             listed = step;
           }
         where

@@ -1,8 +1,9 @@
 // The index rule at one node: its lists in order, its suffixes, what it owes.
 #![tactic(auto)]
 
-ghost use Rattle.std.specs.Prelude.{◌≡◌, ◌+◌, ◌*◌, ◌^◌, ◌≤◌, ◌<◌};
+ghost use Rattle.std.specs.Prelude.{◌≡◌, ◌+◌, ◌*◌, ◌^◌, ◌≤◌, ◌<◌, length};
 ghost use Rattle.trie.specs.Test.{lists_right};
+ghost use Rattle.location_lists.specs.Lists.{SameSpans};
 ghost use Rattle.node_rule.specs.Parts.{HasTable, HasParts, lists_of};
 ghost use Rattle.node_rule.specs.OneNode.{with_two, ChildLists, is_owed, SaysSuffixes, SaysNode};
 
@@ -31,8 +32,8 @@ fn lists_right(s: &[u8], n: Node, depth: usize) -> bool
 }
 
 // Adds two lists of locations.
-pub fn add_two(lists: &mut Lists, first: List, then: List)
-    requires { (lists.old.count + 2 ≤ 512) × (first.at + first.count * 24 < 2 ^ 64) × (then.at + then.count * 24 < 2 ^ 64) }
+pub fn add_two(lists: &mut Lists<'_>, first: List, then: List)
+    requires { (lists.old.count + 2 ≤ length lists.old.each.now) × (first.at + first.count * 24 < 2 ^ 64) × (then.at + then.count * 24 < 2 ^ 64) }
     ensures { lists.new ≡ with_two lists.old first then }
 {
     lists.add(first);
@@ -40,17 +41,18 @@ pub fn add_two(lists: &mut Lists, first: List, then: List)
 }
 
 // Adds the chunks and prefixes of a node whose path has one byte more in front.
-pub fn add_front(lists: &mut Lists, n: Node)
-    requires { (lists.old.count + 2 ≤ 512) × (n.chunks.at + n.chunks.count * 24 < 2 ^ 64) × (n.prefixes.at + n.prefixes.count * 24 < 2 ^ 64) }
+pub fn add_front(lists: &mut Lists<'_>, n: Node)
+    requires { (lists.old.count + 2 ≤ length lists.old.each.now) × (n.chunks.at + n.chunks.count * 24 < 2 ^ 64) × (n.prefixes.at + n.prefixes.count * 24 < 2 ^ 64) }
     ensures { lists.new ≡ with_two lists.old n.chunks n.prefixes }
 {
     add_two(lists, n.chunks, n.prefixes);
 }
 
 // Makes the lists those of the chunks and suffixes of the children in a table.
-pub fn child_lists(s: &[u8], table: Table, lists: &mut Lists)
-    requires { HasTable s.now table.at table.count }
-    ensures { ChildLists s.now table.at table.count lists.new }
+pub fn child_lists(s: &[u8], table: Table, lists: &mut Lists<'_>)
+    requires { HasTable s.now table.at table.count × (512 ≤ length lists.old.each.now) }
+    ensures says { ChildLists s.now table.at table.count lists.new }
+    ensures lent { SameSpans lists.old lists.new }
 {
     lists.clear();
     for j in 0..table.count {
@@ -62,18 +64,20 @@ pub fn child_lists(s: &[u8], table: Table, lists: &mut Lists)
 }
 
 // Whether the suffixes of n are the chunks and suffixes of its children.
-fn suffixes_right(s: &[u8], n: Node, lists: &mut Lists) -> bool
-    requires { HasParts s.now n }
-    ensures { SaysSuffixes s.now n result }
+fn suffixes_right(s: &[u8], n: Node, lists: &mut Lists<'_>) -> bool
+    requires { HasParts s.now n × (512 ≤ length lists.old.each.now) }
+    ensures says { SaysSuffixes s.now n result }
+    ensures lent { SameSpans lists.old lists.new }
 {
     child_lists(s, n.table, lists);
     lists.is_union(s, n.suffixes, 0)
 }
 
 // What the rule says of one node and the lists of its children.
-pub fn node_right(s: &[u8], n: Node, depth: usize, lists: &mut Lists) -> bool
-    requires { HasParts s.now n }
-    ensures { SaysNode s.now n depth result }
+pub fn node_right(s: &[u8], n: Node, depth: usize, lists: &mut Lists<'_>) -> bool
+    requires { HasParts s.now n × (512 ≤ length lists.old.each.now) }
+    ensures says { SaysNode s.now n depth result }
+    ensures lent { SameSpans lists.old lists.new }
 {
     is_owed(n, depth) && lists_right(s, n, depth) && suffixes_right(s, n, lists)
 }

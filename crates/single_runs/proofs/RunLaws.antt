@@ -230,7 +230,7 @@ unfolding locations_in
 one_location s n at ls z e = subst (λ (k : ℕ). locations_in s k at ≡ ls) z e
 
 -- the lists of a front alone
-module _ (s : List ℕ) (lists : Walked) (z : lists.count ≡ 0) (f : Parts) (d : ℕ) (n : Node) (p : PartsOf s d f n) (r : 2 ≤ length lists.each) where
+module _ (s : List ℕ) (lists : Walked) (z : lists.count ≡ 0) (f : Parts) (d : ℕ) (n : Node) (p : PartsOf s d f n) (r : 2 ≤ length lists.each.now) where
   abbrev alone : Walked
   alone = with_two lists f.chunks f.prefixes
 
@@ -257,7 +257,7 @@ module _ (s : List ℕ) (at : Pair) (e i : Entry) (q : some e ≡ slot_in s at.t
   pub leaf_chunks : HasTable s at.other 1 → Within s f.chunks × Within s f.prefixes
   leaf_chunks h = let p = front_parts h.depth h.forest h.is in (p.chunks_in, p.prefixes_in)
 
-  module _ (lists : Walked) (y : lists.count ≡ 0) (room : 2 ≤ length lists.each) where
+  module _ (lists : Walked) (y : lists.count ≡ 0) (room : 2 ≤ length lists.each.now) where
     pub leaf_valid : HasTable s at.other 1 → AreLists s (with_two lists f.chunks f.prefixes)
     leaf_valid h = alone_valid s lists y f _ _ (front_parts h.depth h.forest h.is) room
 

@@ -24,7 +24,7 @@ node_right-requires c =
     let a = c.args in
     let h = root_found a.s.now c.type_inv.s (omega arith) c.requires _ c.is_empty.ensures c.if-is_empty.false in
     let n = c.node_at-root in
-    root_parts a.s.now h n.result n.ensures
+    (root_parts a.s.now h n.result n.ensures, rw c.new-lists.ensures (omega arith))
 
 pub returns-then-not-node_right : goal.returns-then-not-node_right
 returns-then-not-node_right c =
@@ -32,7 +32,7 @@ returns-then-not-node_right c =
     let h = root_found a.s.now c.type_inv.s (omega arith) c.requires _ c.is_empty.ensures c.if-is_empty.false in
     let n = c.node_at-root in
     let v = c.node_right in
-    rule_not_node a.s.now h n.result n.ensures v.result v.ensures c.if-not-node_right.true
+    rule_not_node a.s.now h n.result n.ensures v.result v.ensures.says c.if-not-node_right.true
 
 pub root_fronts-count-requires : goal.root_fronts-count-requires
 root_fronts-count-requires c =
@@ -47,7 +47,7 @@ children_right-requires c =
     let h = root_found a.s.now c.type_inv.s (omega arith) c.requires _ c.is_empty.ensures c.if-is_empty.false in
     let n = c.node_at-root in
     let f = c.root_fronts-count in
-    root_asked a.s.now h n.result n.ensures f.new.fronts f.result f.ensures
+    (root_asked a.s.now h n.result n.ensures f.new.fronts f.result f.ensures, omega (arith, rw c.new-lists.ensures at c.node_right.ensures.lent.same_length))
 
 pub returns : goal.returns
 returns c =
@@ -57,4 +57,4 @@ returns c =
     let f = c.root_fronts-count in
     let v = c.node_right in
     let x = c.children_right in
-    rule_by_children a.s.now h n.result n.ensures v.result v.ensures c.if-not-node_right.false f.new.fronts f.result f.ensures x.new.fronts x.result x.ensures
+    rule_by_children a.s.now h n.result n.ensures v.result v.ensures.says c.if-not-node_right.false f.new.fronts f.result f.ensures x.new.fronts x.result x.ensures.says
