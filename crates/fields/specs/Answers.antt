@@ -32,7 +32,7 @@ head_of (Ok h) = head (kind_number h.kind) h.at h.entries
 head_of (Err r) = no_head (number_of r)
 
 abbrev pub table_in : Children → Table
-table_in c = record { kind = kind_number c.kind; base = c.base; count = c.count; start = c.start; turns = c.turns }
+table_in c = record { kind = c.kind; base = c.base; count = c.count; start = c.start; turns = c.turns }
 
 abbrev pub table_of : Result Children Refusal → TableRead
 table_of (Ok c) = table (table_in c)

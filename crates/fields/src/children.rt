@@ -1,25 +1,23 @@
 // The children of a node of an image, turn by turn.
 
 ghost use Rattle.std.specs.Prelude.{◌≡◌, ◌<◌, length};
-ghost use Rattle.kinds.specs.Kinds.{kind_number};
 ghost use Rattle.image_format.specs.Turns.{Within};
 
 use crate::Due;
 use definitions::Refusal;
 use image_format::SLOT_SIZE;
-use kinds::NodeKind;
 
-// The children of a node: where in an image its table stands and how many entries that has, where the first flag is due,
-// and how many turns there are.
+// The children of a node: its kind's number, where in an image its table stands and how many entries that has, where the first
+// flag is due, and how many turns there are. A number that is no kind's is read as 2.
 #[derive(Clone, Copy)]
 pub struct Children<'a> {
     pub bytes: &'a [u8],
-    pub kind: NodeKind,
+    pub kind: u8,
     pub base: usize,
     pub count: usize,
     pub start: usize,
     pub turns: usize,
-    pub ghost within: { Within (length bytes.now) (record { kind = kind_number kind; base = base; count = count; start = start; turns = turns }) },
+    pub ghost within: { Within (length bytes.now) (record { kind = kind; base = base; count = count; start = start; turns = turns }) },
 }
 
 impl<'a> Children<'a> {
@@ -29,7 +27,7 @@ impl<'a> Children<'a> {
 
     // What stands at an index where the flag for an offset is due.
     fn flag_at(self, off: u64, at: usize) -> Result<Due, Refusal>
-        ensures { turn_of result ≡ slot_turn self.entry.bytes.now (kind_number self.entry.kind) at (offset off) }
+        ensures { turn_of result ≡ slot_turn self.entry.bytes.now self.entry.kind at (offset off) }
     {
         if off != at as u64 {
             return Err(Refusal::ImageBroken);
@@ -39,20 +37,20 @@ impl<'a> Children<'a> {
         }
         match self.bytes[at] {
             1 => Ok(Due::Child),
-            0 if self.kind == NodeKind::Dense => Ok(Due::Gap),
+            0 if self.kind == 1 => Ok(Due::Gap),
             _ => Err(Refusal::ImageBroken),
         }
     }
 
-    // The offset that turn i judges: kinds Dense and ByArrival have one for each turn, kind ByByte for each byte that its table has.
+    // The offset that turn i judges: kinds 1 and 3 have one for each turn, kind 2 for each byte that its table has.
     fn offset_at(self, i: usize) -> Option<u64>
         requires { i < self.turns }
         ensures { slot_of result ≡ slot_at self.entry.bytes.now (table_in self.entry) i }
     {
         match self.kind {
-            NodeKind::Dense => Some(words::get64(self.bytes, self.base + i * 8)),
-            NodeKind::ByArrival => Some(words::get64(self.bytes, self.base + i * SLOT_SIZE + 1)),
-            NodeKind::ByByte => {
+            1 => Some(words::get64(self.bytes, self.base + i * 8)),
+            3 => Some(words::get64(self.bytes, self.base + i * SLOT_SIZE + 1)),
+            _ => {
                 let j = tables::find_byte(self.bytes, self.base, self.count, i as u8)?;
                 Some(words::get64(self.bytes, self.base + j * SLOT_SIZE + 1))
             }
@@ -70,12 +68,12 @@ impl<'a> Children<'a> {
         self.flag_at(off, at)
     }
 
-    // The next turn from turn i on at which an offset is judged, or the last: of kind ByByte the bytes between are not in the table.
+    // The next turn from turn i on at which an offset is judged, or the last: in kind 2 the bytes between are not in the table.
     pub fn next_turn(self, i: usize) -> usize
         requires { i < self.turns }
         ensures { Skips self.entry.bytes.now (table_in self.entry) i result }
     {
-        if self.kind == NodeKind::ByByte {
+        if self.kind == 2 {
             tables::least_byte(self.bytes, self.base, self.count, i)
         } else {
             i

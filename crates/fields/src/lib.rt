@@ -111,7 +111,7 @@ fn open_dense<'a>(s: &'a [u8], at: usize) -> Result<Children<'a>, Refusal>
     }
     Ok(Children {
         bytes: s,
-        kind: NodeKind::Dense,
+        kind: NodeKind::Dense.number(),
         base: at,
         count: 0,
         start: at + DENSE_SIZE,
@@ -150,7 +150,7 @@ pub fn open_table<'a>(s: &'a [u8], kind: NodeKind, at: usize) -> Result<Children
     tables::table_fault(s, base, count)?;
     Ok(Children {
         bytes: s,
-        kind,
+        kind: kind.number(),
         base,
         count,
         start: base + count * SLOT_SIZE,
@@ -158,11 +158,11 @@ pub fn open_table<'a>(s: &'a [u8], kind: NodeKind, at: usize) -> Result<Children
     })
 }
 
-// The end of the children of a node of a kind, so many met: of kind Dense they must be enough.
-pub fn all_met(kind: NodeKind, met: usize, past: Past) -> Result<Past, Refusal>
-    ensures { (t : Table) → t.kind ≡ kind_number kind → step_of result ≡ all_met t past.at met past.nodes past.entries }
+// The end of the children of a node of a kind's number, so many met: in kind 1 they must be enough.
+pub fn all_met(kind: u8, met: usize, past: Past) -> Result<Past, Refusal>
+    ensures { (t : Table) → t.kind ≡ kind → step_of result ≡ all_met t past.at met past.nodes past.entries }
 {
-    if kind == NodeKind::Dense && !kinds::fits_kind(NodeKind::Dense, met) {
+    if kind == 1 && !kinds::fits_kind(NodeKind::Dense, met) {
         return Err(Refusal::ImageBroken);
     }
     Ok(past)

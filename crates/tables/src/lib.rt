@@ -1,10 +1,10 @@
 // The table of a node with few children: its entries by byte.
 #![tactic(auto)]
 
-ghost use Rattle.std.specs.Prelude.{◌≡◌, ◌+◌, ◌*◌, ◌≤◌, ◌<◌, length, MatchOption};
+ghost use Rattle.std.specs.Prelude.{◌≡◌, ◌+◌, ◌*◌, ◌≤◌, ◌<◌, length, cond, ltb, min, MatchOption};
 ghost use Rattle.definitions.specs.Refusals.{number_in};
 ghost use Rattle.image_format.specs.Reading.{find_byte, table_fault};
-ghost use Rattle.image_format.specs.Entries.{Nearer, Least};
+ghost use Rattle.image_format.specs.Entries.{Least};
 
 use definitions::Refusal;
 
@@ -43,8 +43,7 @@ pub fn table_fault(s: &[u8], base: usize, n: usize) -> Result<(), Refusal>
 
 // The lower of least and b, if b is not below low.
 fn nearer(low: usize, least: usize, b: usize) -> usize
-    requires { low ≤ least }
-    ensures { Nearer low least b result }
+    ensures { result ≡ cond (ltb b low) least (min least b) }
 {
     if b < low { least } else { least.min(b) }
 }

@@ -9,6 +9,7 @@ use Rattle.kinds.specs.declared.NodeKind.TheVariants as K
 use Rattle.image_format.proofs.Tables.{open_count, open_cut, open_fault, open_ready, open_within, range_most, table_turns}
 use Rattle.fields.specs.Answers.{table_of}
 use Rattle.fields.proofs.Passed.{passed}
+use Rattle.fields.proofs.Tables.{table_numbered}
 use Rattle.fields.proofs.open_table.Goals as goal
 
 pub returns-then-s-at-lt8-clause-table : goal.returns-then-s-at-lt8-clause-table
@@ -32,11 +33,11 @@ overflow_add-result c = omega (arith, range_most (kind_number c.args.kind) c.get
 pub invariant_of-result : goal.invariant_of-result
 invariant_of-result c =
     let opened =
-    table_turns _ _ _ _ c.turns_of.ensures ∙
+    table_numbered _ _ c.number.ensures ∙ table_turns _ _ _ _ c.turns_of.ensures ∙
     open_ready _ _ _ (is_other_kind c.args.kind K.Dense c.if-eq.ensures) _ _ c.get64-count.ensures (omega arith) (sym c.if-not-fits_kind.ensures) c.in_ok-table_fault.ensures refl in
     record { within = (open_within _ _ _ _ opened).0 }
 
 pub returns-clause-table : goal.returns-clause-table
 returns-clause-table c =
-    table_turns _ _ _ _ c.turns_of.ensures ∙
+    table_numbered _ _ c.number.ensures ∙ table_turns _ _ _ _ c.turns_of.ensures ∙
     open_ready _ _ _ (is_other_kind c.args.kind K.Dense c.if-eq.ensures) _ _ c.get64-count.ensures (omega arith) (sym c.if-not-fits_kind.ensures) c.in_ok-table_fault.ensures refl
