@@ -1,2 +1,3 @@
--- `Counts` says how a row count is handed over. Assumes nothing.
+-- `Counts` says how a row count is handed over, `Numbered` what answers with plain numbers mean. Assumes nothing.
 pub mod Counts
+pub mod Numbered

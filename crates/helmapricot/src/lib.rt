@@ -56,7 +56,8 @@ pub extern "C" fn helmapricot_record_stream(
     ensures memory { mem.new ≡ (record_stream mem.old stream.now).memory }
     ensures taken { taken.new ≡ set taken.old 0 (record_stream mem.old stream.now).taken }
 {
-    answer_numbers::put_taken(taken, string_index::record_stream(mem, stream))
+    let recorded = string_index::record_stream(mem, stream);
+    answer_numbers::put_taken(taken, answer_numbers::stop_numbered(recorded))
 }
 
 // Finishes an index, so that it can be searched and saved.
@@ -82,8 +83,8 @@ pub extern "C" fn helmapricot_search(
     ensures count { count.new ≡ put_unless_refused (search_memory mem.now q.now (length scratch.old) rows.old).refusal (search_memory mem.now q.now (length scratch.old) rows.old).count count.old }
     ensures scratch { ScratchAfter (search_memory mem.now q.now (length scratch.old) rows.old).refusal scratch.old scratch.new }
 {
-    let a = string_index::search(mem, q, scratch, rows);
-    answer_numbers::put_count(count, a)
+    let found = string_index::search(mem, q, scratch, rows);
+    answer_numbers::put_count(count, answer_numbers::numbered(found))
 }
 
 // Searches for a donation number that was typed with its check character; what is handed over is as in a search.
@@ -100,8 +101,8 @@ pub extern "C" fn helmapricot_search_number(
     ensures count { count.new ≡ put_unless_refused (search_number_memory mem.now typed.now (length scratch.old) rows.old).refusal (search_number_memory mem.now typed.now (length scratch.old) rows.old).count count.old }
     ensures scratch { ScratchAfter (search_number_memory mem.now typed.now (length scratch.old) rows.old).refusal scratch.old scratch.new }
 {
-    let a = string_index::search_number(mem, typed, scratch, rows);
-    answer_numbers::put_count(count, a)
+    let found = string_index::search_number(mem, typed, scratch, rows);
+    answer_numbers::put_count(count, answer_numbers::numbered(found))
 }
 
 // How many bytes the image has goes into size; a save that is refused leaves it.
@@ -111,7 +112,8 @@ pub extern "C" fn helmapricot_save(mem: &[u8], out: &mut [u8], size: &mut [u64; 
     ensures out { out.new ≡ (save_memory mem.now out.old).buffer }
     ensures size { size.new ≡ put_unless_refused (save_memory mem.now out.old).refusal (save_memory mem.now out.old).size size.old }
 {
-    answer_numbers::put_count(size, string_index::save(mem, out))
+    let saved = string_index::save(mem, out);
+    answer_numbers::put_count(size, answer_numbers::numbered(saved))
 }
 
 // Loads an image in place of what the index holds.
