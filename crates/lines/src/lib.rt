@@ -1,9 +1,9 @@
 // The lines of an input: where each ends, and what is kept of an unfinished one.
 #![tactic(auto)]
 
-ghost use Rattle.std.specs.Prelude.{◌≡◌, ◌≤◌, [], IfSome};
+ghost use Rattle.std.specs.Prelude.{◌≡◌, ◌≤◌, [], length, IfSome};
 ghost use Rattle.lines.specs.Cut.{line_end};
-ghost use Rattle.lines.specs.Kept.{Kept, part, keeps, kept_in, kept_text};
+ghost use Rattle.lines.specs.Kept.{Kept, KeepsBehind, part, keeps, kept_in, kept_text};
 
 use std::marker::Model;
 
@@ -22,8 +22,24 @@ pub fn line_end(input: &[u8], at: usize) -> usize
     input.len().max(at)
 }
 
+// Keeps a part of a line behind n bytes of it: how many there are then, or none where the line is too long, and then the
+// buffer stays.
+pub fn keep(line: &mut [u8], n: usize, part: &[u8]) -> Option<usize>
+    requires { 1024 ≤ length line.old }
+    ensures { KeepsBehind line.old n part.now line.new result }
+{
+    if LINE_LIMIT < n {
+        return None;
+    }
+    if LINE_LIMIT - n < part.len() {
+        return None;
+    }
+    copying::copy(part, 0, line, n, part.len());
+    Some(n + part.len())
+}
+
 // What is kept of an unfinished line: how many bytes, or none where the line is too long.
-#[derive(Drop)]
+#[derive(Clone, Drop)]
 pub struct KeptLine {
     bytes: [u8; LINE_LIMIT],
     length: Option<usize>,
@@ -62,12 +78,7 @@ impl KeptLine {
         let Some(n) = self.length else {
             return;
         };
-        if LINE_LIMIT - n < more.len() {
-            self.length = None;
-            return;
-        }
-        copying::copy(more, 0, &mut self.bytes, n, more.len());
-        self.length = Some(n + more.len());
+        self.length = keep(&mut self.bytes, n, more);
     }
 
     // The bytes that are kept, where the line is not too long.
