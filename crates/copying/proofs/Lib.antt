@@ -1,2 +1,2 @@
--- `Parts` says what a write to a part of a list leaves. Assumes nothing.
-pub mod Parts
+-- `Steps` has the laws of the two loops. Assumes nothing.
+pub mod Steps

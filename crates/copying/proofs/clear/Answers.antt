@@ -1,14 +1,13 @@
--- `copying::clear` meets its contract: a part is written. Assumes nothing.
-use Prim.Native.Nat.{ℕ, ◌-◌}
-use native.Mathlib.Omega.{arith}
-use mathlib.Core.Path.{◌≡◌, ap, ◌∙◌}
-use lib.ListN.{length, take, drop, replicate, length-take, length-drop}
-use Rattle.copying.proofs.Parts.{put_sets}
+-- `copying::clear` meets its contract: what is still to be written, written, is always the same.
+use mathlib.Core.Path.{sym, ◌∙◌}
+use lib.ListN.{length-set}
+use Rattle.copying.proofs.Steps.{clear_turn, clear_done}
 use Rattle.copying.proofs.clear.Goals as goal
 
+pub loop-k-preserved : goal.loop-k-preserved
+loop-k-preserved c =
+    let inv = c.loop-k.invariant in
+    (simp length-set inv.0, sym (clear_turn _ _ _ c.loop-k-test.true) ∙ inv.1)
+
 pub returns : goal.returns
-returns c =
-    let a = c.args in
-    let long : length (take (a.e - a.a) (drop a.a a.s.now)) ≡ a.e - a.a = simp (length-take, length-drop) (omega arith) in
-    let same : c.fill.new.self ≡ replicate (a.e - a.a) 0 = c.fill.ensures.after (λ y h. h) ∙ ap (λ (k : ℕ). replicate k 0) long in
-    put_sets a.a (a.e - a.a) a.s.now _ _ same (c.fill.ensures.len ∙ long) (omega arith)
+returns c = sym (clear_done _ _ _ c.loop-k-test.false) ∙ c.loop-k.invariant.1
