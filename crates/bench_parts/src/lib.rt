@@ -63,7 +63,8 @@ fn query_size(queries: &[u8], size: usize) -> usize
     }
 }
 
-// Searches for each of the queries, size bytes each, and answers for the last.
+// Searches for each of the queries, size bytes each, and answers for the last. Where they can't be cut evenly, it shares bytes with
+// the one before.
 fn search_each(
     img: &[u8],
     queries: &[u8],
@@ -75,8 +76,11 @@ fn search_each(
     ensures finding { finding_in result ≡ finding_of (search_answer (trie_in img.now) (last_query queries.now size) (length scratch.old) room) }
 {
     let last = queries.len() - size;
-    for query in queries[..last].chunks(size.max(1)) {
-        let _ = searching::search_image(img, query, scratch, room);
+    let mut at = 0;
+    while at < last {
+        let end = at + size;
+        let _ = searching::search_image(img, &queries[at..end], scratch, room);
+        at = end;
     }
     searching::search_image(img, &queries[last..], scratch, room)
 }
