@@ -7,7 +7,7 @@ use mathlib.Core.Bool.{Bool, true, false, not, cond}
 use mathlib.Core.Logic.{inl, inr}
 use mathlib.Core.List.{List, [], ◌∷◌, ◌++◌, append_assoc}
 use lib.ListN.{length, take, drop, length-append, take-append-drop}
-use lib.Seq.{length-take-le}
+use lib.Seq.{length-take-le, take_at, drop_at}
 use Rattle.words.specs.Words.{bytes64}
 use Rattle.words.proofs.Parts.{length_bytes64}
 use Rattle.definitions.specs.Location.{Location, order, is_lt, Less}
@@ -154,3 +154,20 @@ own_parts k es = ap own_bytes (sym (take-append-drop k es)) ∙ own_append (take
 
 pub own_front : (k : ℕ) (es : List Entry) → k ≤ length es → length (own_bytes (take k es)) ≡ 16 * k
 own_front k es h = omega (arith, own_length (take k es), length-take-le k es h)
+
+pub own_take : (k : ℕ) (es : List Entry) → k ≤ length es → take (16 * k) (own_bytes es) ≡ own_bytes (take k es)
+own_take k es h = ap (take (16 * k)) (own_parts k es) ∙ take_at (own_bytes (take k es)) (own_bytes (drop k es)) (16 * k) (own_front k es h)
+
+pub own_drop : (k : ℕ) (es : List Entry) → k ≤ length es → drop (16 * k) (own_bytes es) ≡ own_bytes (drop k es)
+own_drop k es h = ap (drop (16 * k)) (own_parts k es) ∙ drop_at (own_bytes (take k es)) (own_bytes (drop k es)) (16 * k) (own_front k es h)
+
+-- an entry's bytes go between those that stay before it and the others
+pub own_enter : (e : Entry) (es : List Entry) (k : ℕ) → k ≡ behind e.piece.at es → own_bytes (enter e es) ≡ take (16 * k) (own_bytes es) ++ (bytes64 e.number ++ (bytes64 e.piece.at.destroyed ++ drop (16 * k) (own_bytes es)))
+unfolding own_bytes
+own_enter e es k q =
+    let h : k ≤ length es = omega (arith, behind_upto e.piece.at es) in
+    ap own_bytes (enter_splits e es)
+    ∙ ap (λ (j : ℕ). own_bytes (take j es ++ (e ∷ drop j es))) (sym q)
+    ∙ own_append (take k es) (e ∷ drop k es)
+    ∙ ap (λ (r : List ℕ). r ++ (bytes64 e.number ++ (bytes64 e.piece.at.destroyed ++ own_bytes (drop k es)))) (sym (own_take k es h))
+    ∙ ap (λ (r : List ℕ). take (16 * k) (own_bytes es) ++ (bytes64 e.number ++ (bytes64 e.piece.at.destroyed ++ r))) (sym (own_drop k es h))

@@ -2,13 +2,14 @@
 use Prim.Native.Nat.{ℕ, zero, suc, ◌+◌, ◌*◌, ◌≤◌, ◌<◌}
 use native.Mathlib.Nat.{not-suc-le-zero}
 use native.Mathlib.Omega.{arith}
-use mathlib.Core.Path.{◌≡◌, refl, ap, ◌∙◌}
+use mathlib.Core.Path.{◌≡◌, refl, sym, ap, subst, ◌∙◌}
 use mathlib.Core.Logic.{◌⊎◌, inl, inr}
 use mathlib.Core.Bool.{Bool, true, false, cond}
+use mathlib.Core.List.Memᴰ.{not-nil}
 use mathlib.Core.List.Memᴰ.{head as here}
 use mathlib.Core.List.Memᴰ.{tail as later}
 use mathlib.Core.List.{List, [], ◌∷◌, Memᴰ as Mem}
-use lib.ListN.{length, get_or}
+use lib.ListN.{length, get_or, take}
 use Rattle.std.proofs.lemmas.Bool.{cases_lt}
 use Rattle.definitions.specs.Location.{Location, order, is_lt, Sorted, location_at, locations_in, Less}
 use Rattle.definitions.proofs.Order.{less_trans}
@@ -32,6 +33,19 @@ module _ (l : Location) where
       go true h = omega arith
       go false h = omega arith
 
+  -- those that are counted come before it
+  pub front_before : (ls : List Location) (i : ℕ) → i ≤ before_count l ls → (m : Location) → Mem m (take i ls) → Less m l
+  unfolding before_count
+  front_before ls zero h m k = absurd (not-nil k)
+  front_before [] (suc i) h m k = absurd (not-nil k)
+  front_before (x ∷ ls) (suc i) h m k = go (is_lt (order x l)) refl (front_before ls i) h k
+    where
+      go : (o : Bool) → is_lt (order x l) ≡ o → (i ≤ before_count l ls → (y : Location) → Mem y (take i ls) → Less y l)
+          → suc i ≤ cond o (suc (before_count l ls)) 0 → Mem m (x ∷ take i ls) → Less m l
+      go true t ih h (here q) = subst (λ (y : Location). Less y l) (sym q) (is_lt_less x l t)
+      go true t ih h (later k) = ih (omega arith) m k
+      go false t ih h k = absurd (not-suc-le-zero h)
+
   -- the place i comes before it: it is one of those counted
   counted : (ls : List Location) (i : ℕ) (d : Location) → Sorted Less ls → i < length ls → is_lt (order (get_or ls i d) l) ≡ true → i < before_count l ls
   unfolding before_count
@@ -54,9 +68,19 @@ module _ (l : Location) where
 
 -- ── in bytes ──
 
+take_locations : (i n : ℕ) (s : List ℕ) (at : ℕ) → i ≤ n → take i (locations_in s n at) ≡ locations_in s i at
+unfolding locations_in
+take_locations zero n s at h = refl
+take_locations (suc i) zero s at h = absurd (not-suc-le-zero h)
+take_locations (suc i) (suc n) s at h = ap (λ (ls : List Location). location_at s at ∷ ls) (take_locations i n s (at + 24) (omega arith))
+
 module _ (s : List ℕ) (n at : ℕ) (l : Location) where
   pub before_listed : before_count l (locations_in s n at) ≤ n
   before_listed = omega (arith, before_le l (locations_in s n at), length_locations n s at)
+
+  pub front_listed : (i : ℕ) → i ≤ before_count l (locations_in s n at) → (m : Location) → Mem m (locations_in s i at) → Less m l
+  front_listed i h m k =
+      front_before l (locations_in s n at) i h m (subst (Mem m) (sym (take_locations i n s at (omega (arith, before_listed)))) k)
 
   -- ── the search by halves ──
 
