@@ -129,7 +129,7 @@ module _ (c : Capacity) (m s : List ℕ) (n e : ℕ) where
     room = omega (arith, within, r.held)
 
     able : (x : List ℕ) → length x ≡ length m → Closable x head
-    able x q = record { payload = within; held = omega (arith, r.held) }
+    able x q = record { nodes = r.few_nodes; entries = r.few_entries; payload = within; held = omega (arith, r.held) }
 
     pub closable : (made : Header) → made ≡ head → (x : List ℕ) → length x ≡ length m → Closable x made
     closable made v x q = subst (Closable x) (sym v) (able x q)
