@@ -1,7 +1,7 @@
 -- What each step of the reader of bytes makes of a text. Assumes nothing.
 use Prim.Native.Nat.{ℕ, suc, ◌+◌, ◌-◌, ◌*◌, ◌≤◌, ◌<◌}
 use native.Mathlib.Omega.{arith}
-use mathlib.Core.Path.{◌≡◌, refl, sym, ap}
+use mathlib.Core.Path.{◌≡◌, refl, sym, ap, ◌∙◌}
 use mathlib.Core.Bool.{Bool, true, false, cond}
 use mathlib.Core.List.{List, [], ◌∷◌}
 use mathlib.Core.Option as M
@@ -10,6 +10,7 @@ use lib.Dec.{ltb, eqb}
 use borrow.Author.Tests.{lt-ltb, le-ltb, eq-eqb, ne_eqb, ltb-true, ltb-false, eqb-true}
 use Rattle.std.specs.Prelude.{Option, Some, None, is_some}
 use Rattle.std.specs.Bool.{Decides, then_some}
+use Rattle.std.specs.Option.{unwrap_or}
 use Rattle.numerals.specs.Numerals.{is_digit}
 use Rattle.numerals.proofs.Steps.{drop_none, drop_one, digit_is, digit_low, digit_over, digit_tells}
 use Rattle.hex_pairs.specs.HexBytes.{nibble, pair, closing, after_byte, after_pair, hex_bytes, last_bytes}
@@ -28,6 +29,13 @@ module _ (b : ℕ) where
       go : (o : Bool) → ltb b 48 ≡ o → is_digit b ≡ false
       go true e = digit_low b (ltb-true b 48 e)
       go false e = digit_over b (h (ltb-false b 48 e))
+
+  pub over_digit : is_digit b ≡ false → 48 ≤ b → 57 < b
+  over_digit e h = go (ltb 57 b) refl
+    where
+      go : (o : Bool) → ltb 57 b ≡ o → 57 < b
+      go true f = ltb-true 57 b f
+      go false f = absurd (let t = digit_is b h (ltb-false 57 b f) in cc)
 
   pub nibble_letter : 97 ≤ b → b ≤ 102 → (v : ℕ) → v ≡ b - 87 → Some v ≡ nibble b
   unfolding nibble
@@ -50,6 +58,25 @@ nibble_small b v = go (is_digit b) (ltb b 97) (ltb 102 b) refl refl
     go false true o₃ e f g = absurd (cc)
     go false false true e f g = absurd (cc)
     go false false false e f g = let m = ltb-false 102 b f in let k : b - 87 ≡ v = cc in omega arith
+
+-- a number that stands for a digit's value, or for none
+module _ (b v : ℕ) (e : v ≡ unwrap_or (nibble b) 16) where
+  stands : (o : Option ℕ) → nibble b ≡ o → v ≡ unwrap_or o 16
+  stands o f = e ∙ ap (λ (x : Option ℕ). unwrap_or x 16) f
+
+  pub digit_none : 16 ≤ v → nibble b ≡ None
+  digit_none h = go (nibble b) refl
+    where
+      go : (o : Option ℕ) → nibble b ≡ o → nibble b ≡ None
+      go None f = f
+      go (Some w) f = absurd (let k : v ≡ w = stands (Some w) f in omega (arith, nibble_small b w f))
+
+  pub digit_some : v < 16 → nibble b ≡ Some v
+  digit_some h = go (nibble b) refl
+    where
+      go : (o : Option ℕ) → nibble b ≡ o → nibble b ≡ Some v
+      go None f = absurd (let k : v ≡ 16 = stands None f in omega arith)
+      go (Some w) f = let k : v ≡ w = stands (Some w) f in f ∙ ap Some (sym k)
 
 -- ── pairs ──
 

@@ -2,27 +2,43 @@
 #![tactic(auto)]
 
 ghost use Rattle.std.specs.Prelude.{◌≡◌, ◌+◌, ◌*◌, ◌≤◌, length, drop};
+ghost use Rattle.std.specs.Option.{unwrap_or};
 ghost use Rattle.std.proofs.lemmas.List.Edits.{sets};
 ghost use Rattle.hex_pairs.specs.HexBytes.{nibble, pair, hex_bytes, last_bytes};
 ghost use Rattle.hex_pairs.specs.HexAnswers.{counted, pairs_at};
 
+// What stands for the value of a byte that is no digit. It is a number so that digits are read without branches: they come in any
+// order, so no branch would be foreseen.
+const NO_DIGIT: u8 = 16;
+
 // The value of a lower-case hexadecimal digit.
-fn digit_value(b: u8) -> Option<u8>
-    ensures { result ≡ nibble b }
+fn digit_value(b: u8) -> u8
+    ensures { result ≡ unwrap_or (nibble b) 16 }
 {
-    match b {
-        b'0'..=b'9' => Some(b - b'0'),
-        b'a'..=b'f' => Some(b - b'a' + 10),
-        _ => None,
+    if numerals::digit(b) {
+        return b - b'0';
     }
+    if b < b'a' {
+        return NO_DIGIT;
+    }
+    if b'f' < b {
+        return NO_DIGIT;
+    }
+    b - b'a' + 10
 }
 
 // The byte of two hexadecimal digits.
 fn pair_value(a: u8, b: u8) -> Option<u8>
     ensures { result ≡ pair a b }
 {
-    let h = digit_value(a)?;
-    let l = digit_value(b)?;
+    let h = digit_value(a);
+    let l = digit_value(b);
+    if NO_DIGIT <= h {
+        return None;
+    }
+    if NO_DIGIT <= l {
+        return None;
+    }
     Some(h * 16 + l)
 }
 

@@ -1,19 +1,24 @@
 -- `hex_pairs::digit_value` meets its contract: 0 to 9, a to f, or neither. Assumes nothing.
+use Prim.Native.Nat.{ℕ}
 use native.Mathlib.Omega.{arith}
-use Rattle.hex_pairs.proofs.Steps.{nibble_digit, nibble_letter, nibble_none}
+use mathlib.Core.Path.{sym, ap, ◌∙◌}
+use Rattle.std.specs.Prelude.{true, Option}
+use Rattle.std.specs.Option.{unwrap_or}
+use Rattle.numerals.proofs.Steps.{digit_tells}
+use Rattle.hex_pairs.proofs.Steps.{nibble_digit, over_digit, nibble_letter, nibble_none}
 use Rattle.hex_pairs.proofs.digit_value.Goals as goal
 
-pub returns-in-48-to-57 : goal.returns-in-48-to-57
-returns-in-48-to-57 c = nibble_digit c.args.b (omega arith) (omega arith)
+abbrev or_none : Option ℕ → ℕ
+or_none o = unwrap_or o 16
 
-pub returns-in-97-to-102 : goal.returns-in-97-to-102
-returns-in-97-to-102 c = nibble_letter c.args.b (omega arith) (omega arith) _ (omega arith)
+pub returns-then-digit : goal.returns-then-digit
+returns-then-digit c = let d = digit_tells c.args.b true (sym c.digit.ensures ∙ c.if-digit.true) in ap or_none (nibble_digit c.args.b (omega arith) (omega arith))
 
-pub returns-in_default : goal.returns-in_default
-returns-in_default c = nibble_none c.args.b (λ h. omega arith) (λ h. omega arith)
+pub returns-then-b-lt97 : goal.returns-then-b-lt97
+returns-then-b-lt97 c = ap or_none (nibble_none c.args.b (over_digit c.args.b (sym c.digit.ensures ∙ c.if-digit.false)) (λ h. omega arith))
 
-pub returns-in_default-2 : goal.returns-in_default-2
-returns-in_default-2 c = nibble_none c.args.b (λ h. omega arith) (λ h. omega arith)
+pub returns-then-b-gt102 : goal.returns-then-b-gt102
+returns-then-b-gt102 c = ap or_none (nibble_none c.args.b (over_digit c.args.b (sym c.digit.ensures ∙ c.if-digit.false)) (λ h. omega arith))
 
-pub returns-in_default-3 : goal.returns-in_default-3
-returns-in_default-3 c = nibble_none c.args.b (λ h. omega arith) (λ h. omega arith)
+pub returns : goal.returns
+returns c = ap or_none (nibble_letter c.args.b (omega arith) (omega arith) _ (omega arith))
