@@ -22,7 +22,9 @@ pub struct Block<'a> {
 }
 
 // The block at a cursor, its fields checked in layout order; none at the stream's end.
-// The length is compared with what is left, since a sum with it could wrap.
+// The length is compared with what is left, since a sum with it could wrap. Always inlined: a stream calls it for each block, and
+// handing the block over would take as long as reading it.
+#[inline(always)]
 pub fn read_block<'a>(s: &'a [u8], at: usize) -> Result<Option<Block<'a>>, Refusal>
     ensures means { read_of result ≡ read_block s.now at }
     ensures starts { Starts s.now at result }

@@ -8,6 +8,7 @@ ghost use Rattle.inspecting.specs.Held.{SaysImage, Inspects};
 
 use definitions::Refusal;
 use memory_header::{HEADER_SIZE, Header};
+use tally::Phase;
 
 // The index that a memory holds, by its header.
 #[derive(Clone, Copy)]
@@ -32,11 +33,11 @@ pub fn inspect(mem: &[u8]) -> Result<Held, Refusal>
     ensures { Inspects mem.now result }
 {
     let h = memory_header::header_in(mem).ok_or(Refusal::IndexRuleBroken)?;
-    match h.tally.phase.number() {
-        0 if index_memory::log_right(mem, h) && certificate::order_right(mem, h) => {
+    match Phase::try_from(h.tally.phase) {
+        Ok(Phase::Open) if index_memory::log_right(mem, h) && certificate::order_right(mem, h) => {
             Ok(Held::Open(h))
         }
-        1 if image_right(mem, h) => Ok(Held::Finished(h)),
+        Ok(Phase::Finished) if image_right(mem, h) => Ok(Held::Finished(h)),
         _ => Err(Refusal::IndexRuleBroken),
     }
 }

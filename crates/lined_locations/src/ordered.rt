@@ -48,9 +48,16 @@ impl Ordered<'_> {
     }
 }
 
-// Whether l comes before address b and tick c.
+// Whether l comes before address b and tick c. By branches: where blocks come in order the search goes one way, and the processor
+// foresees it.
 fn comes_before(l: SpacetimeLocation, b: u64, c: u64) -> bool
     ensures { result ≡ earlier (plain l) b c }
 {
-    l.address.0 < b || l.address.0 == b && l.created_at.0 < c
+    if l.address.0 < b {
+        return true;
+    }
+    if b < l.address.0 {
+        return false;
+    }
+    l.created_at.0 < c
 }

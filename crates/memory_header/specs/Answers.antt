@@ -3,7 +3,6 @@ use Rattle.std.specs.Prelude.{ℕ, ◌≤◌, ◌≡◌, cond, List}
 use Rattle.std.specs.Prelude.{Option as Maybe, Some, None}
 use Rattle.std.proofs.Math.Option.{Option, none, some}
 use Rattle.definitions.specs.Calls.{Capacity}
-use Rattle.tally.specs.Phases.{phase_number}
 use Rattle.memory_header.specs.Layout.{Room, Header, header_at, header_right, payload_limit}
 use Rattle.memory_header.specs.declared.capacity.Capacity as C
 use Rattle.memory_header.specs.declared.Header as H
@@ -14,7 +13,7 @@ capacity_of c = record { nodes = c.nodes; entries = c.entries }
 
 -- the header
 abbrev pub header_of : H.Header → Header
-header_of h = record { capacity = capacity_of h.capacity; phase = phase_number h.tally.phase; nodes = h.tally.nodes; entries = h.tally.entries; payload = h.payload }
+header_of h = record { capacity = capacity_of h.capacity; phase = h.tally.phase; nodes = h.tally.nodes; entries = h.tally.entries; payload = h.payload }
 
 -- and what a memory has for one
 abbrev pub heading_of : Maybe H.Header → Option Header

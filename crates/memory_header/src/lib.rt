@@ -63,7 +63,7 @@ impl Header {
         requires { (self.capacity.nodes ≤ 1048576) × (self.capacity.entries ≤ 1048576) }
         ensures { result ≡ payload_limit (header_of self) }
     {
-        if self.tally.phase.number() == 0 {
+        if self.tally.phase == Phase::Open.number() {
             return self.capacity.entries;
         }
         self.capacity.payload_size()
@@ -76,7 +76,7 @@ impl Header {
         [
             self.capacity.nodes as u64,
             self.capacity.entries as u64,
-            self.tally.phase.number(),
+            self.tally.phase,
             self.tally.nodes as u64,
             self.tally.entries as u64,
             self.payload as u64,
@@ -111,7 +111,7 @@ pub fn header_in(mem: &[u8]) -> Option<Header>
         tally: Tally {
             nodes: words::get64(mem, 24) as usize,
             entries: words::get64(mem, 32) as usize,
-            phase,
+            phase: phase.number(),
         },
         payload: words::get64(mem, 40) as usize,
     };
@@ -158,7 +158,7 @@ pub fn open(mem: &mut [u8], nodes: u64, entries: u64) -> Result<(), Refusal>
             tally: Tally {
                 nodes: 1,
                 entries: 0,
-                phase: Phase::Open,
+                phase: Phase::Open.number(),
             },
             payload: 0,
         },

@@ -39,9 +39,8 @@ fn put_part(mem: &mut [u8], at: usize, data: &[u8], start: usize, l: SpacetimeLo
     requires { (at + 48 ≤ length mem.old) × (start ≤ length «data».now) × (l.address.0 + start < 2 ^ 64) }
     ensures { mem.new ≡ sets mem.old at (piece_bytes (part (record { bytes = «data».now; at = plain l }) start)) }
 {
-    let end = data.len().min(start + PIECE_SIZE);
-    let piece = &data[start..end];
-    put_piece(mem, at, piece, l.moved(start));
+    let n = (data.len() - start).min(PIECE_SIZE);
+    put_piece(mem, at, &data[start..start + n], l.moved(start));
 }
 
 // Writes the pieces of a block from index from on, the hindmost first.

@@ -8,11 +8,8 @@ use Rattle.tally.specs.declared.UnknownPhase.{UnknownPhase}
 abbrev pub phase_number : Phase → ℕ
 phase_number P.Open = 0
 phase_number P.Finished = 1
-phase_number (P.Unknown other) = other.0
 
--- a number is that of the phase, or over the last: then it is given back with the error, and no phase is unknown
+-- a number is that of the phase, or over the last: then it is given back with the error
 abbrev pub Decodes : ℕ → Result Phase UnknownPhase → Type 0
-Decodes n (Ok P.Open) = 0 ≡ n
-Decodes n (Ok P.Finished) = 1 ≡ n
-Decodes _ (Ok (P.Unknown _)) = ⊥
+Decodes n (Ok p) = phase_number p ≡ n
 Decodes n (Err e) = (e.0 ≡ n) × (1 < n)

@@ -2,6 +2,7 @@
 use Rattle.std.specs.Prelude.{ℕ, ◌+◌}
 use Rattle.tally.specs.declared.Tally.{Tally}
 use Rattle.tally.specs.declared.Phase.TheVariants.{Finished}
+use Rattle.tally.specs.Phases.{phase_number}
 
 -- a block that is taken charges nodes and entries, and the phase stays
 abbrev pub recorded : Tally → ℕ → ℕ → Tally
@@ -9,4 +10,4 @@ recorded t nodes entries = record { nodes = t.nodes + nodes; entries = t.entries
 
 -- finish counts the nodes and entries that are left, and sets the phase
 abbrev pub finished : ℕ → ℕ → Tally
-finished nodes entries = record { nodes = nodes; entries = entries; phase = Finished }
+finished nodes entries = record { nodes = nodes; entries = entries; phase = phase_number Finished }

@@ -6,28 +6,23 @@ ghost use Rattle.std.specs.Prelude.{◌≡◌, ◌+◌, ◌^◌, ◌<◌};
 ghost use Rattle.tally.specs.Phases.{phase_number, Decodes};
 ghost use Rattle.tally.specs.Tallied.{recorded, finished};
 
+// An open index takes blocks, a finished one is searched. The header has the number in the declaration.
+#[derive(Clone, Copy, Debug, PartialEq, Eq)]
+pub enum Phase {
+    Open = 0,
+    Finished = 1,
+}
+
 // A number that is no phase's.
 #[derive(Clone, Copy, Debug, PartialEq, Eq)]
 pub struct UnknownPhase(pub u64);
-
-// An open index takes blocks, a finished one is searched. A tally may say any other number, which no index has.
-#[derive(Clone, Copy, Debug, PartialEq, Eq)]
-pub enum Phase {
-    Open,
-    Finished,
-    Unknown(UnknownPhase),
-}
 
 impl Phase {
     // Its number in the header.
     pub fn number(self) -> u64
         ensures { result ≡ phase_number self }
     {
-        match self {
-            Phase::Open => 0,
-            Phase::Finished => 1,
-            Phase::Unknown(other) => other.0,
-        }
+        self as u64
     }
 }
 
@@ -45,11 +40,13 @@ impl TryFrom<u64> for Phase {
     }
 }
 
+// The phase is a number here, and may be one that no phase has: a tally is copied with its header for each block, and an enum that
+// says any number would lengthen both.
 #[derive(Clone, Copy, Debug, PartialEq, Eq)]
 pub struct Tally {
     pub nodes: usize,
     pub entries: usize,
-    pub phase: Phase,
+    pub phase: u64,
 }
 
 // The tally after a block that charges these nodes and entries.
@@ -71,7 +68,7 @@ fn finished(nodes: usize, entries: usize) -> Tally
     Tally {
         nodes,
         entries,
-        phase: Phase::Finished,
+        phase: Phase::Finished.number(),
     }
 }
 
