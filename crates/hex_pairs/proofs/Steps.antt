@@ -30,13 +30,6 @@ module _ (b : ℕ) where
       go true e = digit_low b (ltb-true b 48 e)
       go false e = digit_over b (h (ltb-false b 48 e))
 
-  pub over_digit : is_digit b ≡ false → 48 ≤ b → 57 < b
-  over_digit e h = go (ltb 57 b) refl
-    where
-      go : (o : Bool) → ltb 57 b ≡ o → 57 < b
-      go true f = ltb-true 57 b f
-      go false f = absurd (let t = digit_is b h (ltb-false 57 b f) in cc)
-
   pub nibble_letter : 97 ≤ b → b ≤ 102 → (v : ℕ) → v ≡ b - 87 → Some v ≡ nibble b
   unfolding nibble
   nibble_letter h k v e = rw (no_digit (λ z. omega arith), le-ltb b 97 h, le-ltb 102 b k, e)
