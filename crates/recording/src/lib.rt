@@ -34,7 +34,8 @@ fn put_piece(mem: &mut [u8], at: usize, piece: &[u8], l: SpacetimeLocation)
     location::put_location(mem, at + 24, l);
 }
 
-// Writes the piece of a block from byte start on.
+// Writes the piece of a block from byte start on. Its length is taken, not its end, so that the compiler knows of at most 16 bytes
+// when it copies them.
 fn put_part(mem: &mut [u8], at: usize, data: &[u8], start: usize, l: SpacetimeLocation)
     requires { (at + 48 ≤ length mem.old) × (start ≤ length «data».now) × (l.address.0 + start < 2 ^ 64) }
     ensures { mem.new ≡ sets mem.old at (piece_bytes (part (record { bytes = «data».now; at = plain l }) start)) }
