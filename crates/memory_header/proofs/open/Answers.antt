@@ -1,9 +1,6 @@
 -- `memory_header::open` meets its contract: whether the memory has room for the capacity decides. Assumes nothing.
-use Prim.Native.Nat.{ℕ}
 use mathlib.Core.Path.{ap, ◌∙◌}
-use Rattle.memory_header.specs.Layout.{with_header}
 use Rattle.memory_header.specs.Opening.{fresh_memory}
-use Rattle.memory_header.specs.Answers.{capacity_of}
 use Rattle.memory_header.proofs.Opening.{open_refused, open_taken}
 use Rattle.memory_header.proofs.open.Goals as goal
 
@@ -20,5 +17,4 @@ pub returns-clause-memory : goal.returns-clause-memory
 returns-clause-memory c =
     let m = c.args.mem.now in
     let e = c.in-Some.ensures.0 in
-    let opened = λ (n : ℕ). with_header m (record { capacity = capacity_of c.in-Some.capacity; phase = n; nodes = 1; entries = 0; payload = 0 }) in
-    c.put_header.ensures ∙ ap opened c.number.ensures ∙ ap (fresh_memory m) e ∙ (open_taken m _ c.in-Some.ensures.1).1
+    (rw c.number.ensures at c.put_header.ensures) ∙ ap (fresh_memory m) e ∙ (open_taken m _ c.in-Some.ensures.1).1
